@@ -1,0 +1,62 @@
+-- What a comparison of two sets of values comes to.
+use Prim.Native.Nat.{ℕ}
+use mathlib.Core.Bool.{Bool, true, false}
+use mathlib.Core.List.{List, [], _∷_}
+use lib.Dec.{leb, ltb}
+use Rattle.model.specs.Notation.{any, all}
+use Rattle.model.specs.Attributes.{sameType}
+use Rattle.model.specs.Atoms.{Atom, typeOf, sameAtom}
+use Rattle.model.specs.Truth.{Truth, truth, NOT}
+use Rattle.model.specs.Tokens.{Operator}
+
+abbrev pub among : List Atom → Atom → Bool
+among values a = any (sameAtom a) values
+
+-- "a common value exists"
+abbrev pub common : List Atom → List Atom → Bool
+common left right = any (among right) left
+
+-- "each left value is among the right"
+abbrev pub subset : List Atom → List Atom → Bool
+subset left right = all (among right) left
+
+-- "some left and some right value are so ordered"; "an order between non-integers" gives UNDEF
+abbrev pub ordered : (ℕ → ℕ → Bool) → Atom → Atom → Bool
+ordered before (Atom.int m) (Atom.int n) = before m n
+ordered before (Atom.int m) (Atom.str t) = false
+ordered before (Atom.int m) (Atom.bool b) = false
+ordered before (Atom.str s) b = false
+ordered before (Atom.bool a) b = false
+
+abbrev pub someOrdered : (ℕ → ℕ → Bool) → List Atom → List Atom → Truth
+someOrdered before left right = truth (any (λ a. any (ordered before a) right) left)
+
+abbrev pub order : (ℕ → ℕ → Bool) → Atom → List Atom → List Atom → Truth
+order before (Atom.int n) left right = someOrdered before left right
+order before (Atom.str s) left right = Truth.UNDEF
+order before (Atom.bool b) left right = Truth.UNDEF
+
+-- the operators, on present operands of one type, that of the atom a
+abbrev pub compareLike : Operator → Atom → List Atom → List Atom → Truth
+compareLike Operator.equal a left right = truth (common left right)
+compareLike Operator.IN a left right = truth (common left right)
+compareLike Operator.unequal a left right = NOT (truth (common left right))
+compareLike Operator.SUBSET a left right = truth (subset left right)
+compareLike Operator.less a left right = order (λ m n. ltb m n) a left right
+compareLike Operator.atMost a left right = order (λ m n. leb m n) a left right
+compareLike Operator.greater a left right = order (λ m n. ltb n m) a left right
+compareLike Operator.atLeast a left right = order (λ m n. leb n m) a left right
+
+-- "Absent operands, different types, and an order between non-integers give UNDEF"
+unfoldable pub compareSets : Operator → List Atom → List Atom → Truth
+compareSets o [] right = Truth.UNDEF
+compareSets o (a ∷ left) [] = Truth.UNDEF
+compareSets o (a ∷ left) (b ∷ right) =
+    elim (sameType (typeOf a) (typeOf b)) [ true ↦ compareLike o a (a ∷ left) (b ∷ right) | false ↦ Truth.UNDEF ]
+
+-- "A lone attribute: UNDEF if absent or not bool, else whether TRUE is among its values"
+unfoldable pub loneValue : List Atom → Truth
+loneValue [] = Truth.UNDEF
+loneValue (Atom.int n ∷ values) = Truth.UNDEF
+loneValue (Atom.str s ∷ values) = Truth.UNDEF
+loneValue (Atom.bool b ∷ values) = truth (among (Atom.bool b ∷ values) (Atom.bool true))

@@ -1,0 +1,56 @@
+-- What a request is answered.
+use Prim.Native.Nat.{ℕ}
+use mathlib.Core.Bool.{Bool, true, false}
+use mathlib.Core.List.{List, [], _∷_}
+use mathlib.Core.Option.{Option, none, some}
+use lib.Dec.{eqb}
+use Rattle.model.specs.Notation.{if_then_else_, _is_, any, map, filter, numbered, nth}
+use Rattle.model.specs.Bytes.{Bytes, same}
+use Rattle.model.specs.Truth.{Truth}
+use Rattle.model.specs.Declarations.{Rule}
+use Rattle.model.specs.State.{State}
+use Rattle.model.specs.Meaning.{meaningOf}
+use Rattle.model.specs.Block.{Block, readBlock}
+use Rattle.model.specs.Session.{readBy}
+use Rattle.model.specs.Refusals.{requestRefusal}
+
+-- "decision enum: Permit with rule number, Deny, Undefined, Refused with number"
+pub data Decision : Type 0 where
+  permit : ℕ → Decision
+  deny undefined : Decision
+  refused : ℕ → Decision
+
+-- "The rules of the operation are evaluated": their numbers and values
+unfoldable pub verdicts : State → Block → List (ℕ × Truth)
+verdicts S b =
+    map (λ (k, r). (k, meaningOf (readBy S b) (r .tokens)))
+    (filter (λ (k, r). nth (S .declared .operations) (b .operation) is same (r .operation)) (numbered (S .declared .rules)))
+
+abbrev pub isTrue : Truth → Bool
+isTrue Truth.TRUE = true
+isTrue Truth.UNDEF = false
+isTrue Truth.FALSE = false
+
+abbrev pub isUndef : Truth → Bool
+isUndef Truth.TRUE = false
+isUndef Truth.UNDEF = true
+isUndef Truth.FALSE = false
+
+-- "else undefined if some is UNDEF; else deny"
+abbrev pub withoutPermit : List (ℕ × Truth) → Decision
+withoutPermit vs = if any (λ (k, t). isUndef t) vs then undefined else deny
+
+-- "Permit, with the lowest TRUE rule number": verdicts stand in the order of their numbers
+unfoldable pub decided : List (ℕ × Truth) → Decision
+decided vs = elim (filter (λ (k, t). isTrue t) vs) [ [] ↦ withoutPermit vs | v ∷ rest ↦ permit (v .0) ]
+
+-- the decision on a block that is not refused
+abbrev pub judged : State → Option Block → Decision
+judged S none = refused 15
+judged S (some b) = decided (verdicts S b)
+
+-- a request
+unfoldable pub decide : State → Bytes → Decision
+decide S block =
+    let n = requestRefusal S block in
+    elim (eqb n 0) [ true ↦ judged S (readBlock block) | false ↦ refused n ]

@@ -1,0 +1,125 @@
+-- What the lines of a file declare, and the numbers by which it is known.
+use Prim.Native.Nat.{ℕ}
+use mathlib.Core.Bool.{Bool, true, false, _&&_}
+use mathlib.Core.List.{List, [], _∷_}
+use mathlib.Core.Option.{Option, none, some}
+use lib.ListN.{length}
+use Rattle.model.specs.Notation.{_>>=_, _is_, place, nth, count, below}
+use Rattle.model.specs.Bytes.{Bytes, bytes, same}
+use Rattle.model.specs.Attributes.{Source, AtomType, sameSource}
+use Rattle.model.specs.Atoms.{Atom, sameAtom}
+use Rattle.model.specs.Tokens.{Token}
+
+-- "`attr=SRC,NAME,TYPE`"
+pub record Attribute : Type 0 where
+  pub source : Source
+  pub name : Bytes
+  pub type : AtomType
+
+-- "`atom=SRC.NAME,ATOM`: a pair of a user, object or admin attribute and a value of its type"
+pub record Pair : Type 0 where
+  pub source : Source
+  pub name : Bytes
+  pub atom : Atom
+
+-- "`ugroup=`, `ogroup=`, `user=`, `object=` NAME: holders. Holder 0 is `admin`"
+pub data Sort : Type 0 where
+  admin ugroup ogroup user object : Sort
+
+pub record Holder : Type 0 where
+  pub sort : Sort
+  pub name : Bytes
+
+-- "`rule=OP,POLICY`", the policy "by its tokens"
+pub record Rule : Type 0 where
+  pub operation : Bytes
+  pub tokens : List Token
+
+-- "declarations D of the file (the rules, by their tokens, among them)"; what is numbered is numbered by its place, from 0
+pub record Declarations : Type 0 where
+  pub attributes : List Attribute
+  pub operations : List Bytes
+  pub pairs : List Pair
+  pub holders : List Holder
+  pub rules : List Rule
+
+-- "Holder 0 is `admin`, always there": so it is in the empty D too
+abbrev pub nothingDeclared : Declarations
+nothingDeclared = record {
+  attributes = [];
+  operations = [];
+  pairs = [];
+  holders = record { sort = Sort.admin; name = bytes "admin" } ∷ [];
+  rules = [];
+}
+
+-- "Unique by SRC and NAME"
+abbrev pub isNamed : Source → Bytes → Source → Bytes → Bool
+isNamed s n t m = sameSource s t && same n m
+
+unfoldable pub attributeNumber : Declarations → Source → Bytes → Option ℕ
+attributeNumber D s n = place (λ a. isNamed (a .source) (a .name) s n) (D .attributes)
+
+unfoldable pub attributeOf : Declarations → Source → Bytes → Option Attribute
+attributeOf D s n = attributeNumber D s n >>= nth (D .attributes)
+
+unfoldable pub operationNumber : Declarations → Bytes → Option ℕ
+operationNumber D n = place (same n) (D .operations)
+
+unfoldable pub pairNumber : Declarations → Source → Bytes → Atom → Option ℕ
+pairNumber D s n a = place (λ p. isNamed (p .source) (p .name) s n && sameAtom (p .atom) a) (D .pairs)
+
+-- "Names are unique among holders"
+unfoldable pub holderNumber : Declarations → Bytes → Option ℕ
+holderNumber D n = place (λ h. same (h .name) n) (D .holders)
+
+unfoldable pub sortOf : Declarations → ℕ → Option Sort
+sortOf D k = nth (D .holders) k >>= λ h. some (h .sort)
+
+-- the numbers of the holders
+unfoldable pub holderNumbersOf : Declarations → List ℕ
+holderNumbersOf D = below (length (D .holders))
+
+abbrev pub isGroup : Sort → Bool
+isGroup Sort.admin = false
+isGroup Sort.ugroup = true
+isGroup Sort.ogroup = true
+isGroup Sort.user = false
+isGroup Sort.object = false
+
+unfoldable pub groups : Declarations → ℕ
+groups D = count (λ h. isGroup (h .sort)) (D .holders)
+
+-- "The attribute is a user one for users and ugroups, an object one for objects and ogroups, an admin one for admin"
+abbrev pub sourceFor : Sort → Source
+sourceFor Sort.admin = Source.admin
+sourceFor Sort.ugroup = Source.user
+sourceFor Sort.ogroup = Source.object
+sourceFor Sort.user = Source.user
+sourceFor Sort.object = Source.object
+
+-- "two groups of one sort": the sort of a group's parents
+abbrev pub parentSort : Sort → Option Sort
+parentSort Sort.admin = none
+parentSort Sort.ugroup = some Sort.ugroup
+parentSort Sort.ogroup = some Sort.ogroup
+parentSort Sort.user = none
+parentSort Sort.object = none
+
+-- "a user in a ugroup or an object in an ogroup": the sort of the groups that one may be a member of
+abbrev pub groupSort : Sort → Option Sort
+groupSort Sort.admin = none
+groupSort Sort.ugroup = none
+groupSort Sort.ogroup = none
+groupSort Sort.user = some Sort.ugroup
+groupSort Sort.object = some Sort.ogroup
+
+abbrev pub sortWord : Sort → Bytes
+sortWord Sort.admin = bytes "admin"
+sortWord Sort.ugroup = bytes "ugroup"
+sortWord Sort.ogroup = bytes "ogroup"
+sortWord Sort.user = bytes "user"
+sortWord Sort.object = bytes "object"
+
+abbrev pub isSort : Sort → Sort → Bool
+isSort a b = same (sortWord a) (sortWord b)

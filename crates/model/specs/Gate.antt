@@ -1,0 +1,76 @@
+-- The office program: what it prints for an input.
+use Prim.Native.Nat.{ℕ, _+_, _*_, _-_}
+use mathlib.Core.Bool.{Bool, true, false, _||_, _&&_, not}
+use mathlib.Core.List.{List, [], _∷_, _++_}
+use mathlib.Core.Option.{Option, none, some}
+use lib.ListN.{length}
+use lib.Dec.{ltb}
+use Rattle.model.specs.Notation.{if_then_else_, _>>=_, _or-else_, isNone, onlyIf, each, map}
+use Rattle.model.specs.Limits.{inputBytes, tableWords}
+use Rattle.model.specs.Bytes.{Bytes, bytes, newline, same, behind, linesOf, content, inRange}
+use Rattle.model.specs.Atoms.{decimal}
+use Rattle.model.specs.State.{State, empty}
+use Rattle.model.specs.Refusals.{signedLine}
+use Rattle.model.specs.Decision.{Decision, permit, deny, undefined, refused}
+use Rattle.model.specs.Ledger.{Call, Answer, loaded, edited, decided, step}
+
+-- a line without its byte 10, if it has one
+abbrev pub bare : Bytes → Bytes
+bare line = elim (content line) [ some l ↦ l | none ↦ line ]
+
+-- "a line `end=`"
+unfoldable pub isEnd : Bytes → Bool
+isEnd line = same (bare line) (bytes "end=")
+
+-- "file lines, a line `end=`, then …"; "Without `end=` all is file"
+abbrev pub fileOf : List Bytes → Bytes
+fileOf [] = []
+fileOf (l ∷ ls) = elim (isEnd l) [ true ↦ [] | false ↦ l ++ fileOf ls ]
+
+abbrev pub commandsOf : List Bytes → List Bytes
+commandsOf [] = []
+commandsOf (l ∷ ls) = elim (isEnd l) [ true ↦ ls | false ↦ commandsOf ls ]
+
+-- "lower-case hex": the value of a digit
+abbrev pub hexDigit : ℕ → Option ℕ
+hexDigit b = onlyIf (inRange "0" "9" b) (b - 48) or-else onlyIf (inRange "a" "f" b) (b - 87)
+
+-- "the block in lower-case hex pairs"
+unfoldable pub hexPairs : Bytes → Option Bytes
+hexPairs [] = some []
+hexPairs (x ∷ []) = none
+hexPairs (x ∷ y ∷ rest) = hexDigit x >>= λ h. hexDigit y >>= λ l. hexPairs rest >>= λ block. some ((16 * h + l) ∷ block)
+
+-- "edit lines (those that begin with `+` or `-`) and `try=` with the block"; none for other lines
+unfoldable pub callOf : Bytes → Option Call
+callOf line =
+    (signedLine line >>= λ l. some (Call.edit line))
+    or-else (behind (bytes "try=") (bare line) >>= λ hex. hexPairs hex >>= λ block. some (Call.request block))
+
+-- "Printed: `load=` number, lines read (or refused line); `edit=` number, count (0 if refused); `try=permit,`rule, `try=deny`,
+-- `try=undefined` or `try=refused,`number"
+abbrev pub printedDecision : Decision → Bytes
+printedDecision (permit rule) = bytes "try=permit," ++ decimal rule
+printedDecision deny = bytes "try=deny"
+printedDecision undefined = bytes "try=undefined"
+printedDecision (refused n) = bytes "try=refused," ++ decimal n
+
+unfoldable pub printed : Answer → Bytes
+printed (loaded number line) = bytes "load=" ++ decimal number ++ bytes "," ++ decimal line ++ bytes "\n"
+printed (edited number count) = bytes "edit=" ++ decimal number ++ bytes "," ++ decimal count ++ bytes "\n"
+printed (decided d) = printedDecision d ++ bytes "\n"
+
+-- the answers to the commands, from a state on; "`bad=` for other lines, bad hex among them"
+unfoldable pub output : State → List (Option Call) → Bytes
+output S [] = []
+output S (none ∷ calls) = bytes "bad=\n" ++ output S calls
+output S (some c ∷ calls) = let s = step tableWords S c in printed (s .answer) ++ output (s .state) calls
+
+-- "After a refused load it goes on with the empty book. Over 65,536 bytes: `load=2,0` alone"
+unfoldable pub gate : Bytes → Bytes
+gate input =
+    let lines = linesOf input in
+    elim (ltb inputBytes (length input)) [
+      true ↦ printed (loaded 2 0)
+    | false ↦ output empty (some (Call.load (fileOf lines)) ∷ map callOf (commandsOf lines))
+    ]

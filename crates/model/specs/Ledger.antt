@@ -1,0 +1,64 @@
+-- The ledger: answers and tables of a list of calls, worked out from the calls alone.
+use Prim.Native.Nat.{ℕ}
+use mathlib.Core.Bool.{Bool, true, false}
+use mathlib.Core.List.{List, [], _∷_}
+use lib.ListN.{length}
+use Rattle.model.specs.Notation.{if_then_else_}
+use Rattle.model.specs.Bytes.{Bytes}
+use Rattle.model.specs.Table.{table}
+use Rattle.model.specs.State.{State, empty}
+use Rattle.model.specs.Refusals.{wrongTable}
+use Rattle.model.specs.Load
+use Rattle.model.specs.Edits
+use Rattle.model.specs.Decision.{Decision, refused, decide}
+
+-- "Fed: each call's input (a file, an edit line or a request's block)"
+pub data Call : Type 0 where
+  load edit request : Bytes → Call
+
+-- "the answer with all it carries (number, line, count, decision, rule)"
+pub data Answer : Type 0 where
+  loaded : ℕ → ℕ → Answer
+  edited : ℕ → ℕ → Answer
+  decided : Decision → Answer
+
+pub record Step : Type 0 where
+  pub answer : Answer
+  pub state : State
+
+-- "1: table not 1,024 words, any call. … a load gives the empty book, an edit keeps its own"
+abbrev pub withoutTable : State → Call → Step
+withoutTable S (load file) = record { answer = loaded 1 0; state = empty }
+withoutTable S (edit line) = record { answer = edited 1 0; state = S }
+withoutTable S (request block) = record { answer = decided (refused 1); state = S }
+
+-- "A load gives both anew, or the empty D and T when refused"; "a refused edit or a request changes nothing"
+abbrev pub withTable : State → Call → Step
+withTable S (load file) = let l = Load.load file in record { answer = loaded (l .number) (l .line); state = l .state }
+withTable S (edit line) = let e = Edits.edit S line in record { answer = edited (e .number) (e .changed); state = e .state }
+withTable S (request block) = record { answer = decided (decide S block); state = S }
+
+-- one call, on a table of so many words
+unfoldable pub step : ℕ → State → Call → Step
+step words S c = if wrongTable words then withoutTable S c else withTable S c
+
+-- the table after a call: "all 1,024 words with those that effective on T gives"; "On a table of another length … the table keeps its words"
+unfoldable pub tableAfter : List ℕ → State → List ℕ
+tableAfter words S = if wrongTable (length words) then words else table (S .declared) (S .ties)
+
+-- what is compared after a call
+pub record Compared : Type 0 where
+  pub answer : Answer
+  pub words : List ℕ
+
+-- the calls of a list, from a state and a table on
+abbrev pub ledgerFrom : State → List ℕ → List Call → List Compared
+ledgerFrom S words [] = []
+ledgerFrom S words (c ∷ calls) =
+    let s = step (length words) S c in
+    let after = tableAfter words (s .state) in
+    record { answer = s .answer; words = after } ∷ ledgerFrom (s .state) after calls
+
+-- "The list starts without a book, on a table of any length and content": a list begins with a load, which reads no state
+unfoldable pub ledger : List ℕ → List Call → List Compared
+ledger words calls = ledgerFrom empty words calls

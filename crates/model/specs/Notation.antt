@@ -1,0 +1,95 @@
+-- Notation: choice, partial results and lists. Nothing here comes from document 01; the definitions that do are written with these words.
+use Prim.Native.Nat.{ℕ, zero, suc, _+_}
+use mathlib.Core.Bool.{Bool, true, false}
+use mathlib.Core.List.{List, [], _∷_, _++_}
+use mathlib.Core.Option.{Option, none, some}
+
+infix 0 if_then_else_
+abbrev pub if_then_else_ : {A : Type 0} → Bool → A → A → A
+if true then a else b = a
+if false then a else b = b
+
+-- a step that needs the result of the one before; none where that has none
+infixl 1 _>>=_
+abbrev pub _>>=_ : {A B : Type 0} → Option A → (A → Option B) → Option B
+none >>= f = none
+some a >>= f = f a
+
+-- the first result, or the second where the first has none
+infixr 2 _or-else_
+abbrev pub _or-else_ : {A : Type 0} → Option A → Option A → Option A
+none or-else b = b
+some a or-else b = some a
+
+-- whether there is a result, and it passes
+infix 3 _is_
+abbrev pub _is_ : {A : Type 0} → Option A → (A → Bool) → Bool
+none is p = false
+some a is p = p a
+
+abbrev pub isNone : {A : Type 0} → Option A → Bool
+isNone none = true
+isNone (some a) = false
+
+-- the value, if a test holds
+abbrev pub onlyIf : {A : Type 0} → Bool → A → Option A
+onlyIf true a = some a
+onlyIf false a = none
+
+module _ {A : Type 0} where
+  abbrev pub isEmpty : List A → Bool
+  isEmpty [] = true
+  isEmpty (x ∷ xs) = false
+
+  -- some element passes
+  abbrev pub any : (A → Bool) → List A → Bool
+  any p [] = false
+  any p (x ∷ xs) = elim (p x) [ true ↦ true | false ↦ any p xs ]
+
+  -- each element passes
+  abbrev pub all : (A → Bool) → List A → Bool
+  all p [] = true
+  all p (x ∷ xs) = elim (p x) [ true ↦ all p xs | false ↦ false ]
+
+  -- the elements that pass, in their order
+  abbrev pub filter : (A → Bool) → List A → List A
+  filter p [] = []
+  filter p (x ∷ xs) = elim (p x) [ true ↦ x ∷ filter p xs | false ↦ filter p xs ]
+
+  -- how many elements pass
+  abbrev pub count : (A → Bool) → List A → ℕ
+  count p [] = 0
+  count p (x ∷ xs) = elim (p x) [ true ↦ suc (count p xs) | false ↦ count p xs ]
+
+  -- the number of the first element that passes; numbers start at 0
+  abbrev pub place : (A → Bool) → List A → Option ℕ
+  place p [] = none
+  place p (x ∷ xs) = elim (p x) [ true ↦ some 0 | false ↦ place p xs >>= λ n. some (suc n) ]
+
+  -- the element of a number
+  abbrev pub nth : List A → ℕ → Option A
+  nth [] n = none
+  nth (x ∷ xs) zero = some x
+  nth (x ∷ xs) (suc n) = nth xs n
+
+  -- the elements with their numbers, the first of which is k
+  abbrev pub numberedFrom : ℕ → List A → List (ℕ × A)
+  numberedFrom k [] = []
+  numberedFrom k (x ∷ xs) = (k, x) ∷ numberedFrom (suc k) xs
+
+  abbrev pub numbered : List A → List (ℕ × A)
+  numbered xs = numberedFrom 0 xs
+
+-- the list of what f gives for each element, and the lists that it gives one after another
+abbrev pub map : {A B : Type 0} → (A → B) → List A → List B
+map f [] = []
+map f (x ∷ xs) = f x ∷ map f xs
+
+abbrev pub each : {A B : Type 0} → (A → List B) → List A → List B
+each f [] = []
+each f (x ∷ xs) = f x ++ each f xs
+
+-- the numbers below n, from 0 up
+abbrev pub below : ℕ → List ℕ
+below zero = []
+below (suc n) = below n ++ n ∷ []

@@ -1,0 +1,127 @@
+-- The tokens of a policy.
+use Prim.Native.Nat.{ℕ, zero, suc}
+use mathlib.Core.Bool.{Bool, true, false, _||_}
+use mathlib.Core.List.{List, [], _∷_, _++_}
+use mathlib.Core.Option.{Option, none, some}
+use lib.ListN.{length}
+use Rattle.model.specs.Notation.{_>>=_, _or-else_, onlyIf, isEmpty}
+use Rattle.model.specs.Bytes.{Bytes, bytes, isByte, inRange, cutAt, behind, oneOf}
+use Rattle.model.specs.Names.{readName}
+use Rattle.model.specs.Attributes.{Source, sourceWord, readSource}
+use Rattle.model.specs.Atoms.{decimal, readInt, quoted, isText}
+use Rattle.model.specs.Truth.{Truth, truthWord}
+
+-- "operators `= != < <= > >= IN SUBSET`"
+pub data Operator : Type 0 where
+  equal unequal less atMost greater atLeast IN SUBSET : Operator
+
+-- the joining words, "parentheses", and the "braces and commas" of a set
+pub data Mark : Type 0 where
+  AND OR NOT lparen rparen lbrace rbrace comma : Mark
+
+-- "Tokens: names `SRC.NAME`, atoms, set `{a, b}` …, words in capitals, operators …, parentheses"
+pub data Token : Type 0 where
+  name : Source → Bytes → Token
+  int : ℕ → Token
+  str : Bytes → Token
+  truth : Truth → Token
+  operator : Operator → Token
+  mark : Mark → Token
+
+abbrev pub operatorWord : Operator → Bytes
+operatorWord equal = bytes "="
+operatorWord unequal = bytes "!="
+operatorWord less = bytes "<"
+operatorWord atMost = bytes "<="
+operatorWord greater = bytes ">"
+operatorWord atLeast = bytes ">="
+operatorWord IN = bytes "IN"
+operatorWord SUBSET = bytes "SUBSET"
+
+abbrev pub markWord : Mark → Bytes
+markWord AND = bytes "AND"
+markWord OR = bytes "OR"
+markWord NOT = bytes "NOT"
+markWord lparen = bytes "("
+markWord rparen = bytes ")"
+markWord lbrace = bytes "{"
+markWord rbrace = bytes "}"
+markWord comma = bytes ","
+
+-- how a token is written
+abbrev pub spelling : Token → Bytes
+spelling (name s n) = sourceWord s ++ bytes "." ++ n
+spelling (int n) = decimal n
+spelling (str s) = quoted s
+spelling (truth t) = truthWord t
+spelling (operator o) = operatorWord o
+spelling (mark m) = markWord m
+
+-- the "words in capitals"
+abbrev pub capitals : List Token
+capitals =
+    mark AND ∷ mark OR ∷ mark NOT ∷ truth Truth.TRUE ∷ truth Truth.FALSE ∷ truth Truth.UNDEF ∷ operator IN ∷ operator SUBSET ∷ []
+
+-- the tokens of one or two bytes that are no words; "operators are read longest first"
+abbrev pub signs : List Token
+signs =
+    operator unequal ∷ operator atMost ∷ operator atLeast ∷ operator equal ∷ operator less ∷ operator greater
+    ∷ mark lparen ∷ mark rparen ∷ mark lbrace ∷ mark rbrace ∷ mark comma ∷ []
+
+-- a token and the bytes behind it
+abbrev pub Read : Type 0
+Read = Option (Token × Bytes)
+
+-- "letters, digits, `_` and `.`"
+abbrev pub wordByte : ℕ → Bool
+wordByte b = inRange "a" "z" b || inRange "A" "Z" b || inRange "0" "9" b || isByte "_" b || isByte "." b
+
+-- "A run of letters, digits, `_` and `.` is one word": the run at the front, and what stands behind it
+abbrev pub run : Bytes → Bytes × Bytes
+run [] = ([], [])
+run (x ∷ xs) = elim (wordByte x) [ true ↦ (let (w, r) = run xs in (x ∷ w, r)) | false ↦ ([], x ∷ xs) ]
+
+-- "names `SRC.NAME`"
+unfoldable pub readAttributeName : Bytes → Option Token
+readAttributeName w = do
+  (s, n) ← cutAt "." w
+  source ← readSource s
+  name′ ← readName n
+  some (name source name′)
+
+-- a word: one in capitals, an int or a name
+unfoldable pub readWord : Bytes → Option Token
+readWord w = oneOf spelling capitals w or-else (readInt w >>= λ n. some (int n)) or-else readAttributeName w
+
+-- a str, behind its first quote
+unfoldable pub readText : Bytes → Read
+readText r = do
+  (s, rest) ← cutAt "\"" r
+  onlyIf (isText s) (str s, rest)
+
+-- the first of the tokens that stands at the front
+abbrev pub readSign : List Token → Bytes → Read
+readSign [] s = none
+readSign (t ∷ ts) s = (behind (spelling t) s >>= λ rest. some (t, rest)) or-else readSign ts s
+
+-- the token at the front
+unfoldable pub readToken : Bytes → Read
+readToken s =
+    let (w, rest) = run s in
+    elim (isEmpty w) [
+      true ↦ (behind (bytes "\"") s >>= readText) or-else readSign signs s
+    | false ↦ readWord w >>= λ t. some (t, rest)
+    ]
+
+-- "Byte 32 may stand, any number of times, before, between and after tokens". Each token has a byte, so there are at most n in n bytes
+abbrev pub tokensWithin : ℕ → Bytes → Option (List Token)
+tokensWithin zero s = onlyIf (isEmpty s) []
+tokensWithin (suc n) [] = some []
+tokensWithin (suc n) (x ∷ xs) =
+    elim (isByte " " x) [
+      true ↦ tokensWithin n xs
+    | false ↦ readToken (x ∷ xs) >>= λ (t, rest). tokensWithin n rest >>= λ ts. some (t ∷ ts)
+    ]
+
+unfoldable pub tokensOf : Bytes → Option (List Token)
+tokensOf s = tokensWithin (length s) s
