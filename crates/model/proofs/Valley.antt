@@ -1,31 +1,14 @@
--- The valley cases, by computation.
-use Prim.Native.Nat.{ℕ}
+-- The valley cases A to L hold, and the valley session prints what the document says, by computation. Assumes nothing.
 use mathlib.Core.Path.{_≡_, refl}
-use mathlib.Core.List.{List, [], _∷_, _++_}
-use lib.ListN.{length, take}
-use Rattle.model.specs.Bytes.{bytes}
-use Rattle.model.specs.Load.{load}
 use Rattle.model.specs.Gate.{gate}
-use Rattle.model.specs.Table.{table}
-use Rattle.model.specs.State.{State}
-use Rattle.model.specs.Valley.{valleyFile, valleySession, valleyPrinted}
+use Rattle.model.specs.Valley.{valleySession, valleyPrinted, cases, Holds, none, _also_}
 use Rattle.model.proofs.Computing.{computing}
 
-t1 : load valleyFile .number ≡ 0
+pub session : gate valleySession ≡ valleyPrinted
 unfolding computing
-t1 = refl
+session = refl
 
-t2 : gate valleySession ≡ valleyPrinted
+pub valley-cases : Holds cases
 unfolding computing
-t2 = refl
-
-S : State
-S = load valleyFile .state
-
-t3 : length (table (S .declared) (S .ties)) ≡ 1024
-unfolding computing S
-t3 = refl
-
-t4 : take 24 (table (S .declared) (S .ties)) ≡ 0 ∷ 0 ∷ 0 ∷ 0 ∷ 5 ∷ 0 ∷ 0 ∷ 0 ∷ 15 ∷ 0 ∷ 0 ∷ 0 ∷ 16 ∷ 0 ∷ 0 ∷ 0 ∷ 15 ∷ 0 ∷ 0 ∷ 0 ∷ 16 ∷ 0 ∷ 0 ∷ 0 ∷ []
-unfolding computing S
-t4 = refl
+valley-cases =
+    refl also refl also refl also refl also refl also refl also refl also refl also refl also refl also refl also refl also refl also none
