@@ -43,3 +43,19 @@ inputs =
 pub inputs-agree : Agree gate (asBytes inputs)
 unfolding computing
 inputs-agree = refl
+
+-- G06: a file of so many bytes, all of one line
+abbrev pub fileSizes : List (ℕ × Bytes)
+fileSizes = 32768 yields bytes "load=3,1\n" ∷ 32769 yields bytes "load=2,0\n" ∷ []
+
+pub file-sizes-agree : Agree (λ n. gate (replicate n 97)) fileSizes
+unfolding computing
+file-sizes-agree = refl
+
+-- G06: an input of 18 bytes and so many digits
+abbrev pub inputSizes : List (ℕ × Bytes)
+inputSizes = 65518 yields bytes "load=0,1\ntry=refused,15\n" ∷ 65519 yields bytes "load=2,0\n" ∷ []
+
+pub input-sizes-agree : Agree (λ n. gate (bytes "rights=1\nend=\ntry=" ++ replicate n 48)) inputSizes
+unfolding computing
+input-sizes-agree = refl

@@ -1,0 +1,197 @@
+-- Laws of the words on lists: what `any`, `filter`, `count`, `place`, `nth` and `below` say of the elements. Assumes nothing.
+use Prim.Native.Nat.{ℕ, zero, suc, _+_, _≤_, _<_}
+use mathlib.Core.Path.{_≡_, refl, sym, ap, ap₂, subst, _∙_}
+use mathlib.Core.Logic.{_⊎_, inl, inr, ⊎-elim}
+use mathlib.Core.Bool.{Bool, true, false, _&&_, _||_, true≢false}
+use mathlib.Core.List.{List, [], _∷_, _++_, List·Memᴰ, List·Memᴰ·head as here, List·Memᴰ·tail as there, List·Memᴰ·append-cases, List·Memᴰ·eq-of-singleton, Memᴰ·append-left, Memᴰ·append-right}
+use mathlib.Core.Option.{Option, none, some, Option·some-injective}
+use native.Mathlib.Omega.{arith}
+use native.Mathlib.Nat.{eq-or-lt-of-le}
+use lib.ListN.{length, length-append}
+use lib.Dec.{eqb}
+use borrow.Author.Tests.{eq-eqb, eqb-true}
+use Rattle.model.specs.Notation.{_>>=_, any, filter, count, place, nth, below}
+
+-- membership
+infix 40 _∈_
+abbrev pub _∈_ : {A : Type 0} → A → List A → Type 0
+x ∈ xs = List·Memᴰ x xs
+
+pub true-or-false : (b : Bool) → (b ≡ true) ⊎ (b ≡ false)
+true-or-false true = inl refl
+true-or-false false = inr refl
+
+-- two tests that imply each other are equal
+pub same-truth : (a b : Bool) → (a ≡ true → b ≡ true) → (b ≡ true → a ≡ true) → a ≡ b
+same-truth true b f g = sym (f refl)
+same-truth false true f g = g refl
+same-truth false false f g = refl
+
+pub or-cases : (a b : Bool) → (a || b) ≡ true → (a ≡ true) ⊎ (b ≡ true)
+or-cases true b e = inl refl
+or-cases false b e = inr e
+
+pub or-right : (a b : Bool) → b ≡ true → (a || b) ≡ true
+or-right true b e = refl
+or-right false b e = e
+
+pub or-left : (a b : Bool) → a ≡ true → (a || b) ≡ true
+or-left a b e = ap (λ (c : Bool). c || b) e
+
+pub or-none : (a b : Bool) → (a || b) ≡ false → (a ≡ false) × (b ≡ false)
+or-none true b e = absurd (true≢false e)
+or-none false b e = (refl, e)
+
+pub and-left : (a b : Bool) → (a && b) ≡ true → a ≡ true
+and-left true b e = refl
+and-left false b e = e
+
+pub and-right : (a b : Bool) → (a && b) ≡ true → b ≡ true
+and-right true b e = e
+and-right false b e = absurd (true≢false (sym e))
+
+module _ {A : Type 0} where
+  -- some element passes exactly when there is one
+  pub any-in : (p : A → Bool) (xs : List A) → any p xs ≡ true → (x : A) × (x ∈ xs) × (p x ≡ true)
+  any-in p [] e = absurd (true≢false (sym e))
+  any-in p (x ∷ xs) e = go (p x) refl (any-in p xs) e
+    where
+      go : (t : Bool) → p x ≡ t → (any p xs ≡ true → (y : A) × (y ∈ xs) × (p y ≡ true))
+          → (elim t as (λ _. Bool) [ true ↦ true | false ↦ any p xs ]) ≡ true → (y : A) × (y ∈ (x ∷ xs)) × (p y ≡ true)
+      go true q f e = (x, here refl, q)
+      go false q f e = let r = f e in (r .0, there (r .1), r .2)
+
+  pub in-any : (p : A → Bool) {xs : List A} {x : A} → x ∈ xs → p x ≡ true → any p xs ≡ true
+  in-any p (here {x = y} {xs = xs} e) q =
+      ap (λ (t : Bool). elim t as (λ _. Bool) [ true ↦ true | false ↦ any p xs ]) (ap p (sym e) ∙ q)
+  in-any p (there {x = y} {xs = xs} m) q = go (p y) (in-any p m q)
+    where
+      go : (t : Bool) → any p xs ≡ true → (elim t as (λ _. Bool) [ true ↦ true | false ↦ any p xs ]) ≡ true
+      go true r = refl
+      go false r = r
+
+  pub any-ext : (p q : A → Bool) (xs : List A) → ((x : A) → x ∈ xs → p x ≡ q x) → any p xs ≡ any q xs
+  any-ext p q [] f = refl
+  any-ext p q (x ∷ xs) f =
+      ap₂ (λ (a b : Bool). elim a as (λ _. Bool) [ true ↦ true | false ↦ b ]) (f x (here refl)) (any-ext p q xs (λ y m. f y (there m)))
+
+  pub filter-ext : (p q : A → Bool) (xs : List A) → ((x : A) → x ∈ xs → p x ≡ q x) → filter p xs ≡ filter q xs
+  filter-ext p q [] f = refl
+  filter-ext p q (x ∷ xs) f =
+      ap₂ (λ (a : Bool) (l : List A). elim a as (λ _. List A) [ true ↦ x ∷ l | false ↦ l ]) (f x (here refl)) (filter-ext p q xs (λ y m. f y (there m)))
+
+  pub in-filter : (p : A → Bool) (xs : List A) {y : A} → y ∈ filter p xs → (y ∈ xs) × (p y ≡ true)
+  in-filter p [] m = elim m [ ]
+  in-filter p (x ∷ xs) {y} m = go (p x) refl (λ n. in-filter p xs n) m
+    where
+      below-head : (t : Bool) → p x ≡ t → t ≡ true → (y ≡ x) ⊎ (y ∈ filter p xs) → (y ∈ filter p xs → (y ∈ xs) × (p y ≡ true)) → (y ∈ (x ∷ xs)) × (p y ≡ true)
+      below-head t e on (inl q) f = (here q, ap p q ∙ e ∙ on)
+      below-head t e on (inr n) f = let r = f n in (there (r .0), r .1)
+
+      split : y ∈ (x ∷ filter p xs) → (y ≡ x) ⊎ (y ∈ filter p xs)
+      split (here q) = inl q
+      split (there n) = inr n
+
+      go : (t : Bool) → p x ≡ t → (y ∈ filter p xs → (y ∈ xs) × (p y ≡ true))
+          → y ∈ (elim t as (λ _. List A) [ true ↦ x ∷ filter p xs | false ↦ filter p xs ]) → (y ∈ (x ∷ xs)) × (p y ≡ true)
+      go true e f n = below-head true e refl (split n) f
+      go false e f n = let r = f n in (there (r .0), r .1)
+
+  pub filter-in : (p : A → Bool) {xs : List A} {y : A} → y ∈ xs → p y ≡ true → y ∈ filter p xs
+  filter-in p {y = y} (here {x = x} {xs = xs} e) q =
+      subst (λ (t : Bool). y ∈ (elim t as (λ _. List A) [ true ↦ x ∷ filter p xs | false ↦ filter p xs ])) (sym q ∙ ap p e) (here e)
+  filter-in p {y = y} (there {x = x} {xs = xs} m) q = go (p x) (filter-in p m q)
+    where
+      go : (t : Bool) → y ∈ filter p xs → y ∈ (elim t as (λ _. List A) [ true ↦ x ∷ filter p xs | false ↦ filter p xs ])
+      go true n = there n
+      go false n = n
+
+  -- counts
+  pub count-le : (p : A → Bool) (xs : List A) → count p xs ≤ length xs
+  count-le p [] = omega arith
+  count-le p (x ∷ xs) = go (p x) (count-le p xs)
+    where
+      go : (t : Bool) → count p xs ≤ length xs → (elim t as (λ _. ℕ) [ true ↦ suc (count p xs) | false ↦ count p xs ]) ≤ suc (length xs)
+      go true h = omega arith
+      go false h = omega arith
+
+  pub count-grows : (p q : A → Bool) (xs : List A) → ((x : A) → p x ≡ true → q x ≡ true) → count p xs ≤ count q xs
+  count-grows p q [] f = omega arith
+  count-grows p q (x ∷ xs) f = go (p x) refl (q x) refl (count-grows p q xs f)
+    where
+      go : (s : Bool) → p x ≡ s → (t : Bool) → q x ≡ t → count p xs ≤ count q xs
+          → (elim s as (λ _. ℕ) [ true ↦ suc (count p xs) | false ↦ count p xs ]) ≤ (elim t as (λ _. ℕ) [ true ↦ suc (count q xs) | false ↦ count q xs ])
+      go true a true b h = omega arith
+      go true a false b h = absurd (true≢false (sym (f x a) ∙ b))
+      go false a true b h = omega arith
+      go false a false b h = h
+
+  -- one more passes: one that did not before
+  pub count-more : (p q : A → Bool) {xs : List A} {y : A} → ((x : A) → p x ≡ true → q x ≡ true) → y ∈ xs → p y ≡ false → q y ≡ true → count p xs < count q xs
+  count-more p q {y = y} f (here {x = x} {xs = xs} e) off on = go (p x) (q x) (ap p (sym e) ∙ off) (ap q (sym e) ∙ on) (count-grows p q xs f)
+    where
+      go : (s t : Bool) → s ≡ false → t ≡ true → count p xs ≤ count q xs
+          → (elim s as (λ _. ℕ) [ true ↦ suc (count p xs) | false ↦ count p xs ]) < (elim t as (λ _. ℕ) [ true ↦ suc (count q xs) | false ↦ count q xs ])
+      go true t a b h = absurd (true≢false a)
+      go false true a b h = omega arith
+      go false false a b h = absurd (true≢false (sym b))
+  count-more p q {y = y} f (there {x = x} {xs = xs} m) off on = go (p x) refl (q x) refl (count-more p q f m off on)
+    where
+      go : (s : Bool) → p x ≡ s → (t : Bool) → q x ≡ t → count p xs < count q xs
+          → (elim s as (λ _. ℕ) [ true ↦ suc (count p xs) | false ↦ count p xs ]) < (elim t as (λ _. ℕ) [ true ↦ suc (count q xs) | false ↦ count q xs ])
+      go true a true b h = omega arith
+      go true a false b h = absurd (true≢false (sym (f x a) ∙ b))
+      go false a true b h = omega arith
+      go false a false b h = h
+
+  -- the element of a number
+  pub nth-lt : (xs : List A) (k : ℕ) {x : A} → nth xs k ≡ some x → k < length xs
+  nth-lt [] k {x} e = let z : _≡_ {A = ℕ} 0 1 = cc in absurd (omega (arith, z))
+  nth-lt (y ∷ xs) zero e = omega arith
+  nth-lt (y ∷ xs) (suc k) e = let h = nth-lt xs k e in omega arith
+
+  pub lt-nth : (xs : List A) (k : ℕ) → k < length xs → (x : A) × (nth xs k ≡ some x)
+  lt-nth [] k h = absurd (omega arith)
+  lt-nth (y ∷ xs) zero h = (y, refl)
+  lt-nth (y ∷ xs) (suc k) h = lt-nth xs k (omega arith)
+
+  pub nth-append : (xs ys : List A) (k : ℕ) {x : A} → nth xs k ≡ some x → nth (xs ++ ys) k ≡ some x
+  nth-append [] ys k {x} e = let z : _≡_ {A = ℕ} 0 1 = cc in absurd (omega (arith, z))
+  nth-append (y ∷ xs) ys zero e = e
+  nth-append (y ∷ xs) ys (suc k) e = nth-append xs ys k e
+
+  -- the number of the first that passes
+  pub place-nth : (p : A → Bool) (xs : List A) (k : ℕ) → place p xs ≡ some k → (x : A) × (nth xs k ≡ some x) × (p x ≡ true)
+  place-nth p [] k e = let z : _≡_ {A = ℕ} 0 1 = cc in absurd (omega (arith, z))
+  place-nth p (x ∷ xs) k e = go (p x) refl (place p xs) (place-nth p xs) e
+    where
+      at-zero : (j : ℕ) → some 0 ≡ some j → p x ≡ true → (y : A) × (nth (x ∷ xs) j ≡ some y) × (p y ≡ true)
+      at-zero zero f q = (x, refl, q)
+      at-zero (suc j) f q = let z : _≡_ {A = ℕ} 0 (suc j) = cc in absurd (omega (arith, z))
+
+      at-suc : (i j : ℕ) → some (suc i) ≡ some j → (y : A) × (nth xs i ≡ some y) × (p y ≡ true) → (y : A) × (nth (x ∷ xs) j ≡ some y) × (p y ≡ true)
+      at-suc i zero f r = let z : _≡_ {A = ℕ} (suc i) 0 = cc in absurd (omega (arith, z))
+      at-suc i (suc j) f r = let z : i ≡ j = cc in (r .0, ap (nth xs) (sym z) ∙ r .1, r .2)
+
+      go : (t : Bool) → p x ≡ t → (o : Option ℕ) → ((j : ℕ) → o ≡ some j → (y : A) × (nth xs j ≡ some y) × (p y ≡ true))
+          → (elim t as (λ _. Option ℕ) [ true ↦ some 0 | false ↦ o >>= λ n. some (suc n) ]) ≡ some k → (y : A) × (nth (x ∷ xs) k ≡ some y) × (p y ≡ true)
+      go true q o f g = at-zero k g q
+      go false q none f g = let z : _≡_ {A = ℕ} 0 1 = cc in absurd (omega (arith, z))
+      go false q (some i) f g = at-suc i k g (f i refl)
+
+-- the numbers below n
+pub in-below : (n : ℕ) {k : ℕ} → k ∈ below n → k < n
+in-below zero m = elim m [ ]
+in-below (suc n) {k} m = ⊎-elim (λ a. omega (arith, in-below n a)) (λ a. omega (arith, List·Memᴰ·eq-of-singleton a)) (List·Memᴰ·append-cases (below n) m)
+
+pub below-in : (n k : ℕ) → k < n → k ∈ below n
+below-in zero k h = absurd (omega arith)
+below-in (suc n) k h =
+    ⊎-elim (λ e. Memᴰ·append-right (below n) (here e)) (λ l. Memᴰ·append-left (n ∷ []) (below-in n k l)) (eq-or-lt-of-le (last k n h))
+  where
+    last : (k n : ℕ) → k < suc n → k ≤ n
+    last k n h = omega arith
+
+pub length-below : (n : ℕ) → length (below n) ≡ n
+length-below zero = refl
+length-below (suc n) = length-append (below n) (n ∷ []) ∙ rw (length-below n) (omega arith)
