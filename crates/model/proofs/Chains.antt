@@ -85,9 +85,10 @@ above-complete (suc n) hs T a g h d (more {m = m} e c) =
 -- on acyclic ties, `isAbove` says what a chain of ties says
 pub is-above : (hs : List ℕ) (T : Ties) → Among hs T → Acyclic T → (g h : ℕ) → (isAbove hs T g h ≡ true) ↔ Above T g h
 unfolding isAbove
-is-above hs T a acyclic g h =
-    (above-sound (length hs) hs T g h,
-    λ c. above-complete (length hs) hs T a g h (acyclic-depth hs T a acyclic h (a .lower h (first-tie c .0) (first-tie c .1))) c)
+is-above hs T a acyclic g h = (
+  above-sound (length hs) hs T g h,
+  λ c. above-complete (length hs) hs T a g h (acyclic-depth hs T a acyclic h (a .lower h (first-tie c .0) (first-tie c .1))) c,
+)
 
 -- g is h or above it
 abbrev pub AtOrAbove : Ties → ℕ → ℕ → Type 0

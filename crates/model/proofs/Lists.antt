@@ -10,7 +10,8 @@ use native.Mathlib.Nat.{eq-or-lt-of-le}
 use lib.ListN.{length, length-append}
 use lib.Dec.{eqb}
 use borrow.Author.Tests.{eq-eqb, eqb-true}
-use Rattle.model.specs.Notation.{_>>=_, any, filter, count, place, nth, below}
+use Rattle.model.specs.Notation.{_>>=_, isEmpty, any, all, filter, count, place, nth, below}
+use Rattle.model.proofs.Words.{false-is-true}
 
 -- membership
 infix 40 _∈_
@@ -41,14 +42,6 @@ or-left a b e = ap (λ (c : Bool). c || b) e
 pub or-none : (a b : Bool) → (a || b) ≡ false → (a ≡ false) × (b ≡ false)
 or-none true b e = absurd (true≢false e)
 or-none false b e = (refl, e)
-
-pub and-left : (a b : Bool) → (a && b) ≡ true → a ≡ true
-and-left true b e = refl
-and-left false b e = e
-
-pub and-right : (a b : Bool) → (a && b) ≡ true → b ≡ true
-and-right true b e = e
-and-right false b e = absurd (true≢false (sym e))
 
 module _ {A : Type 0} where
   -- some element passes exactly when there is one
@@ -195,3 +188,28 @@ below-in (suc n) k h =
 pub length-below : (n : ℕ) → length (below n) ≡ n
 length-below zero = refl
 length-below (suc n) = length-append (below n) (n ∷ []) ∙ rw (length-below n) (omega arith)
+
+-- each element passes
+module _ {A : Type 0} (p : A → Bool) where
+  pub all-parts : (x : A) (s : List A) → all p (x ∷ s) ≡ true → (p x ≡ true) × (all p s ≡ true)
+  all-parts x s e = go (p x) refl
+    where
+      go : (t : Bool) → p x ≡ t → (p x ≡ true) × (all p s ≡ true)
+      go true q = (q, rw (all, q) at e)
+      go false q = false-is-true (rw (all, q) at e)
+
+  pub all-cons : (x : A) (s : List A) → p x ≡ true → all p s ≡ true → all p (x ∷ s) ≡ true
+  all-cons x s e f = rw (all, e) f
+
+  pub all-append : (s t : List A) → all p s ≡ true → all p t ≡ true → all p (s ++ t) ≡ true
+  all-append [] t e f = f
+  all-append (x ∷ s) t e f = let (h, r) = all-parts x s e in all-cons x (s ++ t) h (all-append s t r f)
+
+-- a test that follows from another
+pub all-by : {A : Type 0} (p q : A → Bool) → ((x : A) → p x ≡ true → q x ≡ true) → (s : List A) → all p s ≡ true → all q s ≡ true
+all-by p q f [] e = refl
+all-by p q f (x ∷ s) e = let (h, r) = all-parts p x s e in all-cons q x s (f x h) (all-by p q f s r)
+
+pub empty : {A : Type 0} (s : List A) → isEmpty s ≡ true → s ≡ []
+empty [] e = refl
+empty (x ∷ s) e = false-is-true e

@@ -5,23 +5,26 @@ use mathlib.Core.List.{List}
 use mathlib.Core.Option.{Option, none, some}
 use lib.ListN.{length}
 use lib.Dec.{eqb}
-use Rattle.model.specs.Notation.{_>>=_, any, count, below}
+use Rattle.model.specs.Notation.{if_then_else_, _>>=_, isNone, any, count, below}
 use Rattle.model.specs.Bytes.{Bytes}
 use Rattle.model.specs.Declarations.{Declarations, holderNumbersOf}
 use Rattle.model.specs.Ties.{Tie, Ties, added, removed}
 use Rattle.model.specs.Table.{effectiveSet}
 use Rattle.model.specs.State.{State, tieOf}
-use Rattle.model.specs.Refusals.{lineOf, plusLine, minusLine, editRefusal}
+use Rattle.model.specs.Refusals.{lineOf, plusLine, signedLine, editRefusal}
 
--- the tie of an edit's line
-unfoldable pub tieIn : State → Option Bytes → Option Tie
-tieIn S line = line >>= lineOf >>= tieOf (S .declared)
+-- the tie that an edit adds or removes
+unfoldable pub editedTie : State → Bytes → Option Tie
+editedTie S line = signedLine line >>= lineOf >>= tieOf (S .declared)
+
+-- whether it adds: the sign is `+`
+abbrev pub adds : Bytes → Bool
+adds line = not (isNone (plusLine line))
 
 -- "`+t` accepted adds t to T, `-t` removes it"
-abbrev pub editedTies : Ties → Option Tie → Option Tie → Ties
-editedTies T (some t) minus = added t T
-editedTies T none (some t) = removed t T
-editedTies T none none = T
+abbrev pub editedTies : Bool → Option Tie → Ties → Ties
+editedTies plus none T = T
+editedTies plus (some t) T = if plus then added t T else removed t T
 
 -- the sets of holder k on T and on U differ
 unfoldable pub differs : Declarations → Ties → Ties → ℕ → Bool
@@ -37,12 +40,15 @@ pub record Edited : Type 0 where
   pub changed : ℕ
   pub state : State
 
--- "The answer is 0 and the number of holders whose stored set changed"; "a refused edit … changes nothing", and its count is 0
+-- an accepted edit: "The answer is 0 and the number of holders whose stored set changed"
+abbrev pub accepting : State → Bytes → Edited
+accepting S line =
+    let U = editedTies (adds line) (editedTie S line) (S .ties) in
+    record { number = 0; changed = changes (S .declared) (S .ties) U; state = record { declared = S .declared; ties = U } }
+
+-- "a refused edit … changes nothing", and its count is 0
+abbrev pub refusing : State → Bytes → Edited
+refusing S line = record { number = editRefusal S line; changed = 0; state = S }
+
 unfoldable pub edit : State → Bytes → Edited
-edit S line =
-    let n = editRefusal S line in
-    let U = editedTies (S .ties) (tieIn S (plusLine line)) (tieIn S (minusLine line)) in
-    elim (eqb n 0) [
-      true ↦ record { number = 0; changed = changes (S .declared) (S .ties) U; state = record { declared = S .declared; ties = U } }
-    | false ↦ record { number = n; changed = 0; state = S }
-    ]
+edit S line = elim (eqb (editRefusal S line) 0) [ true ↦ accepting S line | false ↦ refusing S line ]

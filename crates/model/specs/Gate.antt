@@ -71,6 +71,6 @@ unfoldable pub gate : Bytes → Bytes
 gate input =
     let lines = linesOf input in
     elim (ltb inputBytes (length input)) [
-      true ↦ printed (loaded 2 0)
-    | false ↦ output empty (some (Call.load (fileOf lines)) ∷ map callOf (commandsOf lines))
+      | true ↦ printed (loaded 2 0)
+      | false ↦ output empty (some (Call.load (fileOf lines)) ∷ map callOf (commandsOf lines))
     ]

@@ -108,8 +108,8 @@ readItems (t ∷ []) = none
 readItems (t ∷ u ∷ ts) =
     constantOf t >>= λ a.
     elim (behindMark Mark.rbrace (u ∷ ts)) [
-      some rest ↦ some (a ∷ [], rest)
-    | none ↦ behindMark Mark.comma (u ∷ ts) >>= λ rest. readItems ts >>= λ (l, rest′). some (a ∷ l, rest′)
+      | some rest ↦ some (a ∷ [], rest)
+      | none ↦ behindMark Mark.comma (u ∷ ts) >>= λ rest. readItems ts >>= λ (l, rest′). some (a ∷ l, rest′)
     ]
 
 -- a set, behind its first brace
@@ -156,16 +156,16 @@ readSimple inner (Token.mark m ∷ ts) = elim (isMark Mark.lparen m) [ true ↦ 
 unfoldable pub readTerm : (List Token → Reading) → List Token → Reading
 readTerm inner ts =
     elim (behindMark Mark.NOT ts) [
-      some rest ↦ readSimple inner rest >>= λ (p, rest′). some (not p, rest′)
-    | none ↦ readComparison ts or-else readSimple inner ts
+      | some rest ↦ readSimple inner rest >>= λ (p, rest′). some (not p, rest′)
+      | none ↦ readComparison ts or-else readSimple inner ts
     ]
 
 -- what stands behind a part: the mark that joins, and more; or nothing
 abbrev pub joinedBy : Mark → (Policy → Policy → Policy) → (List Token → Reading) → Policy × List Token → Reading
 joinedBy m join more (p, ts) =
     elim (behindMark m ts) [
-      some rest ↦ more rest >>= λ (q, rest′). some (join p q, rest′)
-    | none ↦ some (p, ts)
+      | some rest ↦ more rest >>= λ (q, rest′). some (join p q, rest′)
+      | none ↦ some (p, ts)
     ]
 
 -- "Terms join by AND and OR; AND binds tighter". The first number bounds the calls

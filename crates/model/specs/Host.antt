@@ -19,6 +19,6 @@ hostNumber (refused n) = n
 unfoldable pub hostCall : Bytes → Bytes → ℕ → ℕ
 hostCall file block words =
     elim (wrongTable words) [
-      true ↦ 1
-    | false ↦ let l = load file in elim (eqb (l .number) 0) [ true ↦ hostNumber (decide (l .state) block) | false ↦ l .number ]
+      | true ↦ 1
+      | false ↦ let l = load file in elim (eqb (l .number) 0) [ true ↦ hostNumber (decide (l .state) block) | false ↦ l .number ]
     ]

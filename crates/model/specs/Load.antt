@@ -45,6 +45,6 @@ otherLines (l ∷ ls) = ls
 unfoldable pub load : Bytes → Loaded
 load file =
     elim (tooLong file) [
-      true ↦ refusedAt 2 0
-    | false ↦ elim (wrongFirstLine file) [ true ↦ refusedAt 3 1 | false ↦ readOn empty 0 1 (otherLines (linesOf file)) ]
+      | true ↦ refusedAt 2 0
+      | false ↦ elim (wrongFirstLine file) [ true ↦ refusedAt 3 1 | false ↦ readOn empty 0 1 (otherLines (linesOf file)) ]
     ]

@@ -149,12 +149,11 @@ tieCloses hs T (Tie.value h p) = false
 unfoldable pub circular : State → Line → Bool
 circular S l = tieOf (S .declared) l is tieCloses (holderNumbersOf (S .declared)) (S .ties)
 
--- the refusal of a file's line, behind one whose key has the rank `before`
-unfoldable pub lineRefusal : State → ℕ → Bytes → ℕ
-lineRefusal S before line =
+-- the tests of a file's line, behind one whose key has the rank `before`
+abbrev pub lineTests : State → ℕ → Bytes → List Test
+lineTests S before line =
     let l = lineOf line in
-    first
-    ( 4 if unframed line
+    (4 if unframed line
     ∷ 5 if outOfOrder before line
     ∷ 6 if malformed line
     ∷ 7 if (l is overLimits)
@@ -164,6 +163,9 @@ lineRefusal S before line =
     ∷ 11 if (l is full (S .declared))
     ∷ 12 if (l is circular S)
     ∷ [])
+
+unfoldable pub lineRefusal : State → ℕ → Bytes → ℕ
+lineRefusal S before line = first (lineTests S before line)
 
 -- ---- Office, edits only
 
@@ -199,13 +201,12 @@ otherKey line = framed line is λ (key, fields). not (isTieKey key)
 unfoldable pub notStanding : State → Line → Bool
 notStanding S l = not (stands S l)
 
--- the refusal of an edit; "13 comes after 4, before the rest", "A `-` line never gets 10 or 12"
-unfoldable pub editRefusal : State → Bytes → ℕ
-editRefusal S edit =
+-- the tests of an edit; "13 comes after 4, before the rest", "A `-` line never gets 10 or 12"
+abbrev pub editTests : State → Bytes → List Test
+editTests S edit =
     let line = signedLine edit in
     let l = line >>= lineOf in
-    first
-    ( 4 if (isNone line || (line is unframed))
+    (4 if (isNone line || (line is unframed))
     ∷ 13 if (line is otherKey)
     ∷ 6 if (line is malformed)
     ∷ 8 if (l is undeclared (S .declared))
@@ -214,6 +215,9 @@ editRefusal S edit =
     ∷ 12 if ((plusLine edit >>= lineOf) is circular S)
     ∷ 14 if ((minusLine edit >>= lineOf) is notStanding S)
     ∷ [])
+
+unfoldable pub editRefusal : State → Bytes → ℕ
+editRefusal S edit = first (editTests S edit)
 
 -- ---- Gate
 
@@ -248,12 +252,14 @@ isHeld S b k =
 unfoldable pub notHeld : State → Block → Bool
 notHeld S b = any (λ k. activated b k && not (isHeld S b k)) (below maskBits)
 
--- the refusal of a request
-unfoldable pub requestRefusal : State → Bytes → ℕ
-requestRefusal S block =
+-- the tests of a request
+abbrev pub requestTests : State → Bytes → List Test
+requestTests S block =
     let b = readBlock block in
-    first
-    ( 15 if badBlock block
+    (15 if badBlock block
     ∷ 16 if (b is wrongNumber (S .declared))
     ∷ 17 if (b is notHeld S)
     ∷ [])
+
+unfoldable pub requestRefusal : State → Bytes → ℕ
+requestRefusal S block = first (requestTests S block)

@@ -109,8 +109,8 @@ unfoldable pub readToken : Bytes → Read
 readToken s =
     let (w, rest) = run s in
     elim (isEmpty w) [
-      true ↦ (behind (bytes "\"") s >>= readText) or-else readSign signs s
-    | false ↦ readWord w >>= λ t. some (t, rest)
+      | true ↦ (behind (bytes "\"") s >>= readText) or-else readSign signs s
+      | false ↦ readWord w >>= λ t. some (t, rest)
     ]
 
 -- "Byte 32 may stand, any number of times, before, between and after tokens". Each token has a byte, so there are at most n in n bytes
@@ -119,8 +119,8 @@ tokensWithin zero s = onlyIf (isEmpty s) []
 tokensWithin (suc n) [] = some []
 tokensWithin (suc n) (x ∷ xs) =
     elim (isByte " " x) [
-      true ↦ tokensWithin n xs
-    | false ↦ readToken (x ∷ xs) >>= λ (t, rest). tokensWithin n rest >>= λ ts. some (t ∷ ts)
+      | true ↦ tokensWithin n xs
+      | false ↦ readToken (x ∷ xs) >>= λ (t, rest). tokensWithin n rest >>= λ ts. some (t ∷ ts)
     ]
 
 unfoldable pub tokensOf : Bytes → Option (List Token)

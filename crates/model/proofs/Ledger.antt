@@ -1,0 +1,182 @@
+-- The ledger: every state that calls leave is standing; a refused edit and a request change nothing; an edit changes the sets of the edited
+-- holder and those below it alone. Assumes nothing.
+use Prim.Native.Nat.{ℕ, suc, _<_}
+use mathlib.Core.Path.{_≡_, refl, sym, ap, subst, _∙_}
+use mathlib.Core.Logic.{_⊎_, inl, inr, ⊎-elim}
+use mathlib.Core.Bool.{Bool, true, false, _&&_, _||_, not, true≢false}
+use mathlib.Core.List.{List, [], _∷_}
+use mathlib.Core.Option.{Option, none, some}
+use native.Mathlib.Omega.{arith}
+use lib.ListN.{length}
+use lib.Dec.{eqb}
+use borrow.Author.Tests.{eqb-true, eqb-false}
+use Rattle.model.specs.Notation.{if_then_else_, _>>=_, _or-else_, _is_, isNone}
+use Rattle.model.specs.Bytes.{Bytes, linesOf}
+use Rattle.model.specs.Lines.{Line}
+use Rattle.model.specs.Declarations.{holderNumbersOf}
+use Rattle.model.specs.Ties.{Tie, Ties, edited, sameTie, added, removed, Below}
+use Rattle.model.specs.Effective.{effective}
+use Rattle.model.specs.State.{State, empty, tieOf, after}
+use Rattle.model.specs.Refusals.{Test, _if_, first, tooLong, wrongFirstLine, wrongTable, lineOf, framed, lineTests, lineRefusal, undeclared, wrongSort, repeated, full, tieCloses, circular, plusLine, minusLine, signedLine, unframed, otherKey, malformed, notStanding, editTests, editRefusal}
+use Rattle.model.specs.Load
+use Rattle.model.specs.Load.{Loaded, readOn, stepped, rankOf, refusedAt, otherLines}
+use Rattle.model.specs.Edits
+use Rattle.model.specs.Edits.{Edited, editedTie, adds, editedTies, accepting, refusing}
+use Rattle.model.specs.Ledger.{Call, step, tableAfter, withTable, withoutTable}
+use Rattle.model.proofs.Words.{none-is-some, false-is-true}
+use Rattle.model.proofs.Options.{bind-some, some-not}
+use Rattle.model.proofs.Tests.{none-holds}
+use Rattle.model.proofs.Lists.{true-or-false}
+use Rattle.model.proofs.Effective.{DifferAt, same-elsewhere}
+use Rattle.model.proofs.Standing.{Standing, empty-standing, after-standing, added-standing, removed-standing, tie-fits, other-tie}
+
+-- a line that is not refused
+accepted-line : (S : State) (before : ℕ) (line : Bytes) (l : Line) → lineRefusal S before line ≡ 0 → lineOf line ≡ some l
+    → (wrongSort (S .declared) l ≡ false) × (full (S .declared) l ≡ false) × (circular S l ≡ false)
+unfolding lineRefusal
+accepted-line S before line l e q =
+    let r = none-holds (lineTests S before line) refl e in
+    let t9 : (lineOf line is wrongSort (S .declared)) ≡ false = r .1 .1 .1 .1 .1 .0 in
+    let t11 : (lineOf line is full (S .declared)) ≡ false = r .1 .1 .1 .1 .1 .1 .1 .0 in
+    let t12 : (lineOf line is circular S) ≡ false = r .1 .1 .1 .1 .1 .1 .1 .1 .0 in
+    (rw q at t9, rw q at t11, rw q at t12)
+
+-- ---- a load
+
+stepped-standing : (S : State) (before : ℕ) (line : Bytes) → Standing S → lineRefusal S before line ≡ 0 → (o : Option Line) → lineOf line ≡ o → Standing (stepped S o)
+stepped-standing S before line standing e none q = standing
+stepped-standing S before line standing e (some l) q = let a = accepted-line S before line l e q in after-standing l standing (a .0) (a .1) (a .2)
+
+read-standing : (S : State) (before n : ℕ) (ls : List Bytes) → Standing S → Standing (readOn S before n ls .state)
+unfolding readOn
+read-standing S before n [] standing = standing
+read-standing S before n (l ∷ ls) standing = go (eqb (lineRefusal S before l) 0) refl (λ T before′ s. read-standing T before′ (suc n) ls s)
+  where
+    go : (b : Bool) → eqb (lineRefusal S before l) 0 ≡ b → ((T : State) (before′ : ℕ) → Standing T → Standing (readOn T before′ (suc n) ls .state))
+        → Standing ((elim b as (λ _. Loaded) [ true ↦ readOn (stepped S (lineOf l)) (rankOf (framed l)) (suc n) ls | false ↦ refusedAt (lineRefusal S before l) (suc n) ]) .state)
+    go true e f = f (stepped S (lineOf l)) (rankOf (framed l)) (stepped-standing S before l standing (eqb-true _ _ e) (lineOf l) refl)
+    go false e f = empty-standing
+
+pub load-standing : (file : Bytes) → Standing (Load.load file .state)
+unfolding Load.load
+load-standing file = go (tooLong file) (wrongFirstLine file)
+  where
+    go : (b c : Bool) → Standing ((elim b as (λ _. Loaded) [ true ↦ refusedAt 2 0 | false ↦ elim c as (λ _. Loaded) [ true ↦ refusedAt 3 1 | false ↦ readOn empty 0 1 (otherLines (linesOf file)) ] ]) .state)
+    go true c = empty-standing
+    go false true = empty-standing
+    go false false = read-standing empty 0 1 (otherLines (linesOf file)) empty-standing
+
+-- ---- an edit
+
+-- an edit that is not refused: its line, read, has no wrong sort, and closes no circle where it adds
+accepted-edit : (S : State) (edit : Bytes) (l : Line) → editRefusal S edit ≡ 0 → (signedLine edit >>= lineOf) ≡ some l
+    → (wrongSort (S .declared) l ≡ false) × (((plusLine edit >>= lineOf) is circular S) ≡ false)
+unfolding editRefusal
+accepted-edit S edit l e q =
+    let r = none-holds (editTests S edit) refl e in
+    let t9 : ((signedLine edit >>= lineOf) is wrongSort (S .declared)) ≡ false = r .1 .1 .1 .1 .0 in
+    (rw q at t9, r .1 .1 .1 .1 .1 .1 .0)
+
+-- the line of an edit that adds
+plus-line : (edit : Bytes) (l : Line) → isNone (plusLine edit) ≡ false → (signedLine edit >>= lineOf) ≡ some l → (plusLine edit >>= lineOf) ≡ some l
+plus-line edit l a e = go (plusLine edit) (minusLine edit) a e
+  where
+    go : (p m : Option Bytes) → isNone p ≡ false → ((p or-else m) >>= lineOf) ≡ some l → (p >>= lineOf) ≡ some l
+    go none m a f = absurd (true≢false a)
+    go (some x) m a f = f
+
+module _ (S : State) (line : Bytes) where
+  -- the ties behind an accepted edit
+  accepted-standing : Standing S → editRefusal S line ≡ 0 → (b : Bool) → isNone (plusLine line) ≡ b → (o : Option Tie) → editedTie S line ≡ o
+      → Standing (record { declared = S .declared; ties = editedTies (not b) o (S .ties) })
+  unfolding editedTie circular
+  accepted-standing standing e b a none q = standing
+  accepted-standing standing e true a (some t) q = removed-standing standing t
+  accepted-standing standing e false a (some t) q =
+      let r = bind-some (signedLine line >>= lineOf) (tieOf (S .declared)) q in
+      let l = r .0 in
+      let c = accepted-edit S line l e (r .1) in
+      added-standing standing t (tie-fits (S .declared) l t (r .2) (c .0))
+      (some-not (tieOf (S .declared) l) (tieCloses (holderNumbersOf (S .declared)) (S .ties))
+      (some-not (plusLine line >>= lineOf) (circular S) (c .1) l (plus-line line l a (r .1))) t (r .2))
+
+  -- an edit, accepted or refused
+  edit-cases : (P : Edited → Type 0)
+      → (editRefusal S line ≡ 0 → P (accepting S line))
+      → ((editRefusal S line ≡ 0 → ⊥) → P (refusing S line))
+      → P (Edits.edit S line)
+  unfolding Edits.edit
+  edit-cases P yes′ no′ = go (eqb (editRefusal S line) 0) refl
+    where
+      go : (b : Bool) → eqb (editRefusal S line) 0 ≡ b → P (elim b as (λ _. Edited) [ true ↦ accepting S line | false ↦ refusing S line ])
+      go true e = yes′ (eqb-true _ _ e)
+      go false e = no′ (eqb-false _ _ e)
+
+  pub edit-standing : Standing S → Standing (Edits.edit S line .state)
+  edit-standing standing =
+      edit-cases (λ r. Standing (r .state)) (λ e. accepted-standing standing e (isNone (plusLine line)) refl (editedTie S line) refl) (λ n. standing)
+
+  -- the number of an edit's answer is its refusal
+  pub edit-number : Edits.edit S line .number ≡ editRefusal S line
+  edit-number = edit-cases (λ r. r .number ≡ editRefusal S line) (λ e. sym e) (λ n. refl)
+
+  -- "a refused edit … changes nothing", and its count is 0
+  pub refused-edit : (Edits.edit S line .number ≡ 0 → ⊥) → (Edits.edit S line .state ≡ S) × (Edits.edit S line .changed ≡ 0)
+  refused-edit = edit-cases (λ r. (r .number ≡ 0 → ⊥) → (r .state ≡ S) × (r .changed ≡ 0)) (λ e n. absurd (n refl)) (λ n m. (refl, refl))
+
+-- ---- an edit changes ties of the edited holder alone
+
+added-differs : (t : Tie) (T : Ties) → DifferAt (edited t) T (added t T)
+added-differs t T u n = ap (λ (b : Bool). b || T u) (other-tie t u n)
+
+removed-differs : (t : Tie) (T : Ties) → DifferAt (edited t) T (removed t T)
+removed-differs t T u n = ap (λ (b : Bool). not b && T u) (other-tie t u n)
+
+-- "No edit changes the set of a holder that is neither the edited one nor below it"
+pub edit-elsewhere : (S : State) (line : Bytes) (k p : ℕ)
+    → ((t : Tie) → editedTie S line ≡ some t → (k ≡ edited t → ⊥) × (Below (S .ties) k (edited t) → ⊥))
+    → effective (holderNumbersOf (S .declared)) (Edits.edit S line .state .ties) k p ≡ effective (holderNumbersOf (S .declared)) (S .ties) k p
+edit-elsewhere S line k p elsewhere =
+    edit-cases S line (λ r. effective (holderNumbersOf (S .declared)) (r .state .ties) k p ≡ effective (holderNumbersOf (S .declared)) (S .ties) k p)
+    (λ e. go (adds line) (editedTie S line) elsewhere) (λ n. refl)
+  where
+    go : (plus : Bool) (o : Option Tie) → ((t : Tie) → o ≡ some t → (k ≡ edited t → ⊥) × (Below (S .ties) k (edited t) → ⊥))
+        → effective (holderNumbersOf (S .declared)) (editedTies plus o (S .ties)) k p ≡ effective (holderNumbersOf (S .declared)) (S .ties) k p
+    go plus none f = refl
+    go true (some t) f =
+        same-elsewhere (holderNumbersOf (S .declared)) (S .ties) (added t (S .ties)) (edited t) (added-differs t (S .ties)) k p (f t refl .0) (f t refl .1)
+    go false (some t) f =
+        same-elsewhere (holderNumbersOf (S .declared)) (S .ties) (removed t (S .ties)) (edited t) (removed-differs t (S .ties)) k p (f t refl .0) (f t refl .1)
+
+-- ---- calls
+
+pub step-standing : (words : ℕ) {S : State} (c : Call) → Standing S → Standing (step words S c .state)
+unfolding step
+step-standing words {S} c standing = go (wrongTable words) c
+  where
+    go : (b : Bool) (c : Call) → Standing ((if b then withoutTable S c else withTable S c) .state)
+    go true (Call.load file) = empty-standing
+    go true (Call.edit line) = standing
+    go true (Call.request block) = standing
+    go false (Call.load file) = load-standing file
+    go false (Call.edit line) = edit-standing S line standing
+    go false (Call.request block) = standing
+
+-- the state behind a list of calls
+abbrev pub stateAfter : ℕ → State → List Call → State
+stateAfter words S [] = S
+stateAfter words S (c ∷ calls) = stateAfter words (step words S c .state) calls
+
+-- from any list, ties stay acyclic and between declared holders and pairs
+pub ledger-standing : (words : ℕ) (S : State) (calls : List Call) → Standing S → Standing (stateAfter words S calls)
+ledger-standing words S [] standing = standing
+ledger-standing words S (c ∷ calls) standing = ledger-standing words (step words S c .state) calls (step-standing words c standing)
+
+-- a request changes nothing
+pub request-keeps : (words : ℕ) (S : State) (block : Bytes) → step words S (Call.request block) .state ≡ S
+unfolding step
+request-keeps words S block = go (wrongTable words)
+  where
+    go : (b : Bool) → (if b then withoutTable S (Call.request block) else withTable S (Call.request block)) .state ≡ S
+    go true = refl
+    go false = refl

@@ -1,0 +1,344 @@
+-- What holds of every state: ties are acyclic and between declared holders and pairs. A line or an edit that is accepted keeps it so.
+-- Assumes nothing.
+use Prim.Native.Nat.{ℕ, suc, _+_, _≤_, _<_}
+use mathlib.Core.Path.{_≡_, refl, sym, ap, ap₂, subst, _∙_}
+use mathlib.Core.Logic.{_⊎_, inl, inr, ⊎-elim}
+use mathlib.Core.Bool.{Bool, true, false, _&&_, _||_, not, true≢false}
+use mathlib.Core.List.{List, [], _∷_, _++_}
+use mathlib.Core.Option.{Option, none, some, Option·some-injective}
+use native.Mathlib.Omega.{arith}
+use lib.ListN.{length, length-append}
+use lib.Dec.{eqb, leb}
+use borrow.Author.Tests.{eqb-true, leb-false, not-false, not-true}
+use Rattle.model.specs.Notation.{_>>=_, _is_, isNone, place, nth}
+use Rattle.model.specs.Limits.{holderNumbers, pairLimit}
+use Rattle.model.specs.Bytes.{Bytes, same}
+use Rattle.model.specs.Attributes.{Source, sourceWord, sources, sameSource}
+use Rattle.model.specs.Atoms.{Atom, sameAtom}
+use Rattle.model.specs.Lines.{Line, attr, op, atom, holder, parent, member, value, rule}
+use Rattle.model.specs.Declarations.{Declarations, Pair, Holder, Sort, sortWord, isSort, isNamed, holderNumber, sortOf, sourceFor, parentSort, groupSort, pairNumber, holderNumbersOf, isGroup, nothingDeclared}
+use Rattle.model.specs.Ties.{Tie, Ties, edited, sameTie, added, removed, up, closesCircle, Acyclic, Above, one, more}
+use Rattle.model.specs.State.{State, empty, tieOf, declare, tied, after}
+use Rattle.model.specs.Refusals.{fits, undeclared, wrongSort, full, tieCloses, circular}
+use Rattle.model.proofs.Words.{none-is-some, false-is-true, same-word, reads-source, reads-sort, sorts}
+use Rattle.model.proofs.Options.{parts, bind-some, is-some, some-not}
+use Rattle.model.proofs.Lists.{_∈_, true-or-false, or-cases, or-left, or-right, or-none, nth-lt, nth-append, place-nth, below-in}
+use Rattle.model.proofs.Chains.{Among, first-tie, last-tie, AtOrAbove, still-acyclic, no-circle, fewer-acyclic}
+
+-- the sorts of two holders, the lower one's and the upper one's, by a rule of which sort stands above which
+pub record SortsFit (above : Sort → Option Sort) (D : Declarations) (lower upper : ℕ) : Type 0 where
+  pub lower-sort : Sort
+  pub upper-sort : Sort
+  pub lower-is : sortOf D lower ≡ some lower-sort
+  pub upper-is : sortOf D upper ≡ some upper-sort
+  pub one-above : above lower-sort ≡ some upper-sort
+
+-- a holder and a pair of the source that its sort fixes
+pub record PairFits (D : Declarations) (h p : ℕ) : Type 0 where
+  pub sort : Sort
+  pub pair : Pair
+  pub sort-is : sortOf D h ≡ some sort
+  pub pair-is : nth (D .pairs) p ≡ some pair
+  pub source-is : pair .source ≡ sourceFor sort
+
+-- a tie between declared holders and pairs
+abbrev pub TieFits : Declarations → Tie → Type 0
+TieFits D (Tie.parent c g) = SortsFit parentSort D c g
+TieFits D (Tie.member p g) = SortsFit groupSort D p g
+TieFits D (Tie.value h p) = PairFits D h p
+
+pub record Standing (S : State) : Type 0 where
+  pub acyclic : Acyclic (S .ties)
+  pub ties-fit : (t : Tie) → S .ties t ≡ true → TieFits (S .declared) t
+  pub holders-fit : length (S .declared .holders) ≤ holderNumbers
+  pub pairs-fit : length (S .declared .pairs) ≤ pairLimit
+
+-- ---- the tie of a line fits, where the line's sorts do
+
+sort-lt : (D : Declarations) (k : ℕ) {s : Sort} → sortOf D k ≡ some s → k < length (D .holders)
+unfolding sortOf
+sort-lt D k e = let r = bind-some (nth (D .holders) k) (λ h. some (h .sort)) e in nth-lt (D .holders) k (r .1)
+
+sorts-fit : (above : Sort → Option Sort) (D : Declarations) (lower upper : Bytes) (h g : ℕ) → fits above D lower upper ≡ true
+    → holderNumber D lower ≡ some h → holderNumber D upper ≡ some g → SortsFit above D h g
+unfolding fits
+sorts-fit above D lower upper h g e p q =
+    let r = is-some (holderNumber D lower >>= sortOf D >>= above) (λ wanted. (holderNumber D upper >>= sortOf D) is isSort wanted) e in
+    let a = bind-some (holderNumber D lower >>= sortOf D) above (r .1) in
+    let b = is-some (holderNumber D upper >>= sortOf D) (isSort (r .0)) (r .2) in
+    record {
+      lower-sort = a .0;
+      upper-sort = r .0;
+      lower-is = ap (λ (o : Option ℕ). o >>= sortOf D) (sym p) ∙ a .1;
+      upper-is = ap (λ (o : Option ℕ). o >>= sortOf D) (sym q) ∙ b .1 ∙ ap some (sym (same-word sortWord sorts reads-sort (r .0) (b .0) (b .2)));
+      one-above = a .2;
+    }
+
+pair-fits : (D : Declarations) (h : ℕ) (s : Sort) (n : Bytes) (a : Atom) (p : ℕ) → sortOf D h ≡ some s → pairNumber D (sourceFor s) n a ≡ some p → PairFits D h p
+unfolding pairNumber
+pair-fits D h s n a p e q =
+    let r = place-nth (λ x. isNamed (x .source) (x .name) (sourceFor s) n && sameAtom (x .atom) a) (D .pairs) p q in
+    let named = parts (isNamed (r .0 .source) (r .0 .name) (sourceFor s) n) (sameAtom (r .0 .atom) a) (r .2) .0 in
+    record {
+      sort = s;
+      pair = r .0;
+      sort-is = e;
+      pair-is = r .1;
+      source-is = same-word sourceWord sources reads-source (r .0 .source) (sourceFor s) (parts (sameSource (r .0 .source) (sourceFor s)) (same (r .0 .name) n) named .0);
+    }
+
+-- the two numbers of a parent or member line's tie
+two-numbers : (D : Declarations) (a b : Bytes) (tie : ℕ → ℕ → Tie) {t : Tie}
+    → (holderNumber D a >>= λ h. holderNumber D b >>= λ g. some (tie h g)) ≡ some t
+    → (h : ℕ) × (g : ℕ) × (holderNumber D a ≡ some h) × (holderNumber D b ≡ some g) × (tie h g ≡ t)
+two-numbers D a b tie e =
+    let r = bind-some (holderNumber D a) (λ h. holderNumber D b >>= λ g. some (tie h g)) e in
+    let q = bind-some (holderNumber D b) (λ g. some (tie (r .0) g)) (r .2) in
+    (r .0, q .0, r .1, q .1, Option·some-injective _ _ (q .2))
+
+pub tie-fits : (D : Declarations) (l : Line) (t : Tie) → tieOf D l ≡ some t → wrongSort D l ≡ false → TieFits D t
+tie-fits D (attr s n y) t e w = none-is-some e
+tie-fits D (op n) t e w = none-is-some e
+tie-fits D (atom s n a) t e w = none-is-some e
+tie-fits D (holder s n) t e w = none-is-some e
+tie-fits D (parent c g) t e w =
+    let r = two-numbers D c g Tie.parent e in
+    subst (TieFits D) (r .4) (sorts-fit parentSort D c g (r .0) (r .1) (not-false (fits parentSort D c g) w) (r .2) (r .3))
+tie-fits D (member p g) t e w =
+    let r = two-numbers D p g Tie.member e in
+    subst (TieFits D) (r .4) (sorts-fit groupSort D p g (r .0) (r .1) (not-false (fits groupSort D p g) w) (r .2) (r .3))
+tie-fits D (value h n a) t e w =
+    let r = bind-some (holderNumber D h) (λ k. sortOf D k >>= λ s. pairNumber D (sourceFor s) n a >>= λ p. some (Tie.value k p)) e in
+    let s = bind-some (sortOf D (r .0)) (λ s. pairNumber D (sourceFor s) n a >>= λ p. some (Tie.value (r .0) p)) (r .2) in
+    let p = bind-some (pairNumber D (sourceFor (s .0)) n a) (λ p. some (Tie.value (r .0) p)) (s .2) in
+    subst (TieFits D) (Option·some-injective _ _ (p .2)) (pair-fits D (r .0) (s .0) n a (p .0) (s .1) (p .1))
+tie-fits D (rule o ts) t e w = none-is-some e
+
+-- ---- a tie more, and one less
+
+same-tie : (t u : Tie) → sameTie t u ≡ true → t ≡ u
+same-tie (Tie.parent a b) (Tie.parent c d) e = ap₂ Tie.parent (eqb-true a c (parts (eqb a c) (eqb b d) e .0)) (eqb-true b d (parts (eqb a c) (eqb b d) e .1))
+same-tie (Tie.parent a b) (Tie.member c d) e = false-is-true e
+same-tie (Tie.parent a b) (Tie.value c d) e = false-is-true e
+same-tie (Tie.member a b) (Tie.parent c d) e = false-is-true e
+same-tie (Tie.member a b) (Tie.member c d) e = ap₂ Tie.member (eqb-true a c (parts (eqb a c) (eqb b d) e .0)) (eqb-true b d (parts (eqb a c) (eqb b d) e .1))
+same-tie (Tie.member a b) (Tie.value c d) e = false-is-true e
+same-tie (Tie.value a b) (Tie.parent c d) e = false-is-true e
+same-tie (Tie.value a b) (Tie.member c d) e = false-is-true e
+same-tie (Tie.value a b) (Tie.value c d) e = ap₂ Tie.value (eqb-true a c (parts (eqb a c) (eqb b d) e .0)) (eqb-true b d (parts (eqb a c) (eqb b d) e .1))
+
+-- a tie of another holder is another tie
+pub other-tie : (t u : Tie) → (edited u ≡ edited t → ⊥) → sameTie t u ≡ false
+other-tie t u n = ⊎-elim (λ e. absurd (n (ap edited (sym (same-tie t u e))))) (λ e. e) (true-or-false (sameTie t u))
+
+added-cases : (t : Tie) (T : Ties) (u : Tie) → added t T u ≡ true → (t ≡ u) ⊎ (T u ≡ true)
+added-cases t T u e = ⊎-elim (λ s. inl (same-tie t u s)) inr (or-cases (sameTie t u) (T u) e)
+
+removed-stood : (t : Tie) (T : Ties) (u : Tie) → removed t T u ≡ true → T u ≡ true
+removed-stood t T u e = parts (not (sameTie t u)) (T u) e .1
+
+-- a tie up among those with one more stood before, or is the new one
+up-added : (t : Tie) (T : Ties) (h g : ℕ) → up (added t T) h g ≡ true → (up T h g ≡ true) ⊎ ((t ≡ Tie.parent h g) ⊎ (t ≡ Tie.member h g))
+up-added t T h g e =
+    ⊎-elim
+    (λ a. ⊎-elim (λ q. inr (inl q)) (λ q. inl (or-left (T (Tie.parent h g)) (T (Tie.member h g)) q)) (added-cases t T (Tie.parent h g) a))
+    (λ a. ⊎-elim (λ q. inr (inr q)) (λ q. inl (or-right (T (Tie.parent h g)) (T (Tie.member h g)) q)) (added-cases t T (Tie.member h g) a))
+    (or-cases (added t T (Tie.parent h g)) (added t T (Tie.member h g)) e)
+
+-- the ties of a standing state are among its holders
+module _ {S : State} (standing : Standing S) where
+  in-holders : (k : ℕ) {s : Sort} → sortOf (S .declared) k ≡ some s → k ∈ holderNumbersOf (S .declared)
+  unfolding holderNumbersOf
+  in-holders k e = below-in (length (S .declared .holders)) k (sort-lt (S .declared) k e)
+
+  -- the two ends of a tie up
+  up-fits : (h g : ℕ) → up (S .ties) h g ≡ true → SortsFit parentSort (S .declared) h g ⊎ SortsFit groupSort (S .declared) h g
+  up-fits h g e =
+      ⊎-elim (λ a. inl (standing .ties-fit (Tie.parent h g) a)) (λ a. inr (standing .ties-fit (Tie.member h g) a))
+      (or-cases (S .ties (Tie.parent h g)) (S .ties (Tie.member h g)) e)
+
+  pub among : Among (holderNumbersOf (S .declared)) (S .ties)
+  among = record {
+    lower = λ h g e. ⊎-elim (λ f. in-holders h (f .lower-is)) (λ f. in-holders h (f .lower-is)) (up-fits h g e);
+    upper = λ h g e. ⊎-elim (λ f. in-holders g (f .upper-is)) (λ f. in-holders g (f .upper-is)) (up-fits h g e);
+    valued = λ h p e. in-holders h (standing .ties-fit (Tie.value h p) e .sort-is);
+  }
+
+-- what stands above is a group, and a member is none
+upper-group : (s u : Sort) → (parentSort s ≡ some u) ⊎ (groupSort s ≡ some u) → isGroup u ≡ true
+upper-group Sort.admin u (inl e) = none-is-some e
+upper-group Sort.admin u (inr e) = none-is-some e
+upper-group Sort.ugroup u (inl e) = ap isGroup (sym (Option·some-injective _ _ e))
+upper-group Sort.ugroup u (inr e) = none-is-some e
+upper-group Sort.ogroup u (inl e) = ap isGroup (sym (Option·some-injective _ _ e))
+upper-group Sort.ogroup u (inr e) = none-is-some e
+upper-group Sort.user u (inl e) = none-is-some e
+upper-group Sort.user u (inr e) = ap isGroup (sym (Option·some-injective _ _ e))
+upper-group Sort.object u (inl e) = none-is-some e
+upper-group Sort.object u (inr e) = ap isGroup (sym (Option·some-injective _ _ e))
+
+member-no-group : (s u : Sort) → groupSort s ≡ some u → isGroup s ≡ false
+member-no-group Sort.admin u e = refl
+member-no-group Sort.ugroup u e = none-is-some e
+member-no-group Sort.ogroup u e = none-is-some e
+member-no-group Sort.user u e = refl
+member-no-group Sort.object u e = refl
+
+module _ {S : State} (standing : Standing S) where
+  -- a holder up to which a tie leads is a group
+  above-group : (h g : ℕ) (s : Sort) → up (S .ties) h g ≡ true → sortOf (S .declared) g ≡ some s → isGroup s ≡ true
+  above-group h g s e q =
+      ⊎-elim (λ f. of f (upper-group (f .lower-sort) (f .upper-sort) (inl (f .one-above)))) (λ f. of f (upper-group (f .lower-sort) (f .upper-sort) (inr (f .one-above)))) (up-fits standing h g e)
+    where
+      of : {above : Sort → Option Sort} (f : SortsFit above (S .declared) h g) → isGroup (f .upper-sort) ≡ true → isGroup s ≡ true
+      of f i = ap isGroup (Option·some-injective _ _ (sym q ∙ f .upper-is)) ∙ i
+
+  -- the ties with one more are acyclic
+  added-acyclic : (t : Tie) → TieFits (S .declared) t → tieCloses (holderNumbersOf (S .declared)) (S .ties) t ≡ false → Acyclic (added t (S .ties))
+  added-acyclic (Tie.parent c g) f e =
+      still-acyclic (S .ties) (added (Tie.parent c g) (S .ties)) c g
+      (λ h m u. ⊎-elim inl (λ n. inr (⊎-elim (λ q. parts q) (λ q. differ q) n)) (up-added (Tie.parent c g) (S .ties) h m u))
+      (standing .acyclic)
+      (no-circle (holderNumbersOf (S .declared)) (S .ties) (among standing) (standing .acyclic) c g e)
+    where
+      parts : {h m : ℕ} → Tie.parent c g ≡ Tie.parent h m → (h ≡ c) × (m ≡ g)
+      parts q = (cc, cc)
+
+      differ : {h m : ℕ} → Tie.parent c g ≡ Tie.member h m → (h ≡ c) × (m ≡ g)
+      differ q = let z : _≡_ {A = ℕ} 0 1 = cc in absurd (omega (arith, z))
+  added-acyclic (Tie.member p g) f e =
+      still-acyclic (S .ties) (added (Tie.member p g) (S .ties)) p g
+      (λ h m u. ⊎-elim inl (λ n. inr (⊎-elim (λ q. differ q) (λ q. parts q) n)) (up-added (Tie.member p g) (S .ties) h m u))
+      (standing .acyclic)
+      no-way
+    where
+      parts : {h m : ℕ} → Tie.member p g ≡ Tie.member h m → (h ≡ p) × (m ≡ g)
+      parts q = (cc, cc)
+
+      differ : {h m : ℕ} → Tie.member p g ≡ Tie.parent h m → (h ≡ p) × (m ≡ g)
+      differ q = let z : _≡_ {A = ℕ} 0 1 = cc in absurd (omega (arith, z))
+
+      -- a member is no group, so nothing leads up to it
+      no-way : AtOrAbove (S .ties) p g → ⊥
+      no-way (inl q) =
+          true≢false
+          (sym (upper-group (f .lower-sort) (f .upper-sort) (inr (f .one-above)))
+          ∙ ap isGroup (Option·some-injective _ _ (sym (f .upper-is) ∙ ap (sortOf (S .declared)) (sym q) ∙ f .lower-is))
+          ∙ member-no-group (f .lower-sort) (f .upper-sort) (f .one-above))
+      no-way (inr c) =
+          true≢false
+          (sym (above-group (last-tie c .0) p (f .lower-sort) (last-tie c .1) (f .lower-is)) ∙ member-no-group (f .lower-sort) (f .upper-sort) (f .one-above))
+  added-acyclic (Tie.value h p) f e =
+      fewer-acyclic (S .ties) (added (Tie.value h p) (S .ties))
+      (λ k m u. ⊎-elim (λ q. q) (λ n. ⊎-elim (λ q. differ q) (λ q. differ′ q) n) (up-added (Tie.value h p) (S .ties) k m u))
+      (standing .acyclic)
+    where
+      differ : {k m : ℕ} {C : Type 0} → Tie.value h p ≡ Tie.parent k m → C
+      differ q = let z : _≡_ {A = ℕ} 0 1 = cc in absurd (omega (arith, z))
+
+      differ′ : {k m : ℕ} {C : Type 0} → Tie.value h p ≡ Tie.member k m → C
+      differ′ q = let z : _≡_ {A = ℕ} 0 1 = cc in absurd (omega (arith, z))
+
+  -- a tie more keeps a state standing
+  pub added-standing : (t : Tie) → TieFits (S .declared) t → tieCloses (holderNumbersOf (S .declared)) (S .ties) t ≡ false
+      → Standing (record { declared = S .declared; ties = added t (S .ties) })
+  added-standing t f e = record {
+    acyclic = added-acyclic t f e;
+    ties-fit = λ u q. ⊎-elim (λ s. subst (TieFits (S .declared)) s f) (standing .ties-fit u) (added-cases t (S .ties) u q);
+    holders-fit = standing .holders-fit;
+    pairs-fit = standing .pairs-fit;
+  }
+
+  -- and so does one less
+  pub removed-standing : (t : Tie) → Standing (record { declared = S .declared; ties = removed t (S .ties) })
+  removed-standing t = record {
+    acyclic =
+        fewer-acyclic (S .ties) (removed t (S .ties))
+        (λ h g e.
+        ⊎-elim (λ a. or-left (S .ties (Tie.parent h g)) (S .ties (Tie.member h g)) (removed-stood t (S .ties) (Tie.parent h g) a))
+        (λ a. or-right (S .ties (Tie.parent h g)) (S .ties (Tie.member h g)) (removed-stood t (S .ties) (Tie.member h g) a))
+        (or-cases (removed t (S .ties) (Tie.parent h g)) (removed t (S .ties) (Tie.member h g)) e))
+        (standing .acyclic);
+    ties-fit = λ u q. standing .ties-fit u (removed-stood t (S .ties) u q);
+    holders-fit = standing .holders-fit;
+    pairs-fit = standing .pairs-fit;
+  }
+
+-- ---- declarations that grow
+
+-- what had a number keeps it
+record Grows (D E : Declarations) : Type 0 where
+  holders-stay : (k : ℕ) (h : Holder) → nth (D .holders) k ≡ some h → nth (E .holders) k ≡ some h
+  pairs-stay : (k : ℕ) (p : Pair) → nth (D .pairs) k ≡ some p → nth (E .pairs) k ≡ some p
+
+module _ {D E : Declarations} (grows : Grows D E) where
+  sort-stays : (k : ℕ) (s : Sort) → sortOf D k ≡ some s → sortOf E k ≡ some s
+  unfolding sortOf
+  sort-stays k s e =
+      let r = bind-some (nth (D .holders) k) (λ h. some (h .sort)) e in
+      ap (λ (o : Option Holder). o >>= λ h. some (h .sort)) (grows .holders-stay k (r .0) (r .1)) ∙ r .2
+
+  sorts-stay : {above : Sort → Option Sort} (h g : ℕ) → SortsFit above D h g → SortsFit above E h g
+  sorts-stay h g f = record {
+    lower-sort = f .lower-sort;
+    upper-sort = f .upper-sort;
+    lower-is = sort-stays h (f .lower-sort) (f .lower-is);
+    upper-is = sort-stays g (f .upper-sort) (f .upper-is);
+    one-above = f .one-above;
+  }
+
+  tie-stays : (t : Tie) → TieFits D t → TieFits E t
+  tie-stays (Tie.parent c g) f = sorts-stay c g f
+  tie-stays (Tie.member p g) f = sorts-stay p g f
+  tie-stays (Tie.value h p) f = record {
+    sort = f .sort;
+    pair = f .pair;
+    sort-is = sort-stays h (f .sort) (f .sort-is);
+    pair-is = grows .pairs-stay p (f .pair) (f .pair-is);
+    source-is = f .source-is;
+  }
+
+grown-standing : {D : Declarations} {T : Ties} → Standing (record { declared = D; ties = T }) → (E : Declarations) → Grows D E
+    → length (E .holders) ≤ holderNumbers → length (E .pairs) ≤ pairLimit → Standing (record { declared = E; ties = T })
+grown-standing standing E g h p = record {
+  acyclic = standing .acyclic;
+  ties-fit = λ t e. tie-stays g t (standing .ties-fit t e);
+  holders-fit = h;
+  pairs-fit = p;
+}
+
+-- ---- an accepted line
+
+one-longer : {A : Type 0} (n : ℕ) (xs : List A) (x : A) → leb n (length xs) ≡ false → length (xs ++ x ∷ []) ≤ n
+one-longer n xs x e = omega (arith, length-append xs (x ∷ []), leb-false n (length xs) e)
+
+tied-standing : {S : State} → Standing S → (o : Option Tie) → ((t : Tie) → o ≡ some t → TieFits (S .declared) t)
+    → (o is tieCloses (holderNumbersOf (S .declared)) (S .ties)) ≡ false → Standing (record { declared = S .declared; ties = tied o (S .ties) })
+tied-standing standing none f e = standing
+tied-standing standing (some t) f e = added-standing standing t (f t refl) e
+
+pub after-standing : {S : State} (l : Line) → Standing S → wrongSort (S .declared) l ≡ false → full (S .declared) l ≡ false → circular S l ≡ false → Standing (after l S)
+unfolding after circular
+after-standing (attr s n y) standing w f c =
+    grown-standing standing _ (record { holders-stay = λ k h e. e; pairs-stay = λ k p e. e }) (standing .holders-fit) (standing .pairs-fit)
+after-standing (op n) standing w f c =
+    grown-standing standing _ (record { holders-stay = λ k h e. e; pairs-stay = λ k p e. e }) (standing .holders-fit) (standing .pairs-fit)
+after-standing {S} (atom s n a) standing w f c =
+    grown-standing standing _ (record { holders-stay = λ k h e. e; pairs-stay = λ k p e. nth-append (S .declared .pairs) _ k e }) (standing .holders-fit)
+    (one-longer pairLimit (S .declared .pairs) _ f)
+after-standing {S} (holder s n) standing w f c =
+    grown-standing standing _ (record { holders-stay = λ k h e. nth-append (S .declared .holders) _ k e; pairs-stay = λ k p e. e })
+    (one-longer holderNumbers (S .declared .holders) _ (or-none (leb holderNumbers (length (S .declared .holders))) _ f .0)) (standing .pairs-fit)
+after-standing {S} (parent p g) standing w f c = tied-standing standing (tieOf (S .declared) (parent p g)) (λ t e. tie-fits (S .declared) (parent p g) t e w) c
+after-standing {S} (member p g) standing w f c = tied-standing standing (tieOf (S .declared) (member p g)) (λ t e. tie-fits (S .declared) (member p g) t e w) c
+after-standing {S} (value h n a) standing w f c = tied-standing standing (tieOf (S .declared) (value h n a)) (λ t e. tie-fits (S .declared) (value h n a) t e w) c
+after-standing (rule o ts) standing w f c =
+    grown-standing standing _ (record { holders-stay = λ k h e. e; pairs-stay = λ k p e. e }) (standing .holders-fit) (standing .pairs-fit)
+
+pub empty-standing : Standing empty
+empty-standing = record {
+  acyclic = λ h c. false-is-true (first-tie c .1);
+  ties-fit = λ t e. false-is-true e;
+  holders-fit = omega arith;
+  pairs-fit = omega arith;
+}
