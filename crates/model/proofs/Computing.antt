@@ -18,9 +18,9 @@ use Rattle.model.specs.Decision.{verdicts, decided as decision-decided, 
 use Rattle.model.specs.Load.{readOn, load as load-load}
 use Rattle.model.specs.Edits.{editedTie, differs, changes, edit as edits-edit}
 use Rattle.model.specs.Ledger.{step, tableAfter, ledger}
-use Rattle.model.specs.Host.{hostCall}
+use Rattle.model.specs.Host.{hostCall, hostTable}
 use Rattle.model.specs.Gate.{isEnd, hexPairs, callOf, printed, output, gate}
 
 unfoldable pub computing : Unit {0}
-unfolding isName readInt decimal isText readStr readBool readAtom readAttributeName readWord readText readToken tokensOf readComparison readSet readTerm tooLarge policyWithin readPolicy compareSets loneValue meaningOf readAttr readOp readPair readHolder readTwo readValue readRule readKeyed readLine attributeNumber attributeOf operationNumber pairNumber holderNumber sortOf holderNumbersOf groups isAbove closesCircle effective wordsOf effectiveSet storedSet table after isFramed readBlock activated pairsOf held entered userValues readBy wrongTable tooLong wrongFirstLine framed lineOf unframed outOfOrder malformed fits stands circular lineRefusal otherKey notStanding editRefusal badBlock entryFits wrongNumber isHeld notHeld requestRefusal verdicts decision-decided decide readOn load-load editedTie differs changes edits-edit step tableAfter ledger hostCall isEnd hexPairs callOf printed output gate
+unfolding isName readInt decimal isText readStr readBool readAtom readAttributeName readWord readText readToken tokensOf readComparison readSet readTerm tooLarge policyWithin readPolicy compareSets loneValue meaningOf readAttr readOp readPair readHolder readTwo readValue readRule readKeyed readLine attributeNumber attributeOf operationNumber pairNumber holderNumber sortOf holderNumbersOf groups isAbove closesCircle effective wordsOf effectiveSet storedSet table after isFramed readBlock activated pairsOf held entered userValues readBy wrongTable tooLong wrongFirstLine framed lineOf unframed outOfOrder malformed fits stands circular lineRefusal otherKey notStanding editRefusal badBlock entryFits wrongNumber isHeld notHeld requestRefusal verdicts decision-decided decide readOn load-load editedTie differs changes edits-edit step tableAfter ledger hostCall hostTable isEnd hexPairs callOf printed output gate
 computing = tt

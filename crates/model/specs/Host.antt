@@ -1,11 +1,13 @@
 -- The call for hosts in C.
 use Prim.Native.Nat.{ℕ}
 use mathlib.Core.Bool.{Bool, true, false}
+use mathlib.Core.List.{List}
 use lib.Dec.{eqb}
 use Rattle.model.specs.Bytes.{Bytes}
 use Rattle.model.specs.State.{State}
 use Rattle.model.specs.Refusals.{wrongTable}
 use Rattle.model.specs.Load.{load}
+use Rattle.model.specs.Ledger.{tableAfter}
 use Rattle.model.specs.Decision.{Decision, permit, deny, undefined, refused, decide}
 
 -- "0 permit, 64 deny, 65 undefined, else the refusal"
@@ -22,3 +24,7 @@ hostCall file block words =
       | true ↦ 1
       | false ↦ let l = load file in elim (eqb (l .number) 0) [ true ↦ hostNumber (decide (l .state) block) | false ↦ l .number ]
     ]
+
+-- "Table as after the load"
+unfoldable pub hostTable : Bytes → List ℕ → List ℕ
+hostTable file words = tableAfter words (load file .state)

@@ -1,28 +1,41 @@
+-- The specification, in the order of document 01.
+
+-- Words that the definitions are written with, and the figures of the document.
 pub mod Notation
 pub mod Limits
+-- "The rights file"
 pub mod Bytes
-pub mod Names
-pub mod Attributes
-pub mod Atoms
 pub mod Keys
-pub mod Lines
+pub mod Attributes
 pub mod Declarations
+pub mod Names
+pub mod Atoms
+pub mod Lines
+pub mod State
+pub mod Load
+-- "Sets"
 pub mod Ties
 pub mod Effective
 pub mod Table
+-- "Edits"
+pub mod Edits
+-- "Policies"
 pub mod Tokens
 pub mod Grammar
-pub mod Truth
 pub mod Comparison
+pub mod Truth
 pub mod Meaning
-pub mod State
+-- "The pass block"
 pub mod Block
 pub mod Session
-pub mod Refusals
 pub mod Decision
-pub mod Load
-pub mod Edits
+-- "The ledger"
 pub mod Ledger
+-- "Numbers a caller may meet"
+pub mod Refusals
+-- "For C builds"
 pub mod Host
+-- "Office program"
 pub mod Gate
+-- "Valley cases"
 pub mod Valley
