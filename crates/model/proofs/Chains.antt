@@ -9,7 +9,8 @@ use lib.ListN.{length}
 use lib.Dec.{eqb}
 use borrow.Author.Tests.{eq-eqb, eqb-true, eqb-false}
 use Rattle.model.specs.Notation.{any, count}
-use Rattle.model.specs.Ties.{Ties, value, up, Above, one, more, Acyclic, ups, aboveWithin, isAbove, closesCircle}
+use Rattle.model.specs.Ties.{Ties, parent, member, value, added, up, Above, one, more, Acyclic, ups, aboveWithin, isAbove, closesCircle}
+use Rattle.model.proofs.Ties.{up-added}
 use Rattle.model.proofs.Lists.{_∈_, true-or-false, or-cases, or-left, or-right, or-none, any-in, in-any, in-filter, filter-in, count-le, count-more}
 
 -- each tie is one of the holders hs, up to one of them
@@ -128,3 +129,16 @@ fewer-acyclic T U f acyclic h c = acyclic h (lifted c)
     lifted : {g k : ℕ} → Above U g k → Above T g k
     lifted (one {g = g} {h = k} e) = one (f k g e)
     lifted (more {m = m} {h = k} e a) = more (f k m e) (lifted a)
+
+-- so a parent tie that closes no circle keeps ties acyclic
+pub parent-acyclic : (hs : List ℕ) (T : Ties) → Among hs T → Acyclic T → (c g : ℕ) → closesCircle hs T c g ≡ false → Acyclic (added (parent c g) T)
+parent-acyclic hs T a acyclic c g e =
+    still-acyclic T (added (parent c g) T) c g
+    (λ h m u. ⊎-elim inl (λ n. inr (⊎-elim (λ q. parts q) (λ q. differ q) n)) (up-added (parent c g) T h m u))
+    acyclic (no-circle hs T a acyclic c g e)
+  where
+    parts : {h m : ℕ} → parent c g ≡ parent h m → (h ≡ c) × (m ≡ g)
+    parts q = (cc, cc)
+
+    differ : {h m : ℕ} → parent c g ≡ member h m → (h ≡ c) × (m ≡ g)
+    differ q = let z : _≡_ {A = ℕ} 0 1 = cc in absurd (omega (arith, z))

@@ -27,8 +27,9 @@ use Rattle.model.proofs.Words.{none-is-some, false-is-true}
 use Rattle.model.proofs.Options.{bind-some, some-not}
 use Rattle.model.proofs.Tests.{none-holds}
 use Rattle.model.proofs.Lists.{true-or-false}
+use Rattle.model.proofs.Ties.{other-tie}
 use Rattle.model.proofs.Effective.{DifferAt, same-elsewhere}
-use Rattle.model.proofs.Standing.{Standing, empty-standing, after-standing, added-standing, removed-standing, tie-fits, other-tie}
+use Rattle.model.proofs.Standing.{Standing, empty-standing, after-standing, added-standing, removed-standing, tie-fits}
 
 -- a line that is not refused
 accepted-line : (S : State) (before : ℕ) (line : Bytes) (l : Line) → lineRefusal S before line ≡ 0 → lineOf line ≡ some l

@@ -20,8 +20,10 @@ pub mod Sound
 pub mod Complete
 pub mod Grammar
 pub mod Nesting
+pub mod Ties
 pub mod Chains
 pub mod Effective
 pub mod Tests
+pub mod Table
 pub mod Standing
 pub mod Ledger

@@ -23,7 +23,8 @@ use Rattle.model.specs.Refusals.{fits, undeclared, wrongSort, full, tieC
 use Rattle.model.proofs.Words.{none-is-some, false-is-true, same-word, reads-source, reads-sort, sorts}
 use Rattle.model.proofs.Options.{parts, bind-some, is-some, some-not}
 use Rattle.model.proofs.Lists.{_∈_, true-or-false, or-cases, or-left, or-right, or-none, nth-lt, nth-append, place-nth, below-in}
-use Rattle.model.proofs.Chains.{Among, first-tie, last-tie, AtOrAbove, still-acyclic, no-circle, fewer-acyclic}
+use Rattle.model.proofs.Ties.{added-cases, removed-stood, up-added}
+use Rattle.model.proofs.Chains.{Among, first-tie, last-tie, AtOrAbove, still-acyclic, parent-acyclic, fewer-acyclic}
 
 -- the sorts of two holders, the lower one's and the upper one's, by a rule of which sort stands above which
 pub record SortsFit (above : Sort → Option Sort) (D : Declarations) (lower upper : ℕ) : Type 0 where
@@ -116,35 +117,6 @@ tie-fits D (rule o ts) t e w = none-is-some e
 
 -- ---- a tie more, and one less
 
-same-tie : (t u : Tie) → sameTie t u ≡ true → t ≡ u
-same-tie (Tie.parent a b) (Tie.parent c d) e = ap₂ Tie.parent (eqb-true a c (parts (eqb a c) (eqb b d) e .0)) (eqb-true b d (parts (eqb a c) (eqb b d) e .1))
-same-tie (Tie.parent a b) (Tie.member c d) e = false-is-true e
-same-tie (Tie.parent a b) (Tie.value c d) e = false-is-true e
-same-tie (Tie.member a b) (Tie.parent c d) e = false-is-true e
-same-tie (Tie.member a b) (Tie.member c d) e = ap₂ Tie.member (eqb-true a c (parts (eqb a c) (eqb b d) e .0)) (eqb-true b d (parts (eqb a c) (eqb b d) e .1))
-same-tie (Tie.member a b) (Tie.value c d) e = false-is-true e
-same-tie (Tie.value a b) (Tie.parent c d) e = false-is-true e
-same-tie (Tie.value a b) (Tie.member c d) e = false-is-true e
-same-tie (Tie.value a b) (Tie.value c d) e = ap₂ Tie.value (eqb-true a c (parts (eqb a c) (eqb b d) e .0)) (eqb-true b d (parts (eqb a c) (eqb b d) e .1))
-
--- a tie of another holder is another tie
-pub other-tie : (t u : Tie) → (edited u ≡ edited t → ⊥) → sameTie t u ≡ false
-other-tie t u n = ⊎-elim (λ e. absurd (n (ap edited (sym (same-tie t u e))))) (λ e. e) (true-or-false (sameTie t u))
-
-added-cases : (t : Tie) (T : Ties) (u : Tie) → added t T u ≡ true → (t ≡ u) ⊎ (T u ≡ true)
-added-cases t T u e = ⊎-elim (λ s. inl (same-tie t u s)) inr (or-cases (sameTie t u) (T u) e)
-
-removed-stood : (t : Tie) (T : Ties) (u : Tie) → removed t T u ≡ true → T u ≡ true
-removed-stood t T u e = parts (not (sameTie t u)) (T u) e .1
-
--- a tie up among those with one more stood before, or is the new one
-up-added : (t : Tie) (T : Ties) (h g : ℕ) → up (added t T) h g ≡ true → (up T h g ≡ true) ⊎ ((t ≡ Tie.parent h g) ⊎ (t ≡ Tie.member h g))
-up-added t T h g e =
-    ⊎-elim
-    (λ a. ⊎-elim (λ q. inr (inl q)) (λ q. inl (or-left (T (Tie.parent h g)) (T (Tie.member h g)) q)) (added-cases t T (Tie.parent h g) a))
-    (λ a. ⊎-elim (λ q. inr (inr q)) (λ q. inl (or-right (T (Tie.parent h g)) (T (Tie.member h g)) q)) (added-cases t T (Tie.member h g) a))
-    (or-cases (added t T (Tie.parent h g)) (added t T (Tie.member h g)) e)
-
 -- the ties of a standing state are among its holders
 module _ {S : State} (standing : Standing S) where
   in-holders : (k : ℕ) {s : Sort} → sortOf (S .declared) k ≡ some s → k ∈ holderNumbersOf (S .declared)
@@ -196,16 +168,7 @@ module _ {S : State} (standing : Standing S) where
   -- the ties with one more are acyclic
   added-acyclic : (t : Tie) → TieFits (S .declared) t → tieCloses (holderNumbersOf (S .declared)) (S .ties) t ≡ false → Acyclic (added t (S .ties))
   added-acyclic (Tie.parent c g) f e =
-      still-acyclic (S .ties) (added (Tie.parent c g) (S .ties)) c g
-      (λ h m u. ⊎-elim inl (λ n. inr (⊎-elim (λ q. parts q) (λ q. differ q) n)) (up-added (Tie.parent c g) (S .ties) h m u))
-      (standing .acyclic)
-      (no-circle (holderNumbersOf (S .declared)) (S .ties) (among standing) (standing .acyclic) c g e)
-    where
-      parts : {h m : ℕ} → Tie.parent c g ≡ Tie.parent h m → (h ≡ c) × (m ≡ g)
-      parts q = (cc, cc)
-
-      differ : {h m : ℕ} → Tie.parent c g ≡ Tie.member h m → (h ≡ c) × (m ≡ g)
-      differ q = let z : _≡_ {A = ℕ} 0 1 = cc in absurd (omega (arith, z))
+      parent-acyclic (holderNumbersOf (S .declared)) (S .ties) (among standing) (standing .acyclic) c g e
   added-acyclic (Tie.member p g) f e =
       still-acyclic (S .ties) (added (Tie.member p g) (S .ties)) p g
       (λ h m u. ⊎-elim inl (λ n. inr (⊎-elim (λ q. differ q) (λ q. parts q) n)) (up-added (Tie.member p g) (S .ties) h m u))

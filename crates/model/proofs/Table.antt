@@ -1,0 +1,42 @@
+-- The table of a state has 1,024 words, and that of the empty state is all 0. Assumes nothing.
+use Prim.Native.Nat.{ℕ, zero, suc, _+_, _*_}
+use mathlib.Core.Path.{_≡_, refl, ap, _∙_}
+use mathlib.Core.Bool.{Bool, true, false}
+use mathlib.Core.List.{List, [], _∷_, _++_}
+use native.Mathlib.Omega.{arith}
+use native.Mathlib.Nat.{mul-suc}
+use lib.ListN.{length, length-append, replicate}
+use lib.Dec.{ltb}
+use Rattle.model.specs.Notation.{each, below}
+use Rattle.model.specs.Limits.{tableWords, setWords, holderNumbers}
+use Rattle.model.specs.Declarations.{Declarations, nothingDeclared}
+use Rattle.model.specs.Ties.{Ties, noTies}
+use Rattle.model.specs.Table.{wordsOf, effectiveSet, storedSet, table}
+use Rattle.model.proofs.Computing.{computing}
+use Rattle.model.proofs.Lists.{length-below}
+
+pub set-length : (D : Declarations) (T : Ties) (k : ℕ) → length (storedSet D T k) ≡ setWords
+unfolding storedSet wordsOf
+set-length D T k = go (ltb k (length (D .holders)))
+  where
+    go : (b : Bool) → length {A = ℕ} (elim b as (λ _. List ℕ) [ true ↦ wordsOf (effectiveSet D T k) | false ↦ replicate setWords 0 ]) ≡ setWords
+    go true = refl
+    go false = refl
+
+-- lists of one length, one after another
+each-length : {A B : Type 0} (f : A → List B) (n : ℕ) (xs : List A) → ((x : A) → length (f x) ≡ n) → length (each f xs) ≡ n * length xs
+each-length f n [] e = omega arith
+each-length f n (x ∷ xs) e = length-append (f x) (each f xs) ∙ more (length (f x)) (length (each f xs)) (length xs) (e x) (each-length f n xs e)
+  where
+    more : (a b k : ℕ) → a ≡ n → b ≡ n * k → a + b ≡ n * suc k
+    more a b k p q = omega (arith, mul-suc n k)
+
+-- "The lent table has exactly 1,024 words"
+pub table-length : (D : Declarations) (T : Ties) → length (table D T) ≡ tableWords
+unfolding table
+table-length D T = each-length (storedSet D T) setWords (below holderNumbers) (set-length D T) ∙ ap (λ (n : ℕ). setWords * n) (length-below holderNumbers)
+
+-- "Book empty, table all 0"
+pub empty-table : table nothingDeclared noTies ≡ replicate tableWords 0
+unfolding computing
+empty-table = refl
