@@ -1,14 +1,14 @@
 -- Chains of ties: what is above is found by climbing, and ties stay acyclic where a new one closes no circle. Assumes nothing.
 use Prim.Native.Nat.{ℕ, zero, suc, _+_, _≤_, _<_}
-use mathlib.Core.Path.{_≡_, refl, sym, ap, subst, _∙_}
+use mathlib.Core.Path.{_≡_, refl, sym, subst, _∙_}
 use mathlib.Core.Logic.{_⊎_, inl, inr, ⊎-elim, _↔_}
 use mathlib.Core.Bool.{Bool, true, false, _||_, true≢false}
 use mathlib.Core.List.{List}
 use native.Mathlib.Omega.{arith}
 use lib.ListN.{length}
 use lib.Dec.{eqb}
-use borrow.Author.Tests.{eq-eqb, eqb-true, eqb-false}
-use Rattle.model.specs.Notation.{any, count}
+use borrow.Author.Tests.{eq-eqb, eqb-true}
+use Rattle.model.specs.Notation.{count}
 use Rattle.model.specs.Ties.{Ties, parent, member, value, added, up, Above, one, more, Acyclic, ups, aboveWithin, isAbove, closesCircle}
 use Rattle.model.proofs.Ties.{up-added}
 use Rattle.model.proofs.Lists.{_∈_, true-or-false, or-cases, or-left, or-right, or-none, any-in, in-any, in-filter, filter-in, count-le, count-more}

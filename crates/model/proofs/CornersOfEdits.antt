@@ -1,7 +1,7 @@
 -- Corners of edits: number and count. The letters name the decisions in docs/DECISIONS.md. By computation; assumes nothing.
 use Prim.Native.Nat.{ℕ}
 use Prim.Native.String.{String}
-use mathlib.Core.Path.{_≡_, refl}
+use mathlib.Core.Path.{refl}
 use mathlib.Core.List.{List, [], _∷_, _++_}
 use lib.ListN.{replicate}
 use Rattle.model.specs.Bytes.{Bytes, bytes}

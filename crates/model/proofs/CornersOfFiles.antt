@@ -1,10 +1,10 @@
 -- Corners of files: what a load answers, number and line. The letters name the decisions in docs/DECISIONS.md. By computation; assumes nothing.
 use Prim.Native.Nat.{ℕ}
 use Prim.Native.String.{String}
-use mathlib.Core.Path.{_≡_, refl}
+use mathlib.Core.Path.{refl}
 use mathlib.Core.List.{List, [], _∷_, _++_}
 use lib.ListN.{replicate}
-use Rattle.model.specs.Notation.{map, each, below}
+use Rattle.model.specs.Notation.{each, below}
 use Rattle.model.specs.Bytes.{Bytes, bytes}
 use Rattle.model.specs.Atoms.{decimal}
 use Rattle.model.specs.Load.{load}

@@ -1,9 +1,9 @@
 -- Corners of policies: the refusal (6 or 7) or the value of a text. The letters name the decisions in docs/DECISIONS.md. By computation; assumes nothing.
 use Prim.Native.Nat.{ℕ}
 use Prim.Native.String.{String}
-use mathlib.Core.Path.{_≡_, refl}
-use mathlib.Core.Bool.{Bool, true, false}
-use mathlib.Core.List.{List, [], _∷_, _++_}
+use mathlib.Core.Path.{refl}
+use mathlib.Core.Bool.{true, false}
+use mathlib.Core.List.{List, [], _∷_}
 use mathlib.Core.Option.{Option, none, some}
 use Rattle.model.specs.Notation.{if_then_else_, _>>=_}
 use Rattle.model.specs.Bytes.{Bytes, bytes, same}

@@ -1,11 +1,9 @@
 -- Corners of pass blocks, of tables of another length and of the C call. The letters name the decisions in docs/DECISIONS.md. By computation; assumes nothing.
 use Prim.Native.Nat.{ℕ}
-use Prim.Native.String.{String}
-use mathlib.Core.Path.{_≡_, refl}
-use mathlib.Core.List.{List, [], _∷_, _++_}
+use mathlib.Core.Path.{refl}
+use mathlib.Core.List.{List, [], _∷_}
 use lib.ListN.{replicate}
 use Rattle.model.specs.Bytes.{Bytes, bytes}
-use Rattle.model.specs.State.{State, empty}
 use Rattle.model.specs.Load.{load}
 use Rattle.model.specs.Decision.{Decision, permit, deny, undefined, refused, decide}
 use Rattle.model.specs.Ledger.{Call, Answer, loaded, edited, decided, step}

@@ -2,12 +2,12 @@
 -- edited holder and those below it alone. Assumes nothing.
 use Prim.Native.Nat.{ℕ, zero, suc}
 use mathlib.Core.Path.{_≡_, refl, sym, ap, ap₂, subst, _∙_}
-use mathlib.Core.Logic.{_⊎_, inl, inr, ⊎-elim, _↔_}
-use mathlib.Core.Bool.{Bool, true, false, _||_, true≢false}
+use mathlib.Core.Logic.{⊎-elim, _↔_}
+use mathlib.Core.Bool.{Bool, true, _||_, true≢false}
 use mathlib.Core.List.{List}
 use lib.ListN.{length}
-use Rattle.model.specs.Notation.{any, filter}
-use Rattle.model.specs.Ties.{Tie, Ties, parent, member, value, edited, up, Above, one, more, Below, Acyclic, ups}
+use Rattle.model.specs.Notation.{any}
+use Rattle.model.specs.Ties.{Tie, Ties, parent, member, value, edited, up, one, more, Below, Acyclic, ups}
 use Rattle.model.specs.Effective.{direct, effectiveWithin, effective, Has, own, inherited}
 use Rattle.model.proofs.Lists.{_∈_, same-truth, or-cases, or-left, or-right, any-in, in-any, any-ext, filter-ext, in-filter, filter-in}
 use Rattle.model.proofs.Chains.{Among, Depth, acyclic-depth}

@@ -1,32 +1,27 @@
 -- The ledger: every state that calls leave is standing; a refused edit and a request change nothing; an edit changes the sets of the edited
 -- holder and those below it alone. Assumes nothing.
-use Prim.Native.Nat.{ℕ, suc, _<_}
-use mathlib.Core.Path.{_≡_, refl, sym, ap, subst, _∙_}
-use mathlib.Core.Logic.{_⊎_, inl, inr, ⊎-elim}
+use Prim.Native.Nat.{ℕ, suc}
+use mathlib.Core.Path.{_≡_, refl, sym, ap}
 use mathlib.Core.Bool.{Bool, true, false, _&&_, _||_, not, true≢false}
 use mathlib.Core.List.{List, [], _∷_}
 use mathlib.Core.Option.{Option, none, some}
-use native.Mathlib.Omega.{arith}
-use lib.ListN.{length}
 use lib.Dec.{eqb}
 use borrow.Author.Tests.{eqb-true, eqb-false}
 use Rattle.model.specs.Notation.{if_then_else_, _>>=_, _or-else_, _is_, isNone}
 use Rattle.model.specs.Bytes.{Bytes, linesOf}
 use Rattle.model.specs.Lines.{Line}
 use Rattle.model.specs.Declarations.{holderNumbersOf}
-use Rattle.model.specs.Ties.{Tie, Ties, edited, sameTie, added, removed, Below}
+use Rattle.model.specs.Ties.{Tie, Ties, edited, added, removed, Below}
 use Rattle.model.specs.Effective.{effective}
-use Rattle.model.specs.State.{State, empty, tieOf, after}
-use Rattle.model.specs.Refusals.{Test, _if_, first, tooLong, wrongFirstLine, wrongTable, lineOf, framed, lineTests, lineRefusal, undeclared, wrongSort, repeated, full, tieCloses, circular, plusLine, minusLine, signedLine, unframed, otherKey, malformed, notStanding, editTests, editRefusal}
+use Rattle.model.specs.State.{State, empty, tieOf}
+use Rattle.model.specs.Refusals.{_if_, tooLong, wrongFirstLine, wrongTable, lineOf, framed, lineTests, lineRefusal, wrongSort, full, tieCloses, circular, plusLine, minusLine, signedLine, editTests, editRefusal}
 use Rattle.model.specs.Load
 use Rattle.model.specs.Load.{Loaded, readOn, stepped, rankOf, refusedAt, otherLines}
 use Rattle.model.specs.Edits
 use Rattle.model.specs.Edits.{Edited, editedTie, adds, editedTies, accepting, refusing}
-use Rattle.model.specs.Ledger.{Call, step, tableAfter, withTable, withoutTable}
-use Rattle.model.proofs.Words.{none-is-some, false-is-true}
+use Rattle.model.specs.Ledger.{Call, step, withTable, withoutTable}
 use Rattle.model.proofs.Options.{bind-some, some-not}
 use Rattle.model.proofs.Tests.{none-holds}
-use Rattle.model.proofs.Lists.{true-or-false}
 use Rattle.model.proofs.Ties.{other-tie}
 use Rattle.model.proofs.Effective.{DifferAt, same-elsewhere}
 use Rattle.model.proofs.Standing.{Standing, empty-standing, after-standing, added-standing, removed-standing, tie-fits}

@@ -1,28 +1,28 @@
 -- What holds of every state: ties are acyclic and between declared holders and pairs. A line or an edit that is accepted keeps it so.
 -- Assumes nothing.
-use Prim.Native.Nat.{ℕ, suc, _+_, _≤_, _<_}
-use mathlib.Core.Path.{_≡_, refl, sym, ap, ap₂, subst, _∙_}
+use Prim.Native.Nat.{ℕ, _≤_, _<_}
+use mathlib.Core.Path.{_≡_, refl, sym, ap, subst, _∙_}
 use mathlib.Core.Logic.{_⊎_, inl, inr, ⊎-elim}
-use mathlib.Core.Bool.{Bool, true, false, _&&_, _||_, not, true≢false}
+use mathlib.Core.Bool.{true, false, _&&_, true≢false}
 use mathlib.Core.List.{List, [], _∷_, _++_}
 use mathlib.Core.Option.{Option, none, some, Option·some-injective}
 use native.Mathlib.Omega.{arith}
 use lib.ListN.{length, length-append}
-use lib.Dec.{eqb, leb}
-use borrow.Author.Tests.{eqb-true, leb-false, not-false, not-true}
-use Rattle.model.specs.Notation.{_>>=_, _is_, isNone, place, nth}
+use lib.Dec.{leb}
+use borrow.Author.Tests.{leb-false, not-false}
+use Rattle.model.specs.Notation.{_>>=_, _is_, nth}
 use Rattle.model.specs.Limits.{holderNumbers, pairLimit}
 use Rattle.model.specs.Bytes.{Bytes, same}
-use Rattle.model.specs.Attributes.{Source, sourceWord, sources, sameSource}
+use Rattle.model.specs.Attributes.{sourceWord, sources, sameSource}
 use Rattle.model.specs.Atoms.{Atom, sameAtom}
 use Rattle.model.specs.Lines.{Line, attr, op, atom, holder, parent, member, value, rule}
-use Rattle.model.specs.Declarations.{Declarations, Pair, Holder, Sort, sortWord, isSort, isNamed, holderNumber, sortOf, sourceFor, parentSort, groupSort, pairNumber, holderNumbersOf, isGroup, nothingDeclared}
-use Rattle.model.specs.Ties.{Tie, Ties, edited, sameTie, added, removed, up, closesCircle, Acyclic, Above, one, more}
-use Rattle.model.specs.State.{State, empty, tieOf, declare, tied, after}
-use Rattle.model.specs.Refusals.{fits, undeclared, wrongSort, full, tieCloses, circular}
+use Rattle.model.specs.Declarations.{Declarations, Pair, Holder, Sort, sortWord, isSort, isNamed, holderNumber, sortOf, sourceFor, parentSort, groupSort, pairNumber, holderNumbersOf, isGroup}
+use Rattle.model.specs.Ties.{Tie, Ties, added, removed, up, Acyclic}
+use Rattle.model.specs.State.{State, empty, tieOf, tied, after}
+use Rattle.model.specs.Refusals.{fits, wrongSort, full, tieCloses, circular}
 use Rattle.model.proofs.Words.{none-is-some, false-is-true, same-word, reads-source, reads-sort, sorts}
-use Rattle.model.proofs.Options.{parts, bind-some, is-some, some-not}
-use Rattle.model.proofs.Lists.{_∈_, true-or-false, or-cases, or-left, or-right, or-none, nth-lt, nth-append, place-nth, below-in}
+use Rattle.model.proofs.Options.{parts, bind-some, is-some}
+use Rattle.model.proofs.Lists.{_∈_, or-cases, or-left, or-right, or-none, nth-lt, nth-append, place-nth, below-in}
 use Rattle.model.proofs.Ties.{added-cases, removed-stood, up-added}
 use Rattle.model.proofs.Chains.{Among, first-tie, last-tie, AtOrAbove, still-acyclic, parent-acyclic, fewer-acyclic}
 

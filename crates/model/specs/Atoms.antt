@@ -1,8 +1,9 @@
 -- ATOM: numbers, strings and truth values.
 use Prim.Native.Nat.{ℕ, zero, suc, _+_, _-_, _*_, _/_, _%_}
+use Prim.Native.Char.{code}
 use mathlib.Core.Bool.{Bool, true, false, _&&_, not}
-use mathlib.Core.List.{List, [], _∷_, _++_}
-use mathlib.Core.Option.{Option, none, some}
+use mathlib.Core.List.{[], _∷_, _++_}
+use mathlib.Core.Option.{Option, some}
 use lib.ListN.{length}
 use lib.Dec.{eqb, leb, ltb}
 use Rattle.model.specs.Notation.{_>>=_, _or-else_, onlyIf, isEmpty, all}
@@ -24,7 +25,7 @@ typeOf (bool b) = AtomType.bool
 -- the number that decimal digits write, read on from a
 abbrev pub numberFrom : ℕ → Bytes → ℕ
 numberFrom a [] = a
-numberFrom a (x ∷ xs) = numberFrom (a * 10 + (x - 48)) xs
+numberFrom a (x ∷ xs) = numberFrom (a * 10 + (x - code "0")) xs
 
 -- "without leading zeros": no zero at the front, unless it stands alone
 abbrev pub noLeadingZero : Bytes → Bool
@@ -40,7 +41,7 @@ readInt s =
 -- the decimal digits of a number below 10 to the power of the first argument
 abbrev pub digitsWithin : ℕ → ℕ → Bytes
 digitsWithin zero n = []
-digitsWithin (suc f) n = elim (ltb n 10) [ true ↦ (48 + n) ∷ [] | false ↦ digitsWithin f (n / 10) ++ (48 + n % 10) ∷ [] ]
+digitsWithin (suc f) n = elim (ltb n 10) [ true ↦ (code "0" + n) ∷ [] | false ↦ digitsWithin f (n / 10) ++ (code "0" + n % 10) ∷ [] ]
 
 unfoldable pub decimal : ℕ → Bytes
 decimal n = digitsWithin (suc n) n

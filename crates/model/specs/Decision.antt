@@ -7,7 +7,6 @@ use lib.Dec.{eqb}
 use Rattle.model.specs.Notation.{if_then_else_, _is_, any, map, filter, numbered, nth}
 use Rattle.model.specs.Bytes.{Bytes, same}
 use Rattle.model.specs.Truth.{Truth}
-use Rattle.model.specs.Declarations.{Rule}
 use Rattle.model.specs.State.{State}
 use Rattle.model.specs.Meaning.{meaningOf}
 use Rattle.model.specs.Block.{Block, readBlock}

@@ -4,7 +4,7 @@ use mathlib.Core.Bool.{Bool, true, false, _&&_}
 use mathlib.Core.List.{List, [], _∷_}
 use mathlib.Core.Option.{Option, none, some}
 use lib.ListN.{length}
-use Rattle.model.specs.Notation.{_>>=_, _is_, place, nth, count, below}
+use Rattle.model.specs.Notation.{_>>=_, place, nth, count, below}
 use Rattle.model.specs.Bytes.{Bytes, bytes, same}
 use Rattle.model.specs.Attributes.{Source, AtomType, sameSource}
 use Rattle.model.specs.Atoms.{Atom, sameAtom}

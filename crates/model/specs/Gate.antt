@@ -1,13 +1,14 @@
 -- The office program: what it prints for an input.
 use Prim.Native.Nat.{ℕ, _+_, _*_, _-_}
-use mathlib.Core.Bool.{Bool, true, false, _||_, _&&_, not}
+use Prim.Native.Char.{code}
+use mathlib.Core.Bool.{Bool, true, false}
 use mathlib.Core.List.{List, [], _∷_, _++_}
 use mathlib.Core.Option.{Option, none, some}
 use lib.ListN.{length}
 use lib.Dec.{ltb}
-use Rattle.model.specs.Notation.{if_then_else_, _>>=_, _or-else_, isNone, onlyIf, each, map}
+use Rattle.model.specs.Notation.{_>>=_, _or-else_, onlyIf, map}
 use Rattle.model.specs.Limits.{inputBytes, tableWords}
-use Rattle.model.specs.Bytes.{Bytes, bytes, newline, same, behind, linesOf, content, inRange}
+use Rattle.model.specs.Bytes.{Bytes, bytes, same, behind, linesOf, content, inRange}
 use Rattle.model.specs.Atoms.{decimal}
 use Rattle.model.specs.State.{State, empty}
 use Rattle.model.specs.Refusals.{signedLine}
@@ -33,7 +34,7 @@ commandsOf (l ∷ ls) = elim (isEnd l) [ true ↦ ls | false ↦ commandsOf ls ]
 
 -- "lower-case hex": the value of a digit
 abbrev pub hexDigit : ℕ → Option ℕ
-hexDigit b = onlyIf (inRange "0" "9" b) (b - 48) or-else onlyIf (inRange "a" "f" b) (b - 87)
+hexDigit b = onlyIf (inRange "0" "9" b) (b - code "0") or-else onlyIf (inRange "a" "f" b) (10 + (b - code "a"))
 
 -- "the block in lower-case hex pairs"
 unfoldable pub hexPairs : Bytes → Option Bytes

@@ -1,10 +1,9 @@
 -- The call for hosts in C.
 use Prim.Native.Nat.{ℕ}
-use mathlib.Core.Bool.{Bool, true, false}
+use mathlib.Core.Bool.{true, false}
 use mathlib.Core.List.{List}
 use lib.Dec.{eqb}
 use Rattle.model.specs.Bytes.{Bytes}
-use Rattle.model.specs.State.{State}
 use Rattle.model.specs.Refusals.{wrongTable}
 use Rattle.model.specs.Load.{load}
 use Rattle.model.specs.Ledger.{tableAfter}

@@ -1,6 +1,5 @@
 -- The eleven keys of lines.
 use Prim.Native.Nat.{ℕ}
-use mathlib.Core.Bool.{Bool}
 use mathlib.Core.List.{List, [], _∷_}
 use mathlib.Core.Option.{Option}
 use Rattle.model.specs.Bytes.{Bytes, bytes, oneOf}

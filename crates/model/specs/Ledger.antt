@@ -1,6 +1,5 @@
 -- The ledger: answers and tables of a list of calls, worked out from the calls alone.
 use Prim.Native.Nat.{ℕ}
-use mathlib.Core.Bool.{Bool, true, false}
 use mathlib.Core.List.{List, [], _∷_}
 use lib.ListN.{length}
 use Rattle.model.specs.Notation.{if_then_else_}

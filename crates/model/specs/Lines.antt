@@ -1,13 +1,13 @@
 -- The lines `key=fields`, read from bytes and written as bytes.
 use mathlib.Core.Bool.{Bool, _&&_, not}
-use mathlib.Core.List.{List, [], _∷_, _++_}
+use mathlib.Core.List.{List, _++_}
 use mathlib.Core.Option.{Option, some}
 use Rattle.model.specs.Notation.{_>>=_, isNone, each}
 use Rattle.model.specs.Bytes.{Bytes, bytes, cutAt}
 use Rattle.model.specs.Names.{isName, readName}
 use Rattle.model.specs.Attributes.{Source, AtomType, sourceWord, typeWord, readSource, readType}
 use Rattle.model.specs.Atoms.{Atom, readAtom, writeAtom, isAtom}
-use Rattle.model.specs.Keys.{Key, keyWord, readKey}
+use Rattle.model.specs.Keys.{Key, readKey}
 use Rattle.model.specs.Tokens.{Token, spelling, tokensOf}
 use Rattle.model.specs.Grammar.{readPolicy}
 use Rattle.model.specs.Declarations.{Sort, sortWord, isSort}

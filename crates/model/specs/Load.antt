@@ -1,6 +1,6 @@
 -- A load: a file read as its lines one after another.
 use Prim.Native.Nat.{ℕ, suc}
-use mathlib.Core.Bool.{Bool, true, false}
+use mathlib.Core.Bool.{true, false}
 use mathlib.Core.List.{List, [], _∷_}
 use mathlib.Core.Option.{Option, none, some}
 use lib.Dec.{eqb}
@@ -8,7 +8,7 @@ use Rattle.model.specs.Bytes.{Bytes, linesOf}
 use Rattle.model.specs.Keys.{Key, rank}
 use Rattle.model.specs.Lines.{Line}
 use Rattle.model.specs.State.{State, empty, after}
-use Rattle.model.specs.Refusals.{Test, _if_, first, tooLong, wrongFirstLine, framed, lineOf, lineRefusal}
+use Rattle.model.specs.Refusals.{tooLong, wrongFirstLine, framed, lineOf, lineRefusal}
 
 -- the number of the answer, its line, and the state it leaves
 pub record Loaded : Type 0 where

@@ -2,19 +2,19 @@
 use Prim.Native.Nat.{ℕ}
 use mathlib.Core.Bool.{Bool, true, false, _&&_, _||_, not}
 use mathlib.Core.List.{List, [], _∷_}
-use mathlib.Core.Option.{Option, none, some}
+use mathlib.Core.Option.{Option}
 use lib.ListN.{length}
 use lib.Dec.{eqb, leb, ltb}
 use Rattle.model.specs.Notation.{_>>=_, _or-else_, _is_, isNone, onlyIf, any, all, nth, below}
 use Rattle.model.specs.Limits.{fileBytes, lineBytes, attributeLimit, operationLimit, pairLimit, ruleLimit, holderNumbers, groupLimit, tableWords, maskBits}
-use Rattle.model.specs.Bytes.{Bytes, bytes, content, behind, linesOf, same}
+use Rattle.model.specs.Bytes.{Bytes, bytes, content, behind}
 use Rattle.model.specs.Attributes.{Source, AtomType, fromBlock, sameType, sameSource}
-use Rattle.model.specs.Atoms.{Atom, typeOf}
+use Rattle.model.specs.Atoms.{typeOf}
 use Rattle.model.specs.Keys.{Key, rank}
 use Rattle.model.specs.Lines.{Line, attr, op, atom, holder, parent, member, value, rule, readKeyed, readFields}
 use Rattle.model.specs.Tokens.{Token}
 use Rattle.model.specs.Grammar.{readPolicy, tooLarge}
-use Rattle.model.specs.Declarations.{Declarations, Attribute, Sort, isSort, isGroup, groups, parentSort, groupSort, sortOf, attributeNumber, attributeOf, operationNumber, pairNumber, holderNumber, holderNumbersOf}
+use Rattle.model.specs.Declarations.{Declarations, Sort, isSort, isGroup, groups, parentSort, groupSort, sortOf, attributeNumber, attributeOf, operationNumber, pairNumber, holderNumber, holderNumbersOf}
 use Rattle.model.specs.Ties.{Tie, Ties, closesCircle}
 use Rattle.model.specs.State.{State, tieOf}
 use Rattle.model.specs.Block.{Block, Entry, readBlock, activated}

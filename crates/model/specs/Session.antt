@@ -1,6 +1,5 @@
 -- The values that each attribute has for a request.
 use Prim.Native.Nat.{ℕ}
-use mathlib.Core.Bool.{Bool, true, false, _&&_}
 use mathlib.Core.List.{List, [], _∷_}
 use mathlib.Core.Option.{Option, none, some}
 use lib.Dec.{eqb}
@@ -8,10 +7,10 @@ use Rattle.model.specs.Notation.{if_then_else_, _is_, map, each, filter,
 use Rattle.model.specs.Bytes.{Bytes}
 use Rattle.model.specs.Attributes.{Source, AtomType}
 use Rattle.model.specs.Atoms.{Atom}
-use Rattle.model.specs.Declarations.{Declarations, Attribute, Pair, isNamed, attributeNumber}
+use Rattle.model.specs.Declarations.{Attribute, Pair, isNamed, attributeNumber}
 use Rattle.model.specs.Table.{effectiveSet}
 use Rattle.model.specs.State.{State}
-use Rattle.model.specs.Block.{Block, Entry, activated}
+use Rattle.model.specs.Block.{Block, activated}
 use Rattle.model.specs.Meaning.{Values}
 
 -- the effective pairs of holder k

@@ -1,5 +1,5 @@
 -- The state that lines and edits change.
-use mathlib.Core.List.{List, [], _∷_, _++_}
+use mathlib.Core.List.{[], _∷_, _++_}
 use mathlib.Core.Option.{Option, none, some}
 use Rattle.model.specs.Notation.{_>>=_}
 use Rattle.model.specs.Lines.{Line, attr, op, atom, holder, parent, member, value, rule}

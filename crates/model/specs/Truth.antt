@@ -1,6 +1,5 @@
 -- Kleene's three-valued logic K3.
 use mathlib.Core.Bool.{Bool, true, false}
-use mathlib.Core.List.{List, [], _∷_}
 use Rattle.model.specs.Bytes.{Bytes, bytes}
 
 pub data Truth : Type 0 where
