@@ -1,0 +1,17 @@
+-- `bits::has` meets its contract: the code's test is the bit. Assumes nothing.
+use Rattle.bits.proofs.Bits.{bit-test}
+use borrow.Author.Needs.{needs}
+use Rattle.bits.proofs.has.Statement.{statement}
+use native.Mathlib.Omega.{arith}
+use Rattle.bits.proofs.has.Tie as tie
+use Rattle.bits.proofs.has.Reads as reads
+use Rattle.bits.proofs.has.Lts as lts
+
+shr-result : tie.Need-shr-result
+shr-result c = search needs
+
+returns : tie.Need-returns
+returns c = bit-test (c .args .w) (c .args .i)
+
+pub has-spec : {M : Type 1} → statement M
+has-spec = tie.close (tie.spec shr-result returns)

@@ -1,0 +1,17 @@
+-- `bits::with` meets its contract. Assumes nothing.
+use Rattle.bits.proofs.Bits.{bit-with}
+use borrow.Author.Needs.{needs}
+use Rattle.bits.proofs.with.Statement.{statement}
+use native.Mathlib.Omega.{arith}
+use Rattle.bits.proofs.with.Tie as tie
+use Rattle.bits.proofs.with.Reads as reads
+use Rattle.bits.proofs.with.Lts as lts
+
+shl-result : tie.Need-shl-result
+shl-result c = search needs
+
+returns : tie.Need-returns
+returns c j = bit-with (c .args .w) (c .args .i) j (c .pre)
+
+pub with-spec : {M : Type 1} → statement M
+with-spec = tie.close (tie.spec shl-result returns)

@@ -1,0 +1,17 @@
+-- `bits::without` meets its contract. Assumes nothing.
+use Rattle.bits.proofs.Bits.{bit-without}
+use borrow.Author.Needs.{needs}
+use Rattle.bits.proofs.without.Statement.{statement}
+use native.Mathlib.Omega.{arith}
+use Rattle.bits.proofs.without.Tie as tie
+use Rattle.bits.proofs.without.Reads as reads
+use Rattle.bits.proofs.without.Lts as lts
+
+shl-result : tie.Need-shl-result
+shl-result c = search needs
+
+returns : tie.Need-returns
+returns c j = bit-without (c .args .w) (c .args .i) j (c .fits .w .fits) (c .pre)
+
+pub without-spec : {M : Type 1} → statement M
+without-spec = tie.close (tie.spec shl-result returns)

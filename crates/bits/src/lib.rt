@@ -1,0 +1,114 @@
+// Sets of numbers in words of 64 bits: number p is bit p % 64, 0 the lowest, of word p / 64. Masks and shifts test, set, clear and join them.
+ghost use mathlib.Core.Path.{_≡_};
+ghost use mathlib.Core.Bool.{_||_, _&&_, not};
+ghost use Prim.Native.Nat.{ℕ, _*_, _<_, _≤_};
+ghost use lib.Dec.{eqb};
+ghost use lib.ListN.{length};
+ghost use Rattle.bits.specs.Bits.{bit, member, Bits, Numbers, differ, countBelow};
+
+// Whether bit i of w is set.
+pub fn has(w: u64, i: usize) -> bool
+    requires { ⌜ i < 64 ⌝ }
+    ensures { λ r. ⌜ r ≡ bit w i ⌝ }
+{
+    (w >> i) & 1 == 1
+}
+
+// w with bit i set.
+pub fn with(w: u64, i: usize) -> u64
+    requires { ⌜ i < 64 ⌝ }
+    ensures { λ r. ⌜ Bits r (λ j. bit w j || eqb j i) ⌝ }
+{
+    w | (1 << i)
+}
+
+// w with bit i clear.
+pub fn without(w: u64, i: usize) -> u64
+    requires { ⌜ i < 64 ⌝ }
+    ensures { λ r. ⌜ Bits r (λ j. bit w j && not (eqb j i)) ⌝ }
+{
+    w & !(1 << i)
+}
+
+// Whether a set holds p.
+pub fn contains(set: &[u64], p: usize) -> bool
+    requires { ⌜ p < 64 * length (now set) ⌝ }
+    ensures { λ r. ⌜ r ≡ member (now (set .entry)) p ⌝ }
+{
+    let word = set[p / 64];
+    has(word, p % 64)
+}
+
+// Puts p into a set.
+pub fn insert(set: &mut [u64], p: usize)
+    requires { ⌜ p < 64 * length (now set) ⌝ }
+    ensures { λ _. ⌜ ((q : ℕ) → member (now (set .exit)) q ≡ (member (now (set .entry)) q || eqb q p)) ⌝ }
+{
+    let at = p / 64;
+    let word = set[at];
+    let next = with(word, p % 64);
+    set[at] = next;
+}
+
+// Takes p out of a set.
+pub fn remove(set: &mut [u64], p: usize)
+    requires { ⌜ p < 64 * length (now set) ⌝ }
+    ensures { λ _. ⌜ ((q : ℕ) → member (now (set .exit)) q ≡ (member (now (set .entry)) q && not (eqb q p))) ⌝ }
+{
+    let at = p / 64;
+    let word = set[at];
+    let next = without(word, p % 64);
+    set[at] = next;
+}
+
+// The numbers of either of two sets of four words.
+pub fn joined(a: [u64; 4], b: &[u64]) -> [u64; 4]
+    requires { ⌜ length (now b) ≡ 4 ⌝ }
+    ensures { λ r. ⌜ Numbers 256 r (λ p. member a p || member (now (b .entry)) p) ⌝ }
+{
+    [a[0] | b[0], a[1] | b[1], a[2] | b[2], a[3] | b[3]]
+}
+
+// The part of a set of four words that lies in another.
+pub fn part(a: [u64; 4], b: &[u64]) -> [u64; 4]
+    requires { ⌜ length (now b) ≡ 4 ⌝ }
+    ensures { λ r. ⌜ Numbers 256 r (λ p. member a p && member (now (b .entry)) p) ⌝ }
+{
+    [a[0] & b[0], a[1] & b[1], a[2] & b[2], a[3] & b[3]]
+}
+
+// Whether two sets of four words are not the same.
+pub fn differs(a: &[u64], b: &[u64]) -> bool
+    requires { ⌜ (length (now a) ≡ 4) × (length (now b) ≡ 4) ⌝ }
+    ensures { λ r. ⌜ r ≡ differ 256 (now (a .entry)) (now (b .entry)) ⌝ }
+{
+    if a[0] != b[0] {
+        return true;
+    }
+    if a[1] != b[1] {
+        return true;
+    }
+    if a[2] != b[2] {
+        return true;
+    }
+    a[3] != b[3]
+}
+
+// How many bits of w are set.
+pub fn ones(w: u64) -> usize
+    ensures { λ r. ⌜ r ≡ countBelow 64 (bit w) ⌝ }
+{
+    u64::count_ones(w) as usize
+}
+
+// How many numbers a set holds: the ones of its words. A set of so many words is far from any that is kept, and keeps the sum in range.
+pub fn count(set: &[u64]) -> usize
+    requires { ⌜ length (now set) ≤ 65536 ⌝ }
+    ensures { λ r. ⌜ r ≡ countBelow (64 * length (now (set .entry))) (member (now (set .entry))) ⌝ }
+{
+    let mut sum: usize = 0;
+    for i in 0..set.len() {
+        sum += ones(set[i]);
+    }
+    sum
+}
