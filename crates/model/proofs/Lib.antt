@@ -27,3 +27,4 @@ pub mod Tests
 pub mod Table
 pub mod Standing
 pub mod Ledger
+pub mod Gate
