@@ -1,0 +1,7 @@
+pub mod Places
+pub mod Codes
+pub mod Numbers
+pub mod Quotes
+pub mod Packing
+pub mod Values
+pub mod Pairs

@@ -1,0 +1,57 @@
+-- `text::is_str` meets its contract.
+use native.Mathlib.Omega.{arith}
+use Rattle.text.proofs.Quotes.{too-short, no-first, no-last, between}
+use borrow.Author.Needs.{needs}
+use Rattle.text.proofs.is_str.Statement.{statement}
+use Rattle.text.proofs.is_str.Tie as tie
+
+returns : tie.Need-returns
+returns c = too-short _ (c .if1 .taken)
+
+sub-e : tie.Need-sub-e
+sub-e c = search needs
+
+shared-slice-read-if2 : tie.Need-shared-slice-read-if2
+shared-slice-read-if2 c = search needs
+
+returns-2 : tie.Need-returns-2
+returns-2 c = no-first _ (c .if2 .taken)
+
+shared-slice-read-if3 : tie.Need-shared-slice-read-if3
+shared-slice-read-if3 c = search needs
+
+returns-3 : tie.Need-returns-3
+returns-3 c = no-last _ (c .if3 .taken)
+
+sub-is-text : tie.Need-sub-is-text
+sub-is-text c = search needs
+
+part-is-text-start : tie.Need-part-is-text-start
+part-is-text-start c = search needs
+
+part-is-text-end : tie.Need-part-is-text-end
+part-is-text-end c = search needs
+
+is-text-requires : tie.Need-is-text-requires
+is-text-requires c κs = search needs
+
+returns-4 : tie.Need-returns-4
+returns-4 c =
+    let s = c .before .before .before .before .before .before .before .before .args .s .now in
+    between s (omega arith) (c .before .before .before .before .if2 .left) (c .before .before .if3 .left) (c .is-text .result) (c .is-text .ensures)
+
+pub is-str-spec : {M : Type 1} → statement M
+is-str-spec =
+    tie.close
+    (tie.spec
+    returns
+    sub-e
+    shared-slice-read-if2
+    returns-2
+    shared-slice-read-if3
+    returns-3
+    sub-is-text
+    part-is-text-start
+    part-is-text-end
+    is-text-requires
+    returns-4)

@@ -1,0 +1,5 @@
+pub mod Parts
+pub mod Codes
+pub mod Packing
+pub mod Values
+pub mod Hex

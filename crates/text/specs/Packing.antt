@@ -1,0 +1,28 @@
+-- A text as numbers: words of eight bytes, low byte first.
+use Prim.Native.Nat.{ℕ, zero, suc}
+use mathlib.Core.Bool.{Bool, _&&_}
+use mathlib.Core.List.{List, [], _∷_}
+use lib.ListN.{take, drop}
+use lib.Dec.{leb}
+use Rattle.model.specs.Bytes.{Bytes}
+use Rattle.model.specs.Block.{number}
+use Rattle.text.specs.declared.Packed.{Packed}
+
+abbrev pub wordBytes : ℕ
+wordBytes = 8
+
+-- bytes in n words
+abbrev pub packed : ℕ → Bytes → List ℕ
+packed zero s = []
+packed (suc n) s = number (take wordBytes s) ∷ packed n (drop wordBytes s)
+
+-- bytes in two words: the numbers of `packed 2`
+abbrev pub packedOf : Bytes → Packed
+packedOf s = record { low = number (take wordBytes s); high = number (take wordBytes (drop wordBytes s)) }
+
+abbrev pub wordsOf : Packed → List ℕ
+wordsOf p = p .low ∷ p .high ∷ []
+
+-- a byte that a text may hold: none is 0, so that words tell the text
+abbrev pub solid : ℕ → Bool
+solid b = leb 1 b && leb b 255

@@ -1,0 +1,399 @@
+// Leaves over the parts of a line: each takes the bytes of one part and says what the specification reads in them.
+ghost use mathlib.Core.Path.{_≡_};
+ghost use mathlib.Core.Bool.{true};
+ghost use Prim.Native.Nat.{_≤_, _/_};
+ghost use lib.ListN.{length};
+ghost use Rattle.model.specs.Notation.{if_then_else_, all};
+ghost use Rattle.model.specs.Bytes.{same};
+ghost use Rattle.model.specs.Names.{isName, nameByte};
+ghost use Rattle.model.specs.Atoms.{isText, textByte, readInt, readAtom};
+ghost use Rattle.model.specs.Block.{number};
+ghost use Rattle.model.specs.Gate.{hexDigit};
+ghost use Rattle.text.specs.Parts.{FirstAt, inClass, Quoted};
+ghost use Rattle.text.specs.Codes.{sourceNumber, typeNumber, keyNumber, boolNumber, isDecimal, limited, codedInt};
+ghost use Rattle.text.specs.Packing.{packedOf};
+ghost use Rattle.text.specs.Values.{codedAtom};
+ghost use Rattle.text.specs.Hex.{digitCode, pairOf, pairCode, Unhexed};
+
+const NAME_BYTES: usize = 12;
+
+const TEXT_BYTES: usize = 12;
+
+const LARGEST: u64 = 4294967295;
+// The letter `a`: hex is lower-case.
+const HEX_LETTERS: u8 = 97;
+
+pub enum Int {
+    Number(u32),
+    Malformed,
+}
+
+// Words of eight bytes, low byte first.
+pub struct Packed {
+    pub low: u64,
+    pub high: u64,
+}
+
+// The number of a type, and the value in two words.
+pub struct Value {
+    pub kind: u8,
+    pub low: u64,
+    pub high: u64,
+}
+
+// Whether all were pairs, and how many of them are written.
+pub struct Hex {
+    pub ok: bool,
+    pub len: usize,
+}
+
+// The place where b stands first, or the length where it stands nowhere.
+pub fn index_of(s: &[u8], b: u8) -> usize
+    ensures { λ r. ⌜ FirstAt b (now (s .entry)) r ⌝ }
+{
+    let mut i = 0;
+    while i < s.len() {
+        if s[i] == b {
+            return i;
+        }
+        i += 1;
+    }
+    i
+}
+
+pub fn same(s: &[u8], t: &[u8]) -> bool
+    ensures { λ r. ⌜ r ≡ same (now (s .entry)) (now (t .entry)) ⌝ }
+{
+    if s.len() != t.len() {
+        return false;
+    }
+    let mut i = 0;
+    while i < s.len() {
+        if s[i] != t[i] {
+            return false;
+        }
+        i += 1;
+    }
+    true
+}
+
+fn name_byte(b: u8) -> bool
+    ensures { λ r. ⌜ r ≡ nameByte b ⌝ }
+{
+    if b < 48 {
+        return false;
+    }
+    if b <= 57 {
+        return true;
+    }
+    if b == 95 {
+        return true;
+    }
+    if b < 97 {
+        return false;
+    }
+    b <= 122
+}
+
+fn text_byte(b: u8) -> bool
+    ensures { λ r. ⌜ r ≡ textByte b ⌝ }
+{
+    if b < 32 {
+        return false;
+    }
+    if b == 34 {
+        return false;
+    }
+    b <= 126
+}
+
+// Whether a byte is of a class: 0 a name's, 1 a text's, any other digits.
+fn in_class(b: u8, class: u8) -> bool
+    ensures { λ r. ⌜ r ≡ inClass class b ⌝ }
+{
+    if class == 0 {
+        return name_byte(b);
+    }
+    if class == 1 {
+        return text_byte(b);
+    }
+    if b < 48 {
+        return false;
+    }
+    b <= 57
+}
+
+// Whether each byte is of a class.
+fn all_in(s: &[u8], class: u8) -> bool
+    ensures { λ r. ⌜ r ≡ all (inClass class) (now (s .entry)) ⌝ }
+{
+    let mut i = 0;
+    while i < s.len() {
+        if !in_class(s[i], class) {
+            return false;
+        }
+        i += 1;
+    }
+    true
+}
+
+pub fn is_name(s: &[u8]) -> bool
+    ensures { λ r. ⌜ r ≡ isName (now (s .entry)) ⌝ }
+{
+    if s.len() < 1 {
+        return false;
+    }
+    if NAME_BYTES < s.len() {
+        return false;
+    }
+    all_in(s, 0)
+}
+
+pub fn is_text(s: &[u8]) -> bool
+    ensures { λ r. ⌜ r ≡ isText (now (s .entry)) ⌝ }
+{
+    if TEXT_BYTES < s.len() {
+        return false;
+    }
+    all_in(s, 1)
+}
+
+// n where s is the word, else k.
+fn choose(s: &[u8], word: &[u8], n: u8, k: u8) -> u8
+    ensures { λ r. ⌜ r ≡ (if same (now (word .entry)) (now (s .entry)) then n else k) ⌝ }
+{
+    if same(word, s) { n } else { k }
+}
+
+pub fn source_of(s: &[u8]) -> u8
+    ensures { λ r. ⌜ r ≡ sourceNumber (now (s .entry)) ⌝ }
+{
+    let k1 = choose(s, b"connect", 5, 0);
+    let k2 = choose(s, b"env", 4, k1);
+    let k3 = choose(s, b"admin", 3, k2);
+    let k4 = choose(s, b"object", 2, k3);
+    choose(s, b"user", 1, k4)
+}
+
+pub fn type_of(s: &[u8]) -> u8
+    ensures { λ r. ⌜ r ≡ typeNumber (now (s .entry)) ⌝ }
+{
+    let k1 = choose(s, b"bool", 3, 0);
+    let k2 = choose(s, b"str", 2, k1);
+    choose(s, b"int", 1, k2)
+}
+
+pub fn key_of(s: &[u8]) -> u8
+    ensures { λ r. ⌜ r ≡ keyNumber (now (s .entry)) ⌝ }
+{
+    let k1 = choose(s, b"rule", 11, 0);
+    let k2 = choose(s, b"value", 10, k1);
+    let k3 = choose(s, b"member", 9, k2);
+    let k4 = choose(s, b"parent", 8, k3);
+    let k5 = choose(s, b"object", 7, k4);
+    let k6 = choose(s, b"user", 6, k5);
+    let k7 = choose(s, b"ogroup", 5, k6);
+    let k8 = choose(s, b"ugroup", 4, k7);
+    let k9 = choose(s, b"atom", 3, k8);
+    let k10 = choose(s, b"op", 2, k9);
+    choose(s, b"attr", 1, k10)
+}
+
+// 1 for FALSE, 2 for TRUE.
+pub fn bool_of(s: &[u8]) -> u8
+    ensures { λ r. ⌜ r ≡ boolNumber (now (s .entry)) ⌝ }
+{
+    let k1 = choose(s, b"FALSE", 1, 0);
+    choose(s, b"TRUE", 2, k1)
+}
+
+fn wide(b: u8) -> u64
+    ensures { λ r. ⌜ r ≡ b ⌝ }
+{
+    b as u64
+}
+
+// Whether bytes are decimal digits without leading zeros.
+fn is_decimal(s: &[u8]) -> bool
+    ensures { λ r. ⌜ r ≡ isDecimal (now (s .entry)) ⌝ }
+{
+    if s.len() < 1 {
+        return false;
+    }
+    if !all_in(s, 2) {
+        return false;
+    }
+    if s.len() == 1 {
+        return true;
+    }
+    s[0] != 48
+}
+
+// The number that digits write, if it is at most the largest.
+fn number_of(s: &[u8]) -> Int
+    requires { ⌜ isDecimal (now s) ≡ true ⌝ }
+    ensures { λ r. ⌜ r ≡ codedInt (limited (now (s .entry))) ⌝ }
+{
+    let mut v: u64 = 0;
+    let mut i = 0;
+    while i < s.len() {
+        v = v * 10 + wide(s[i]) - 48;
+        if LARGEST < v {
+            return Int::Malformed;
+        }
+        i += 1;
+    }
+    Int::Number(v as u32)
+}
+
+pub fn int_of(s: &[u8]) -> Int
+    ensures { λ r. ⌜ r ≡ codedInt (readInt (now (s .entry))) ⌝ }
+{
+    if is_decimal(s) {
+        return number_of(s);
+    }
+    Int::Malformed
+}
+
+// Whether bytes are a str: its text then stands between the first byte and the last.
+pub fn is_str(s: &[u8]) -> bool
+    ensures { λ r. ⌜ Quoted (now (s .entry)) r ⌝ }
+{
+    if s.len() < 2 {
+        return false;
+    }
+    let e = s.len() - 1;
+    if s[0] != 34 {
+        return false;
+    }
+    if s[e] != 34 {
+        return false;
+    }
+    is_text(&s[1..e])
+}
+
+// The number that at most eight bytes write, low byte first.
+pub fn word_of(s: &[u8]) -> u64
+    requires { ⌜ length (now s) ≤ 8 ⌝ }
+    ensures { λ r. ⌜ r ≡ number (now (s .entry)) ⌝ }
+{
+    let mut w: u64 = 0;
+    let mut i = s.len();
+    while 0 < i {
+        i -= 1;
+        w = w * 256 + wide(s[i]);
+    }
+    w
+}
+
+pub fn pack(s: &[u8]) -> Packed
+    requires { ⌜ length (now s) ≤ 16 ⌝ }
+    ensures { λ r. ⌜ r ≡ packedOf (now (s .entry)) ⌝ }
+{
+    if s.len() <= 8 {
+        return Packed {
+            low: word_of(s),
+            high: 0,
+        };
+    }
+    Packed {
+        low: word_of(&s[..8]),
+        high: word_of(&s[8..]),
+    }
+}
+
+pub fn atom_of(s: &[u8]) -> Value
+    ensures { λ r. ⌜ r ≡ codedAtom (readAtom (now (s .entry))) ⌝ }
+{
+    let i = int_of(s);
+    if let Int::Number(n) = i {
+        return Value {
+            kind: 1,
+            low: n as u64,
+            high: 0,
+        };
+    }
+    if is_str(s) {
+        let e = s.len() - 1;
+        let p = pack(&s[1..e]);
+        return Value {
+            kind: 2,
+            low: p.low,
+            high: p.high,
+        };
+    }
+    let b = bool_of(s);
+    if b == 0 {
+        return Value {
+            kind: 0,
+            low: 0,
+            high: 0,
+        };
+    }
+    Value {
+        kind: 3,
+        low: wide(b - 1),
+        high: 0,
+    }
+}
+
+// The value of a digit of lower-case hex, 16 where it is none.
+pub fn hex_digit(b: u8) -> u8
+    ensures { λ r. ⌜ r ≡ digitCode (hexDigit b) ⌝ }
+{
+    if b < 48 {
+        return 16;
+    }
+    if b <= 57 {
+        return b - 48;
+    }
+    if b < HEX_LETTERS {
+        return 16;
+    }
+    if b <= 102 {
+        return b - 87;
+    }
+    16
+}
+
+fn broad(b: u8) -> u16
+    ensures { λ r. ⌜ r ≡ b ⌝ }
+{
+    b as u16
+}
+
+// The byte that two digits write, 256 where they are no pair.
+fn hex_pair(x: u8, y: u8) -> u16
+    ensures { λ r. ⌜ r ≡ pairCode (pairOf x y) ⌝ }
+{
+    let h = hex_digit(x);
+    let l = hex_digit(y);
+    if h == 16 {
+        return 256;
+    }
+    if l == 16 {
+        return 256;
+    }
+    16 * broad(h) + broad(l)
+}
+
+pub fn unhex(s: &[u8], out: &mut [u8]) -> Hex
+    requires { ⌜ length (now s) / 2 ≤ length (now out) ⌝ }
+    ensures { λ r. ⌜ Unhexed (now (s .entry)) (now (out .entry)) (now (out .exit)) r ⌝ }
+{
+    let n = s.len() / 2;
+    let mut i = 0;
+    while i < n {
+        let at = 2 * i;
+        let b = hex_pair(s[at], s[at + 1]);
+        if b == 256 {
+            return Hex { ok: false, len: i };
+        }
+        out[i] = b as u8;
+        i += 1;
+    }
+    Hex {
+        ok: s.len() == 2 * n,
+        len: n,
+    }
+}
