@@ -1,0 +1,52 @@
+//! The numbers a caller may meet and the answers that carry them.
+
+/// A refusal, with document 01's number as its discriminant.
+#[derive(Clone, Copy, Debug, PartialEq, Eq, PartialOrd, Ord, Hash)]
+#[repr(u8)]
+pub enum Refusal {
+    TableLength = 1,
+    FileTooLong = 2,
+    FirstLine = 3,
+    LineFrame = 4,
+    KeyOrder = 5,
+    Malformed = 6,
+    OverLimit = 7,
+    Undeclared = 8,
+    WrongSort = 9,
+    AlreadyThere = 10,
+    TableFull = 11,
+    Circle = 12,
+    OtherKey = 13,
+    NotStanding = 14,
+    BlockFrame = 15,
+    BlockNumber = 16,
+    NotHeld = 17,
+}
+
+impl Refusal {
+    pub fn number(self) -> u8 {
+        self as u8
+    }
+}
+
+/// A refused file: the number and the line it is about (0 for 1 and 2).
+#[derive(Clone, Copy, Debug, PartialEq, Eq)]
+pub struct RefusedLine {
+    pub refusal: Refusal,
+    pub line: usize,
+}
+
+/// A load: the lines read, or the refusal.
+pub type LoadAnswer = Result<usize, RefusedLine>;
+
+/// An edit: the number of holders whose stored set changed, or the refusal.
+pub type EditAnswer = Result<usize, Refusal>;
+
+/// The answer to a pass block.
+#[derive(Clone, Copy, Debug, PartialEq, Eq)]
+pub enum Decision {
+    Permit(usize),
+    Deny,
+    Undefined,
+    Refused(Refusal),
+}

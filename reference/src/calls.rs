@@ -1,0 +1,152 @@
+//! Call lists: calls of the library as lines of text, so that a small program
+//! around any library can be run over them, and the table be seen.
+//!
+//! `table=LENGTH,INDEX:WORD,...` comes first and names the words that are not
+//! 0. Then come `load=`, `edit=` and `request=` with their bytes in hex, and
+//! `c=FILE,BLOCK` for the call for hosts in C. Each call prints its answer as
+//! the office program would (`c=` number for the last), then `words=` with the
+//! words of the table that are not 0. Indexes are decimal, words are hex.
+
+use crate::answer::Decision;
+use crate::book::c_call;
+use crate::line::pieces;
+use crate::office::{print, read_hex};
+use crate::session::{Call, Engine, LedgerEngine, Session, TableEngine};
+use crate::TABLE_WORDS;
+
+/// An engine whose table can be looked at.
+trait Shown: Engine {
+    fn words(&self) -> Vec<u64>;
+    fn c_call(&mut self, file: &[u8], block: &[u8]) -> u8;
+}
+
+impl Shown for TableEngine {
+    fn words(&self) -> Vec<u64> {
+        self.table.clone()
+    }
+
+    fn c_call(&mut self, file: &[u8], block: &[u8]) -> u8 {
+        c_call(file, block, &mut self.table)
+    }
+}
+
+/// The ledger has no table: it says what the words must be.
+struct LedgerWords {
+    engine: LedgerEngine,
+    table: Vec<u64>,
+}
+
+impl Engine for LedgerWords {
+    fn load(&mut self, file: &[u8]) -> crate::LoadAnswer {
+        self.engine.load(file)
+    }
+
+    fn edit(&mut self, line: &[u8]) -> crate::EditAnswer {
+        self.engine.edit(line)
+    }
+
+    fn request(&mut self, block: &[u8]) -> Decision {
+        self.engine.request(block)
+    }
+}
+
+impl Shown for LedgerWords {
+    fn words(&self) -> Vec<u64> {
+        if self.table.len() == TABLE_WORDS {
+            self.engine.ledger.words()
+        } else {
+            self.table.clone()
+        }
+    }
+
+    fn c_call(&mut self, file: &[u8], block: &[u8]) -> u8 {
+        if let Err(refused) = self.load(file) {
+            return refused.refusal.number();
+        }
+        match self.request(block) {
+            Decision::Permit(_) => 0,
+            Decision::Deny => 64,
+            Decision::Undefined => 65,
+            Decision::Refused(refusal) => refusal.number(),
+        }
+    }
+}
+
+/// What the list prints, or the number of the line that is not of its form.
+pub fn run(list: &[u8]) -> Result<Vec<u8>, usize> {
+    answer(list, TableEngine::new)
+}
+
+/// The same, told by the ledger.
+pub fn run_by_ledger(list: &[u8]) -> Result<Vec<u8>, usize> {
+    answer(list, |table| LedgerWords { engine: LedgerEngine::new(table.len()), table })
+}
+
+fn answer<E: Shown>(list: &[u8], start: impl Fn(Vec<u64>) -> E) -> Result<Vec<u8>, usize> {
+    let mut lines = pieces(list).map(|line| line.strip_suffix(b"\n").unwrap_or(line));
+    let table = lines.next().and_then(read_table).ok_or(1_usize)?;
+    let mut engine = start(table);
+    let mut output = Vec::new();
+    for (place, line) in lines.enumerate() {
+        output.extend(answer_line(line, &mut engine).ok_or(place + 2)?);
+        output.extend(show("words=", &engine.words()).into_bytes());
+    }
+    Ok(output)
+}
+
+fn answer_line(line: &[u8], engine: &mut impl Shown) -> Option<Vec<u8>> {
+    if let Some(rest) = line.strip_prefix(b"c=") {
+        let comma = rest.iter().position(|&byte| byte == b',')?;
+        let (file, block) = (read_hex(&rest[..comma])?, read_hex(&rest[comma + 1..])?);
+        return Some(format!("c={}\n", engine.c_call(&file, &block)).into_bytes());
+    }
+    let equals = line.iter().position(|&byte| byte == b'=')?;
+    let bytes = read_hex(&line[equals + 1..])?;
+    let call = match &line[..equals] {
+        b"load" => Call::Load(bytes),
+        b"edit" => Call::Edit(bytes),
+        b"request" => Call::Request(bytes),
+        _ => return None,
+    };
+    Some(print(engine.call(&call)))
+}
+
+fn read_table(line: &[u8]) -> Option<Vec<u64>> {
+    let text = std::str::from_utf8(line).ok()?.strip_prefix("table=")?;
+    let mut fields = text.split(',');
+    let mut table = vec![0; fields.next()?.parse().ok()?];
+    for field in fields {
+        let (index, word) = field.split_once(':')?;
+        let place: &mut u64 = table.get_mut(index.parse::<usize>().ok()?)?;
+        *place = u64::from_str_radix(word, 16).ok()?;
+    }
+    Some(table)
+}
+
+/// The words that are not 0, behind `head` and parted by commas.
+fn show(head: &str, words: &[u64]) -> String {
+    let some = words.iter().enumerate().filter(|(_, word)| **word != 0);
+    let shown: Vec<String> = some.map(|(index, word)| format!("{index}:{word:x}")).collect();
+    format!("{head}{}\n", shown.join(","))
+}
+
+/// A session as a call list.
+pub fn write(session: &Session) -> Vec<u8> {
+    let mut list = show(&format!("table={},", session.table.len()), &session.table);
+    if session.table.iter().all(|&word| word == 0) {
+        list = format!("table={}\n", session.table.len());
+    }
+    for call in &session.calls {
+        let (key, bytes) = match call {
+            Call::Load(file) => ("load", file),
+            Call::Edit(line) => ("edit", line),
+            Call::Request(block) => ("request", block),
+        };
+        list += &format!("{key}={}\n", hex(bytes));
+    }
+    list.into_bytes()
+}
+
+pub fn hex(bytes: &[u8]) -> String {
+    bytes.iter().map(|byte| format!("{byte:02x}")).collect()
+}

@@ -1,0 +1,135 @@
+//! The standing ties of a book, kept so that the holders above and below one
+//! are at hand, and the renewal of stored sets along them.
+
+use crate::pairs::PairSet;
+use crate::tie::{StandingTies, Tie};
+use std::collections::BTreeSet;
+
+/// Holders that a book can have, admin among them.
+const HOLDERS: usize = 256;
+
+#[derive(Clone, Debug, PartialEq, Eq)]
+pub struct TieGraph {
+    /// Parents of a group, or groups of a party.
+    up: Vec<BTreeSet<usize>>,
+    /// Children and parties of a group.
+    down: Vec<BTreeSet<usize>>,
+    direct: Vec<PairSet>,
+}
+
+impl Default for TieGraph {
+    fn default() -> TieGraph {
+        TieGraph {
+            up: vec![BTreeSet::new(); HOLDERS],
+            down: vec![BTreeSet::new(); HOLDERS],
+            direct: vec![PairSet::default(); HOLDERS],
+        }
+    }
+}
+
+impl StandingTies for TieGraph {
+    fn stands(&self, tie: &Tie) -> bool {
+        match *tie {
+            Tie::Parent { child, parent } => self.up[child].contains(&parent),
+            Tie::Member { party, group } => self.up[party].contains(&group),
+            Tie::Value { holder, pair } => self.direct[holder].contains(pair),
+        }
+    }
+
+    fn leads_up(&self, low: usize, high: usize) -> bool {
+        let mut seen = [false; HOLDERS];
+        let mut waiting = vec![low];
+        while let Some(holder) = waiting.pop() {
+            for &above in &self.up[holder] {
+                if above == high {
+                    return true;
+                }
+                if !std::mem::replace(&mut seen[above], true) {
+                    waiting.push(above);
+                }
+            }
+        }
+        false
+    }
+
+    fn add(&mut self, tie: Tie) {
+        match tie {
+            Tie::Parent { child, parent } => self.link(child, parent),
+            Tie::Member { party, group } => self.link(party, group),
+            Tie::Value { holder, pair } => self.direct[holder].insert(pair),
+        }
+    }
+
+    fn remove(&mut self, tie: &Tie) {
+        match *tie {
+            Tie::Parent { child, parent } => self.unlink(child, parent),
+            Tie::Member { party, group } => self.unlink(party, group),
+            Tie::Value { holder, pair } => self.direct[holder].remove(pair),
+        }
+    }
+}
+
+impl TieGraph {
+    fn link(&mut self, low: usize, high: usize) {
+        self.up[low].insert(high);
+        self.down[high].insert(low);
+    }
+
+    fn unlink(&mut self, low: usize, high: usize) {
+        self.up[low].remove(&high);
+        self.down[high].remove(&low);
+    }
+
+    /// Stores every set on a table whose words are all 0.
+    pub fn fill(&self, table: &mut [u64]) {
+        for holder in self.highest_first(0..HOLDERS) {
+            self.renew(holder, table);
+        }
+    }
+
+    /// Renews the stored sets of `edited` and of all below it, and counts
+    /// those that changed. Each holder below is visited even if one between
+    /// stayed the same, since another path may reach it.
+    pub fn renew_below(&self, edited: usize, table: &mut [u64]) -> usize {
+        let order = self.highest_first(std::iter::once(edited));
+        let renewed = order.into_iter();
+        renewed.filter(|&holder| self.renew(holder, table)).count()
+    }
+
+    /// Rewrites one stored set from the direct pairs and the stored sets right
+    /// above, which must be right by now. True if it changed.
+    fn renew(&self, holder: usize, table: &mut [u64]) -> bool {
+        let mut set = self.direct[holder];
+        for &above in &self.up[holder] {
+            set.join(&PairSet::stored(table, above));
+        }
+        let changed = set != PairSet::stored(table, holder);
+        if changed {
+            set.store(table, holder);
+        }
+        changed
+    }
+
+    /// `starts` and all below them, each after every one above it.
+    fn highest_first(&self, starts: impl Iterator<Item = usize>) -> Vec<usize> {
+        let mut order = Vec::new();
+        let mut seen = [false; HOLDERS];
+        for start in starts {
+            self.lowest_first(start, &mut seen, &mut order);
+        }
+        order.reverse();
+        order
+    }
+
+    /// Appends what is below `holder`, then `holder` itself. The depth of the
+    /// calls is at most the longest chain: 64 groups and a party.
+    fn lowest_first(&self, holder: usize, seen: &mut [bool; HOLDERS], order: &mut Vec<usize>) {
+        if std::mem::replace(&mut seen[holder], true) {
+            return;
+        }
+        for &below in &self.down[holder] {
+            self.lowest_first(below, seen, order);
+        }
+        order.push(holder);
+    }
+}
