@@ -9,13 +9,11 @@ pub mod CornersOfPolicies
 pub mod CornersOfEdits
 pub mod CornersOfRequests
 pub mod CornersOfGate
-
 -- Laws of words, partial results and lists.
 pub mod Words
 pub mod Options
 pub mod Results
 pub mod Lists
-
 -- Lines: reading is the inverse of writing.
 pub mod Cuts
 pub mod Decimals
@@ -23,19 +21,16 @@ pub mod Atoms
 pub mod Names
 pub mod Fields
 pub mod Lines
-
 -- Policies: the reader and the grammar.
 pub mod Sound
 pub mod Complete
 pub mod Grammar
 pub mod Nesting
-
 -- Sets: chains of ties, effective sets, the table.
 pub mod Ties
 pub mod Chains
 pub mod Effective
 pub mod Table
-
 -- The ledger: what holds of every state.
 pub mod Tests
 pub mod Standing
