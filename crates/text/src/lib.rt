@@ -159,7 +159,7 @@ pub fn is_text(s: &[u8]) -> bool
 }
 
 // n where s is the word, else k.
-fn choose(s: &[u8], word: &[u8], n: u8, k: u8) -> u8
+pub fn choose(s: &[u8], word: &[u8], n: u8, k: u8) -> u8
     ensures { λ r. ⌜ r ≡ (if same (now (word .entry)) (now (s .entry)) then n else k) ⌝ }
 {
     if same(word, s) { n } else { k }

@@ -1,80 +1,79 @@
 -- `text::key_of` meets its contract: the selection of the table's words, the last chosen first.
 use Prim.Native.Nat.{ℕ}
-use mathlib.Core.Path.{_≡_, sym, ap, _∙_}
+use mathlib.Core.Path.{_≡_, refl, sym, ap, _∙_}
 use Rattle.model.specs.Notation.{if_then_else_}
 use Rattle.model.specs.Bytes.{Bytes, same}
 use Rattle.model.specs.Keys.{Key, keyWord, keys, rank}
 use Rattle.text.specs.Codes.{keyNumber}
 use Rattle.text.proofs.Codes.{selected, coded-one-of}
-use borrow.Author.Needs.{needs}
 use Rattle.text.proofs.key_of.Statement.{statement}
 use Rattle.text.proofs.key_of.Tie as tie
 
 slice-aggregate-choose : tie.Need-slice-aggregate-choose
-slice-aggregate-choose c = search needs
+slice-aggregate-choose c = refl
 
 choose-requires : tie.Need-choose-requires
-choose-requires c κs = search needs
+choose-requires c κs = tt
 
 slice-aggregate-choose-2 : tie.Need-slice-aggregate-choose-2
-slice-aggregate-choose-2 c = search needs
+slice-aggregate-choose-2 c = refl
 
 choose-requires-2 : tie.Need-choose-requires-2
-choose-requires-2 c κs = search needs
+choose-requires-2 c κs = tt
 
 slice-aggregate-choose-3 : tie.Need-slice-aggregate-choose-3
-slice-aggregate-choose-3 c = search needs
+slice-aggregate-choose-3 c = refl
 
 choose-requires-3 : tie.Need-choose-requires-3
-choose-requires-3 c κs = search needs
+choose-requires-3 c κs = tt
 
 slice-aggregate-choose-4 : tie.Need-slice-aggregate-choose-4
-slice-aggregate-choose-4 c = search needs
+slice-aggregate-choose-4 c = refl
 
 choose-requires-4 : tie.Need-choose-requires-4
-choose-requires-4 c κs = search needs
+choose-requires-4 c κs = tt
 
 slice-aggregate-choose-5 : tie.Need-slice-aggregate-choose-5
-slice-aggregate-choose-5 c = search needs
+slice-aggregate-choose-5 c = refl
 
 choose-requires-5 : tie.Need-choose-requires-5
-choose-requires-5 c κs = search needs
+choose-requires-5 c κs = tt
 
 slice-aggregate-choose-6 : tie.Need-slice-aggregate-choose-6
-slice-aggregate-choose-6 c = search needs
+slice-aggregate-choose-6 c = refl
 
 choose-requires-6 : tie.Need-choose-requires-6
-choose-requires-6 c κs = search needs
+choose-requires-6 c κs = tt
 
 slice-aggregate-choose-7 : tie.Need-slice-aggregate-choose-7
-slice-aggregate-choose-7 c = search needs
+slice-aggregate-choose-7 c = refl
 
 choose-requires-7 : tie.Need-choose-requires-7
-choose-requires-7 c κs = search needs
+choose-requires-7 c κs = tt
 
 slice-aggregate-choose-8 : tie.Need-slice-aggregate-choose-8
-slice-aggregate-choose-8 c = search needs
+slice-aggregate-choose-8 c = refl
 
 choose-requires-8 : tie.Need-choose-requires-8
-choose-requires-8 c κs = search needs
+choose-requires-8 c κs = tt
 
 slice-aggregate-choose-9 : tie.Need-slice-aggregate-choose-9
-slice-aggregate-choose-9 c = search needs
+slice-aggregate-choose-9 c = refl
 
 choose-requires-9 : tie.Need-choose-requires-9
-choose-requires-9 c κs = search needs
+choose-requires-9 c κs = tt
 
 slice-aggregate-choose-10 : tie.Need-slice-aggregate-choose-10
-slice-aggregate-choose-10 c = search needs
+slice-aggregate-choose-10 c = refl
 
 choose-requires-10 : tie.Need-choose-requires-10
-choose-requires-10 c κs = search needs
+choose-requires-10 c κs = tt
 
 slice-aggregate-choose-11 : tie.Need-slice-aggregate-choose-11
-slice-aggregate-choose-11 c = search needs
+slice-aggregate-choose-11 c = refl
 
 choose-requires-11 : tie.Need-choose-requires-11
-choose-requires-11 c κs = search needs
+choose-requires-11 c κs = tt
 
 returns : tie.Need-returns
 unfolding keyNumber

@@ -1,32 +1,31 @@
 -- `text::type_of` meets its contract: the selection of the table's words, the last chosen first.
 use Prim.Native.Nat.{ℕ}
-use mathlib.Core.Path.{_≡_, sym, ap, _∙_}
+use mathlib.Core.Path.{_≡_, refl, sym, ap, _∙_}
 use Rattle.model.specs.Notation.{if_then_else_}
 use Rattle.model.specs.Bytes.{Bytes, same}
 use Rattle.model.specs.Attributes.{AtomType, typeWord, types}
 use Rattle.text.specs.Codes.{typeNumber, typeCode}
 use Rattle.text.proofs.Codes.{selected, coded-one-of}
-use borrow.Author.Needs.{needs}
 use Rattle.text.proofs.type_of.Statement.{statement}
 use Rattle.text.proofs.type_of.Tie as tie
 
 slice-aggregate-choose : tie.Need-slice-aggregate-choose
-slice-aggregate-choose c = search needs
+slice-aggregate-choose c = refl
 
 choose-requires : tie.Need-choose-requires
-choose-requires c κs = search needs
+choose-requires c κs = tt
 
 slice-aggregate-choose-2 : tie.Need-slice-aggregate-choose-2
-slice-aggregate-choose-2 c = search needs
+slice-aggregate-choose-2 c = refl
 
 choose-requires-2 : tie.Need-choose-requires-2
-choose-requires-2 c κs = search needs
+choose-requires-2 c κs = tt
 
 slice-aggregate-choose-3 : tie.Need-slice-aggregate-choose-3
-slice-aggregate-choose-3 c = search needs
+slice-aggregate-choose-3 c = refl
 
 choose-requires-3 : tie.Need-choose-requires-3
-choose-requires-3 c κs = search needs
+choose-requires-3 c κs = tt
 
 returns : tie.Need-returns
 unfolding typeNumber

@@ -1,0 +1,191 @@
+-- `tokens::token_in` meets its contract, by the first byte.
+use Prim.Native.Nat.{ℕ, _-_}
+use mathlib.Core.Path.{_≡_, refl, sym, ap, _∙_}
+use mathlib.Core.Option.{none, some}
+use lib.ListN.{length, drop, length-drop}
+use Rattle.model.specs.Bytes.{Bytes}
+use Rattle.model.specs.Tokens.{operator, unequal, less, atMost, greater, atLeast, readText, readToken}
+use Rattle.text.specs.Values.{value}
+use Rattle.tokens.specs.Reading.{placed, codedRead, tokenIn}
+use Rattle.tokens.proofs.Runs.{tail-part}
+use Rattle.tokens.proofs.Signs.{at-end, at-sign, at-equals, at-text, at-word}
+use borrow.Author.Needs.{needs}
+use Rattle.tokens.proofs.token_in.Statement.{statement}
+use Rattle.tokens.proofs.token_in.Tie as tie
+
+plain-requires : tie.Need-plain-requires
+plain-requires c κs = search needs
+
+returns : tie.Need-returns
+returns c = c .plain .ensures ∙ sym (at-end (c .before .before .before .args .n) (c .before .before .before .args .s .now) (c .before .if1 .taken))
+
+place-requires : tie.Need-place-requires
+place-requires c κs = search needs
+
+place-requires-2 : tie.Need-place-requires-2
+place-requires-2 c κs = search needs
+
+equals-next-requires : tie.Need-equals-next-requires
+equals-next-requires c κs = search needs
+
+shared-slice-read-b : tie.Need-shared-slice-read-b
+shared-slice-read-b c = search needs
+
+either-requires : tie.Need-either-requires
+either-requires c κs = search needs
+
+sub-text-token : tie.Need-sub-text-token
+sub-text-token c = search needs
+
+part-text-token-start : tie.Need-part-text-token-start
+part-text-token-start c = search needs
+
+part-text-token-end : tie.Need-part-text-token-end
+part-text-token-end c = search needs
+
+text-token-requires : tie.Need-text-token-requires
+text-token-requires c κs = search needs
+
+plain-requires-2 : tie.Need-plain-requires-2
+plain-requires-2 c κs = search needs
+
+plain-requires-3 : tie.Need-plain-requires-3
+plain-requires-3 c κs = search needs
+
+plain-requires-4 : tie.Need-plain-requires-4
+plain-requires-4 c κs = search needs
+
+either-requires-2 : tie.Need-either-requires-2
+either-requires-2 c κs = search needs
+
+plain-requires-5 : tie.Need-plain-requires-5
+plain-requires-5 c κs = search needs
+
+either-requires-3 : tie.Need-either-requires-3
+either-requires-3 c κs = search needs
+
+plain-requires-6 : tie.Need-plain-requires-6
+plain-requires-6 c κs = search needs
+
+plain-requires-7 : tie.Need-plain-requires-7
+plain-requires-7 c κs = search needs
+
+word-token-requires : tie.Need-word-token-requires
+word-token-requires c κs = search needs
+
+returns-2 : tie.Need-returns-2
+unfolding tokenIn readToken
+returns-2 c =
+    let a = c .before .before .before .before .before .before .before .before .args in
+    let s = a .s .now in
+    c .either .ensures
+    ∙ sym (at-equals (a .n) s 33 (operator unequal) (λ r. none) (c .before .before .before .before .before .before .if1 .left) (c .before .match .keys1) (λ r. refl)
+    _ (c .before .before .before .equals-next .ensures) _ (c .before .before .before .before .place2 .ensures) _ (refl))
+
+returns-3 : tie.Need-returns-3
+returns-3 c =
+    let a = c .before .before .before .before .before .before .before .before .before .args in
+    let s = a .s .now in
+    c .text-token .ensures ∙ ap (λ (l : Bytes). codedRead (a .n) (readText l)) (tail-part 1 s) ∙ sym (at-text (a .n) s (c .before .before .before .before .before .before .before .if1 .left) (c .before .before .match .keys2))
+
+returns-4 : tie.Need-returns-4
+unfolding tokenIn readToken
+returns-4 c =
+    let a = c .before .before .before .before .before .before .before .before .args in
+    let v = value 2 0 0 in
+    c .plain2 .ensures ∙ ap (placed v) (c .before .before .before .before .before .place .ensures) ∙ sym (at-sign (a .n) (a .s .now) 40 v (c .before .before .before .before .before .before .if1 .left) (c .before .match .keys3) (λ r. refl))
+
+returns-5 : tie.Need-returns-5
+unfolding tokenIn readToken
+returns-5 c =
+    let a = c .before .before .before .before .before .before .before .before .args in
+    let v = value 3 0 0 in
+    c .plain3 .ensures ∙ ap (placed v) (c .before .before .before .before .before .place .ensures) ∙ sym (at-sign (a .n) (a .s .now) 41 v (c .before .before .before .before .before .before .if1 .left) (c .before .match .keys4) (λ r. refl))
+
+returns-6 : tie.Need-returns-6
+unfolding tokenIn readToken
+returns-6 c =
+    let a = c .before .before .before .before .before .before .before .before .args in
+    let v = value 6 0 0 in
+    c .plain4 .ensures ∙ ap (placed v) (c .before .before .before .before .before .place .ensures) ∙ sym (at-sign (a .n) (a .s .now) 44 v (c .before .before .before .before .before .before .if1 .left) (c .before .match .keys5) (λ r. refl))
+
+returns-7 : tie.Need-returns-7
+unfolding tokenIn readToken
+returns-7 c =
+    let a = c .before .before .before .before .before .before .before .before .args in
+    let s = a .s .now in
+    c .either2 .ensures
+    ∙ sym (at-equals (a .n) s 60 (operator atMost) (λ r. some (operator less, r)) (c .before .before .before .before .before .before .if1 .left) (c .before .match .keys6) (λ r. refl)
+    _ (c .before .before .before .equals-next .ensures) _ (c .before .before .before .before .place2 .ensures) _ (ap (placed (value 20 0 0)) (c .before .before .before .before .before .place .ensures ∙ ap (λ (l : ℕ). a .n - l) (sym (length-drop 1 s)))))
+
+returns-8 : tie.Need-returns-8
+unfolding tokenIn readToken
+returns-8 c =
+    let a = c .before .before .before .before .before .before .before .before .args in
+    let v = value 16 0 0 in
+    c .plain5 .ensures ∙ ap (placed v) (c .before .before .before .before .before .place .ensures) ∙ sym (at-sign (a .n) (a .s .now) 61 v (c .before .before .before .before .before .before .if1 .left) (c .before .match .keys7) (λ r. refl))
+
+returns-9 : tie.Need-returns-9
+unfolding tokenIn readToken
+returns-9 c =
+    let a = c .before .before .before .before .before .before .before .before .args in
+    let s = a .s .now in
+    c .either3 .ensures
+    ∙ sym (at-equals (a .n) s 62 (operator atLeast) (λ r. some (operator greater, r)) (c .before .before .before .before .before .before .if1 .left) (c .before .match .keys8) (λ r. refl)
+    _ (c .before .before .before .equals-next .ensures) _ (c .before .before .before .before .place2 .ensures) _ (ap (placed (value 22 0 0)) (c .before .before .before .before .before .place .ensures ∙ ap (λ (l : ℕ). a .n - l) (sym (length-drop 1 s)))))
+
+returns-10 : tie.Need-returns-10
+unfolding tokenIn readToken
+returns-10 c =
+    let a = c .before .before .before .before .before .before .before .before .args in
+    let v = value 4 0 0 in
+    c .plain6 .ensures ∙ ap (placed v) (c .before .before .before .before .before .place .ensures) ∙ sym (at-sign (a .n) (a .s .now) 123 v (c .before .before .before .before .before .before .if1 .left) (c .before .match .keys9) (λ r. refl))
+
+returns-11 : tie.Need-returns-11
+unfolding tokenIn readToken
+returns-11 c =
+    let a = c .before .before .before .before .before .before .before .before .args in
+    let v = value 5 0 0 in
+    c .plain7 .ensures ∙ ap (placed v) (c .before .before .before .before .before .place .ensures) ∙ sym (at-sign (a .n) (a .s .now) 125 v (c .before .before .before .before .before .before .if1 .left) (c .before .match .keys10) (λ r. refl))
+
+returns-12 : tie.Need-returns-12
+returns-12 c =
+    let a = c .before .before .before .before .before .before .before .before .args in
+    let r = c .before .match .rest in
+    c .word-token .ensures ∙ sym (at-word (a .n) (a .s .now) (c .before .before .before .before .before .before .if1 .left) (record { no-33 = r .0 .0 .0 .0 .0 .0 .0 .0 .0 .1; no-34 = r .0 .0 .0 .0 .0 .0 .0 .0 .1; no-40 = r .0 .0 .0 .0 .0 .0 .0 .1; no-41 = r .0 .0 .0 .0 .0 .0 .1; no-44 = r .0 .0 .0 .0 .0 .1; no-60 = r .0 .0 .0 .0 .1; no-61 = r .0 .0 .0 .1; no-62 = r .0 .0 .1; no-123 = r .0 .1; no-125 = r .1 }))
+
+pub token-in-spec : {M : Type 1} → statement M
+token-in-spec =
+    tie.close
+    (tie.spec
+    plain-requires
+    returns
+    place-requires
+    place-requires-2
+    equals-next-requires
+    shared-slice-read-b
+    either-requires
+    sub-text-token
+    part-text-token-start
+    part-text-token-end
+    text-token-requires
+    plain-requires-2
+    plain-requires-3
+    plain-requires-4
+    either-requires-2
+    plain-requires-5
+    either-requires-3
+    plain-requires-6
+    plain-requires-7
+    word-token-requires
+    returns-2
+    returns-3
+    returns-4
+    returns-5
+    returns-6
+    returns-7
+    returns-8
+    returns-9
+    returns-10
+    returns-11
+    returns-12)

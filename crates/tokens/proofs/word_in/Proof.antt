@@ -1,0 +1,55 @@
+-- `tokens::word_in` meets its contract.
+use mathlib.Core.Path.{_≡_, sym, _∙_}
+use mathlib.Core.Option.{none}
+use Rattle.model.specs.Atoms.{readInt}
+use Rattle.text.proofs.Values.{no-int}
+use Rattle.tokens.proofs.Words.{capital, no-capital, number, attribute}
+use borrow.Author.Needs.{needs}
+use Rattle.tokens.proofs.word_in.Statement.{statement}
+use Rattle.tokens.proofs.word_in.Tie as tie
+
+capital-of-requires : tie.Need-capital-of-requires
+capital-of-requires c κs = search needs
+
+returns : tie.Need-returns
+returns c = sym (capital (c .before .before .before .args .w .now) (c .before .capital-of .result) (c .before .capital-of .ensures) (c .if1 .taken))
+
+int-of-requires : tie.Need-int-of-requires
+int-of-requires c κs = search needs
+
+enum-known-i : tie.Need-enum-known-i
+enum-known-i c = search needs
+
+cast-t6 : tie.Need-cast-t6
+cast-t6 c = search needs
+
+returns-2 : tie.Need-returns-2
+returns-2 c =
+    let w = c .before .before .before .before .before .before .before .args .w .now in
+    sym (number w (no-capital w (sym (c .before .before .before .before .if1 .left) ∙ c .before .before .before .before .before .capital-of .ensures)) (c .before .i .given .0 .0) (sym (c .before .before .before .int-of .ensures) ∙ c .before .i .given .1))
+
+enum-told : tie.Need-enum-told
+enum-told c = search needs
+
+name-in-requires : tie.Need-name-in-requires
+name-in-requires c κs = search needs
+
+returns-3 : tie.Need-returns-3
+returns-3 c =
+    let w = c .before .before .before .before .before .before .before .args .w .now in
+    let i : readInt w ≡ none = no-int w (sym (c .before .before .before .int-of .ensures) ∙ c .before .enum-told .given .1) in
+    c .name-in .ensures ∙ sym (attribute w (no-capital w (sym (c .before .before .before .before .if1 .left) ∙ c .before .before .before .before .before .capital-of .ensures)) i)
+
+pub word-in-spec : {M : Type 1} → statement M
+word-in-spec =
+    tie.close
+    (tie.spec
+    capital-of-requires
+    returns
+    int-of-requires
+    enum-known-i
+    cast-t6
+    returns-2
+    enum-told
+    name-in-requires
+    returns-3)

@@ -1,0 +1,61 @@
+-- `tokens::word_token` meets its contract.
+use Prim.Native.Nat.{ℕ, _≤_, _-_}
+use mathlib.Core.Path.{_≡_, sym, ap, subst, _∙_}
+use native.Mathlib.Omega.{arith}
+use lib.ListN.{length, take}
+use lib.Seq.{length-take-le}
+use Rattle.model.specs.Bytes.{Bytes}
+use Rattle.model.specs.Tokens.{wordByte, readWord}
+use Rattle.text.specs.declared.Value.{Value}
+use Rattle.tokens.specs.Codes.{codedToken}
+use Rattle.tokens.specs.Reading.{placed, lead, inRun}
+use Rattle.tokens.proofs.Runs.{lead-le}
+use Rattle.tokens.proofs.Fronts.{no-word, word}
+use borrow.Author.Needs.{needs}
+use Rattle.tokens.proofs.word_token.Statement.{statement}
+use Rattle.tokens.proofs.word_token.Tie as tie
+
+run-length-requires : tie.Need-run-length-requires
+run-length-requires c κs = search needs
+
+slice-aggregate-word-in : tie.Need-slice-aggregate-word-in
+slice-aggregate-word-in c =
+    let s = c .before .before .before .args .s .now in
+    sym (length-take-le (c .before .run-length .result) s (omega (arith, c .before .run-length .ensures, lead-le (inRun 1) s)))
+
+word-in-requires : tie.Need-word-in-requires
+word-in-requires c κs = search needs
+
+plain-requires : tie.Need-plain-requires
+plain-requires c κs = search needs
+
+returns : tie.Need-returns
+returns c =
+    let a = c .before .before .before .before .before .before .before .args in
+    let s = a .s .now in
+    c .plain .ensures ∙ sym (no-word (a .n) s (c .before .before .before .word-in .result)
+    (c .before .before .before .word-in .ensures ∙ ap (λ (e : ℕ). codedToken (readWord (take e s))) (c .before .before .before .before .before .run-length .ensures)) (c .before .if1 .taken))
+
+place-requires : tie.Need-place-requires
+place-requires c κs = search needs
+
+returns-2 : tie.Need-returns-2
+returns-2 c =
+    let a = c .before .before .before .before .before .before .before .args in
+    let s = a .s .now in
+    let v = c .before .before .before .word-in .result in
+    let e = c .before .before .before .before .before .run-length .ensures in
+    ap (placed v) (c .place .ensures ∙ ap (λ (e : ℕ). a .n - (length s - e)) e)
+    ∙ sym (word (a .n) s v (c .before .before .before .word-in .ensures ∙ ap (λ (e : ℕ). codedToken (readWord (take e s))) e) (c .before .if1 .left))
+
+pub word-token-spec : {M : Type 1} → statement M
+word-token-spec =
+    tie.close
+    (tie.spec
+    run-length-requires
+    slice-aggregate-word-in
+    word-in-requires
+    plain-requires
+    returns
+    place-requires
+    returns-2)

@@ -1,0 +1,4 @@
+pub mod Places
+pub mod Atoms
+pub mod Compared
+pub mod Kept
