@@ -1,0 +1,74 @@
+-- What the functions do to the table, for any arrays. The number of holders is that of the words of `ups`. Assumes nothing: these are definitions.
+use Prim.Native.Nat.{ℕ, zero, suc, _*_, _/_, _<_}
+use mathlib.Core.Path.{_≡_}
+use mathlib.Core.Bool.{Bool, true, false, _&&_, _||_}
+use mathlib.Core.List.{List}
+use lib.ListN.{getD, length}
+use Rattle.model.specs.Limits.{groupLimit, pairLimit}
+use Rattle.bits.specs.Bits.{bit, member, holds, anyBelow}
+use Rattle.ties.specs.Ties.{inUse, tied}
+
+-- the lengths of the arrays of a call
+pub record Shaped (ups own slots t : List ℕ) : Type 0 where
+  pub own-long : length own ≡ 4 * length ups
+  pub slots-long : length slots ≡ groupLimit
+  pub table-long : length t ≡ 4 * length ups
+
+-- f says of each holder which pairs are effective: its own, and those of the groups one tie up; and a tie leads to a slot in use
+pub record Solves (ups own slots : List ℕ) (f : ℕ → ℕ → Bool) : Type 0 where
+  pub sentence : (k p : ℕ) → k < length ups → p < pairLimit → f k p ≡ (holds own k p || anyBelow groupLimit (λ q. tied ups k q && f (getD slots q 0) p))
+  pub used : (k q : ℕ) → k < length ups → q < groupLimit → tied ups k q ≡ true → inUse (length ups) slots q ≡ true
+
+-- holder k has in the table t exactly the pairs that f says
+unfoldable pub RightAt : (ℕ → ℕ → Bool) → List ℕ → ℕ → Type 0
+RightAt f t k = (p : ℕ) → p < pairLimit → holds t k p ≡ f k p
+
+-- and so has each group of the mask d
+unfoldable pub Right : ℕ → List ℕ → (ℕ → ℕ → Bool) → List ℕ → ℕ → Type 0
+Right n slots f t d = (g : ℕ) → g < groupLimit → inUse n slots g ≡ true → bit d g ≡ true → RightAt f t (getD slots g 0)
+
+-- holder k's set is its own pairs with those of the groups of a mask, and the other words are as they were
+pub record Stored (own slots : List ℕ) (k mask : ℕ) (t t′ : List ℕ) : Type 0 where
+  pub pairs : 4 * k < length t → (p : ℕ) → p < pairLimit → holds t′ k p ≡ (holds own k p || anyBelow groupLimit (λ q. bit mask q && holds t (getD slots q 0) p))
+  pub others : (j : ℕ) → (j / 4 ≡ k → ⊥) → getD t′ j 0 ≡ getD t j 0
+
+-- each chain of ties up from the group of slot g is shorter than n
+unfoldable pub Depth : List ℕ → List ℕ → ℕ → ℕ → Type 0
+Depth ups slots zero g = ⊥
+Depth ups slots (suc n) g = (q : ℕ) → q < groupLimit → tied ups (getD slots g 0) q ≡ true → Depth ups slots n q
+
+-- a chain of ties leads from the group of slot x up to that of slot g
+pub data Chain (ups slots : List ℕ) : ℕ → ℕ → Type 0 where
+  one : {x g : ℕ} → g < groupLimit → tied ups (getD slots x 0) g ≡ true → Chain ups slots x g
+  more : {x m g : ℕ} → Chain ups slots x m → g < groupLimit → tied ups (getD slots m 0) g ≡ true → Chain ups slots x g
+
+-- the chains up from a group in use are short, and it is above each group of the mask `path`
+unfoldable pub Deep : List ℕ → List ℕ → ℕ → ℕ → ℕ → Type 0
+Deep ups slots path n g =
+    inUse (length ups) slots g ≡ true → Depth ups slots n g × ((x : ℕ) → x < groupLimit → bit path x ≡ true → Chain ups slots x g)
+
+-- from the table t and the mask d to t′ and d′: the mask grows, and what is in it stays right; only words of groups that were not in d change.
+-- Where `deep` holds, the groups of `wanted` are in d′.
+pub record Settled (ups own slots t t′ : List ℕ) (d d′ : ℕ) (deep : Type 0) (wanted : ℕ → Type 0) : Type 0 where
+  pub grows : (i : ℕ) → bit d i ≡ true → bit d′ i ≡ true
+  pub right : (f : ℕ → ℕ → Bool) → Solves ups own slots f → Right (length ups) slots f t d → deep → Right (length ups) slots f t′ d′
+  pub marked : deep → (g : ℕ) → g < groupLimit → inUse (length ups) slots g ≡ true → wanted g → bit d′ g ≡ true
+  pub others : (j : ℕ) → ((q : ℕ) → q < groupLimit → inUse (length ups) slots q ≡ true → bit d q ≡ false → j / 4 ≡ getD slots q 0 → ⊥)
+      → getD t′ j 0 ≡ getD t j 0
+
+-- every group's chains are short
+unfoldable pub AllDeep : List ℕ → List ℕ → Type 0
+AllDeep ups slots = (g : ℕ) → g < groupLimit → inUse (length ups) slots g ≡ true → Depth ups slots (length ups) g
+
+-- every group has the pairs that f says, and none is in the set `wanted`
+unfoldable pub GroupsRight : ℕ → List ℕ → (ℕ → ℕ → Bool) → List ℕ → Type 0
+GroupsRight n slots f t = (g : ℕ) → g < groupLimit → inUse n slots g ≡ true → RightAt f t (getD slots g 0)
+
+unfoldable pub NoGroups : ℕ → List ℕ → List ℕ → Type 0
+NoGroups n slots wanted = (g : ℕ) → g < groupLimit → inUse n slots g ≡ true → member wanted (getD slots g 0) ≡ false
+
+-- the holders below n of the set `wanted` are stored, from groups that were right
+pub record StoredEach (ups own slots wanted t t′ : List ℕ) (n : ℕ) : Type 0 where
+  pub right : (f : ℕ → ℕ → Bool) → Solves ups own slots f → GroupsRight (length ups) slots f t → NoGroups (length ups) slots wanted
+      → (k : ℕ) → k < n → member wanted k ≡ true → RightAt f t′ k
+  pub others : (j : ℕ) → (member wanted (j / 4) ≡ true → ⊥) → getD t′ j 0 ≡ getD t j 0

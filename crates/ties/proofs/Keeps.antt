@@ -1,0 +1,50 @@
+-- What arrays that keep ties say of them. Assumes nothing.
+use Prim.Native.Nat.{ℕ, _≤_, _<_}
+use mathlib.Core.Path.{_≡_, refl, sym, ap, _∙_, subst}
+use mathlib.Core.Bool.{Bool, true, false, _&&_}
+use mathlib.Core.List.{List}
+use native.Mathlib.Omega.{arith}
+use lib.Dec.{eqb}
+use lib.ListN.{getD, length}
+use borrow.Author.Tests.{eq-eqb, eqb-true}
+use Rattle.model.specs.Notation.{any, below}
+use Rattle.model.specs.Ties.{Ties, up}
+use Rattle.model.proofs.Options.{parts, both}
+use Rattle.model.proofs.Lists.{any-in, in-any, in-below, below-in}
+use Rattle.bits.specs.Bits.{bit, anyBelow}
+use Rattle.ties.specs.Ties.{inUse, tied, isGroup, Kept}
+
+-- some number below n passes exactly when there is one
+pub any-find : (n : ℕ) (f : ℕ → Bool) → anyBelow n f ≡ true → (i : ℕ) × (i < n) × (f i ≡ true)
+unfolding anyBelow
+any-find n f e = let r = any-in f (below n) e in (r .0, in-below n (r .1), r .2)
+
+pub find-any : (n : ℕ) (f : ℕ → Bool) (i : ℕ) → i < n → f i ≡ true → anyBelow n f ≡ true
+unfolding anyBelow
+find-any n f i h e = in-any f (below-in n i h) e
+
+-- a holder that is a group has a slot in use
+pub group-slot : (n : ℕ) (slots : List ℕ) (k : ℕ) → isGroup n slots k ≡ true → (q : ℕ) × (q < 64) × (inUse n slots q ≡ true) × (getD slots q 0 ≡ k)
+unfolding isGroup
+group-slot n slots k e =
+    let r = any-find 64 (λ q. inUse n slots q && eqb (getD slots q 0) k) e in
+    let s = parts (inUse n slots (r .0)) (eqb (getD slots (r .0) 0) k) (r .2) in
+    (r .0, r .1, s .0, eqb-true (getD slots (r .0) 0) k (s .1))
+
+pub slot-group : (n : ℕ) (slots : List ℕ) (q : ℕ) → q < 64 → inUse n slots q ≡ true → isGroup n slots (getD slots q 0) ≡ true
+unfolding isGroup
+slot-group n slots q l u =
+    find-any 64 (λ r. inUse n slots r && eqb (getD slots r 0) (getD slots q 0)) q l (both u (eq-eqb (getD slots q 0) (getD slots q 0) refl))
+
+module _ {ups own slots : List ℕ} {T : Ties} (kept : Kept ups own slots T) where
+  -- a tie up is a bit of the holder's mask
+  pub up-slot : (h g : ℕ) → h < length ups → up T h g ≡ true → (q : ℕ) × (q < 64) × (tied ups h q ≡ true) × (getD slots q 0 ≡ g)
+  up-slot h g few e =
+      let r = any-find 64 (λ q. tied ups h q && eqb (getD slots q 0) g) (sym (kept .groups h g few) ∙ e) in
+      let s = parts (tied ups h (r .0)) (eqb (getD slots (r .0) 0) g) (r .2) in
+      (r .0, r .1, s .0, eqb-true (getD slots (r .0) 0) g (s .1))
+
+  pub slot-up : (h q : ℕ) → h < length ups → q < 64 → tied ups h q ≡ true → up T h (getD slots q 0) ≡ true
+  slot-up h q few l e =
+      kept .groups h (getD slots q 0) few
+      ∙ find-any 64 (λ r. tied ups h r && eqb (getD slots r 0) (getD slots q 0)) q l (both e (eq-eqb (getD slots q 0) (getD slots q 0) refl))

@@ -1,0 +1,4 @@
+pub mod Masks
+pub mod Keeps
+pub mod Widening
+pub mod Below

@@ -1,0 +1,29 @@
+-- `ties::closes_circle` meets its contract. Assumes nothing.
+use mathlib.Core.Path.{_∙_}
+use Rattle.ties.specs.Ties.{Closes}
+use Rattle.ties.proofs.Below.{closes}
+use borrow.Author.Needs.{needs}
+use Rattle.ties.proofs.closes_circle.Statement.{statement}
+use native.Mathlib.Omega.{arith}
+use Rattle.ties.proofs.closes_circle.Tie as tie
+use Rattle.ties.proofs.closes_circle.Reads as reads
+use Rattle.ties.proofs.closes_circle.Lts as lts
+use Rattle.ties.proofs.groups_below.Reads as groups-below-reads
+use Rattle.ties.proofs.is_under.Reads as is-under-reads
+
+groups-below-requires : tie.Need-groups-below-requires
+groups-below-requires c κs = search needs
+
+is-under-requires : tie.Need-is-under-requires
+is-under-requires c κs = search needs
+
+returns : tie.Need-returns
+unfolding Closes
+returns c D T own standing kept =
+    let start = c .before .before .before .before .before in
+    c .is-under .ensures
+    ∙ closes (start .args .ups .now) own (start .args .slots .now) D T standing kept (c .before .is-under-arg .given .0) (start .args .child) (c .before .before .groups-below .result)
+    (c .before .before .groups-below .ensures) (start .args .group)
+
+pub closes-circle-spec : {M : Type 1} → statement M
+closes-circle-spec = tie.close (tie.spec groups-below-requires is-under-requires returns)

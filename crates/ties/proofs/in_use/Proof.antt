@@ -1,0 +1,25 @@
+-- `ties::in_use` meets its contract. Assumes nothing.
+use Rattle.ties.proofs.Masks.{in-use-no, in-use-by}
+use borrow.Author.Needs.{needs}
+use Rattle.ties.proofs.in_use.Statement.{statement}
+use native.Mathlib.Omega.{arith}
+use Rattle.ties.proofs.in_use.Tie as tie
+use Rattle.ties.proofs.in_use.Reads as reads
+use Rattle.ties.proofs.in_use.Lts as lts
+use Rattle.ties.proofs.holder_at.Reads as holder-at-reads
+
+holder-at-requires : tie.Need-holder-at-requires
+holder-at-requires c κs = search needs
+
+returns : tie.Need-returns
+returns c =
+    let start = c .before .before .before in
+    in-use-no (start .args .n) (start .args .slots .now) (start .args .q) (c .before .holder-at .result) (c .before .holder-at .ensures) (c .if1 .taken)
+
+returns-2 : tie.Need-returns-2
+returns-2 c =
+    let start = c .before .before .before in
+    in-use-by (start .args .n) (start .args .slots .now) (start .args .q) (c .before .holder-at .result) (c .before .holder-at .ensures) (c .if1 .left)
+
+pub in-use-spec : {M : Type 1} → statement M
+in-use-spec = tie.close (tie.spec holder-at-requires returns returns-2)

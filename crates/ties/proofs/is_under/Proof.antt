@@ -1,0 +1,38 @@
+-- `ties::is_under` meets its contract. Assumes nothing.
+use mathlib.Core.Path.{_≡_, sym, ap, ap₂, _∙_}
+use mathlib.Core.Bool.{Bool, _||_}
+use Prim.Native.Nat.{ℕ}
+use lib.Dec.{eqb}
+use lib.ListN.{getD}
+use borrow.Author.Tests.{eq-eqb, ne-eqb}
+use Rattle.ties.specs.Ties.{under, meets}
+use borrow.Author.Needs.{needs}
+use Rattle.ties.proofs.is_under.Statement.{statement}
+use native.Mathlib.Omega.{arith}
+use Rattle.ties.proofs.is_under.Tie as tie
+use Rattle.ties.proofs.is_under.Reads as reads
+use Rattle.ties.proofs.is_under.Lts as lts
+use Rattle.ties.proofs.meet.Reads as meet-reads
+use Rattle.ties.proofs.ties_up.Reads as ties-up-reads
+
+returns : tie.Need-returns
+unfolding under
+returns c =
+    let start = c .before .before in
+    sym (ap (λ (b : Bool). b || meets (getD (start .args .ups .now) (start .args .k) 0) (start .args .m)) (eq-eqb _ _ (c .if1 .taken)))
+
+ties-up-requires : tie.Need-ties-up-requires
+ties-up-requires c κs = search needs
+
+meet-requires : tie.Need-meet-requires
+meet-requires c κs = search needs
+
+returns-2 : tie.Need-returns-2
+unfolding under
+returns-2 c =
+    let start = c .before .before .before .before in
+    c .meet .ensures ∙ ap (λ (x : ℕ). meets x (start .args .m)) (c .before .ties-up .ensures)
+    ∙ sym (ap (λ (b : Bool). b || meets (getD (start .args .ups .now) (start .args .k) 0) (start .args .m)) (ne-eqb _ _ (c .before .before .if1 .left)))
+
+pub is-under-spec : {M : Type 1} → statement M
+is-under-spec = tie.close (tie.spec returns ties-up-requires meet-requires returns-2)

@@ -1,0 +1,44 @@
+-- `ties::joins` meets its contract. Assumes nothing.
+use mathlib.Core.Path.{_≡_, sym, ap, ap₂, _∙_}
+use mathlib.Core.Bool.{Bool, true, false, _&&_}
+use Prim.Native.Nat.{ℕ}
+use lib.ListN.{getD, length}
+use borrow.Author.Tests.{not-true, not-false}
+use Rattle.ties.specs.Ties.{under, inUse}
+use borrow.Author.Needs.{needs}
+use Rattle.ties.proofs.joins.Statement.{statement}
+use native.Mathlib.Omega.{arith}
+use Rattle.ties.proofs.joins.Tie as tie
+use Rattle.ties.proofs.joins.Reads as reads
+use Rattle.ties.proofs.joins.Lts as lts
+use Rattle.ties.proofs.holder_at.Reads as holder-at-reads
+use Rattle.ties.proofs.in_use.Reads as in-use-reads
+use Rattle.ties.proofs.is_under.Reads as is-under-reads
+
+in-use-requires : tie.Need-in-use-requires
+in-use-requires c κs = search needs
+
+returns : tie.Need-returns
+returns c =
+    let start = c .before .before .before .before in
+    sym (ap (λ (b : Bool). b && under (start .args .ups .now) (start .args .m) (start .args .e) (getD (start .args .slots .now) (start .args .q) 0))
+    (sym (c .before .in-use .ensures) ∙ not-true (c .before .in-use .result) (c .if1 .taken)))
+
+holder-at-requires : tie.Need-holder-at-requires
+holder-at-requires c κs = search needs
+
+is-under-requires : tie.Need-is-under-requires
+is-under-requires c κs = search needs
+
+returns-2 : tie.Need-returns-2
+returns-2 c =
+    let start = c .before .before .before .before .before .before in
+    let ups = start .args .ups .now in
+    let slots = start .args .slots .now in
+    let on : inUse (length ups) slots (start .args .q) ≡ true = sym (c .before .before .before .in-use .ensures) ∙ not-false (c .before .before .before .in-use .result) (c .before .before .if1 .left) in
+    c .is-under .ensures ∙ ap (under ups (start .args .m) (start .args .e)) (c .before .holder-at .ensures)
+    ∙ sym (ap (λ (b : Bool). b && under ups (start .args .m) (start .args .e) (getD slots (start .args .q) 0)) on)
+
+pub joins-spec : {M : Type 1} → statement M
+joins-spec =
+    tie.close (tie.spec in-use-requires returns holder-at-requires is-under-requires returns-2)

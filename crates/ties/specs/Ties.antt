@@ -1,0 +1,56 @@
+-- Ties in arrays. A group has a slot, and `slots` gives the holder number of each; a holder's ties up are a mask over slots, in `ups`; its own
+-- pairs are four words, in `own`. The number of holders is that of the words of `ups`. Assumes nothing: these are definitions.
+use Prim.Native.Nat.{ℕ, _<_}
+use mathlib.Core.Path.{_≡_}
+use mathlib.Core.Logic.{_⊎_}
+use mathlib.Core.Bool.{Bool, true, _&&_, _||_}
+use mathlib.Core.List.{List}
+use lib.Dec.{eqb, ltb}
+use lib.ListN.{getD, length}
+use Rattle.model.specs.Limits.{groupLimit, pairLimit}
+use Rattle.model.specs.Declarations.{Declarations, holderNumbersOf}
+use Rattle.model.specs.Ties.{Ties, value, up, closesCircle}
+use Rattle.model.proofs.Standing.{Standing}
+use Rattle.bits.specs.Bits.{bit, holds, anyBelow}
+
+-- slot q is in use: it has the number of a holder. Number 0 is the admin's, who is no group, so a slot of 0 is free
+unfoldable pub inUse : ℕ → List ℕ → ℕ → Bool
+inUse n slots q = ltb 0 (getD slots q 0) && ltb (getD slots q 0) n
+
+-- holder h has a tie up to the group of slot q
+unfoldable pub tied : List ℕ → ℕ → ℕ → Bool
+tied ups h q = bit (getD ups h 0) q
+
+-- two masks have a slot in common
+unfoldable pub meets : ℕ → ℕ → Bool
+meets a b = anyBelow groupLimit (λ q. bit a q && bit b q)
+
+-- holder k is the group of some slot
+unfoldable pub isGroup : ℕ → List ℕ → ℕ → Bool
+isGroup n slots k = anyBelow groupLimit (λ q. inUse n slots q && eqb (getD slots q 0) k)
+
+-- the arrays keep the ties T
+pub record Kept (ups own slots : List ℕ) (T : Ties) : Type 0 where
+  pub pairs : (h p : ℕ) → h < length ups → p < pairLimit → holds own h p ≡ T (value h p)
+  pub groups : (h g : ℕ) → h < length ups → up T h g ≡ anyBelow groupLimit (λ q. tied ups h q && eqb (getD slots q 0) g)
+  pub used : (h q : ℕ) → h < length ups → q < groupLimit → tied ups h q ≡ true → inUse (length ups) slots q ≡ true
+
+-- the group of slot q is holder e, or a chain of ties leads from it up to e
+pub data Under (ups slots : List ℕ) (e : ℕ) : ℕ → Type 0 where
+  here : {q : ℕ} → inUse (length ups) slots q ≡ true → getD slots q 0 ≡ e → Under ups slots e q
+  over : {q r : ℕ} → inUse (length ups) slots q ≡ true → r < groupLimit → tied ups (getD slots q 0) r ≡ true → Under ups slots e r → Under ups slots e q
+
+-- the mask m has the slots of just those groups
+pub record Marks (ups slots : List ℕ) (e m : ℕ) : Type 0 where
+  pub sound : (q : ℕ) → q < groupLimit → bit m q ≡ true → Under ups slots e q
+  pub complete : (q : ℕ) → q < groupLimit → Under ups slots e q → bit m q ≡ true
+
+-- holder k is e, or one tie leads from it up to a group of the mask m
+unfoldable pub under : List ℕ → ℕ → ℕ → ℕ → Bool
+under ups m e k = eqb k e || meets (getD ups k 0) m
+
+-- "parent tie that closes a circle, itself included", for every standing state that the arrays keep
+unfoldable pub Closes : List ℕ → List ℕ → ℕ → ℕ → Bool → Type 0
+Closes ups slots child g r =
+    (D : Declarations) (T : Ties) (own : List ℕ) → Standing (record { declared = D; ties = T }) → Kept ups own slots T
+    → r ≡ closesCircle (holderNumbersOf D) T child g

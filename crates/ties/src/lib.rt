@@ -1,0 +1,144 @@
+// Ties in arrays: the groups' slots, what is below a holder, and whether a tie closes a circle.
+ghost use mathlib.Core.Path.{_≡_};
+ghost use mathlib.Core.Bool.{_||_, _&&_, not};
+ghost use Prim.Native.Nat.{ℕ, _*_, _<_, _≤_};
+ghost use lib.Dec.{eqb, ltb};
+ghost use lib.ListN.{length, getD};
+ghost use Rattle.model.specs.Limits.{groupLimit};
+ghost use Rattle.bits.specs.Bits.{bit, member};
+ghost use Rattle.ties.specs.Ties.{inUse, meets, isGroup, under, Marks, Closes};
+
+fn wide(s: u64) -> usize
+    ensures { λ r. ⌜ r ≡ s ⌝ }
+{
+    s as usize
+}
+
+// The holder number of slot q.
+pub fn holder_at(slots: &[u64], q: usize) -> usize
+    requires { ⌜ q < length (now slots) ⌝ }
+    ensures { λ r. ⌜ r ≡ getD (now (slots .entry)) q 0 ⌝ }
+{
+    wide(slots[q])
+}
+
+// Whether slot q is in use, among n holders.
+pub fn in_use(slots: &[u64], q: usize, n: usize) -> bool
+    requires { ⌜ q < length (now slots) ⌝ }
+    ensures { λ r. ⌜ r ≡ inUse n (now (slots .entry)) q ⌝ }
+{
+    let k = holder_at(slots, q);
+    if k == 0 {
+        return false;
+    }
+    k < n
+}
+
+// Holder k's ties up: none where there is no such holder.
+pub fn ties_up(ups: &[u64], k: usize) -> u64
+    ensures { λ r. ⌜ r ≡ getD (now (ups .entry)) k 0 ⌝ }
+{
+    if k >= ups.len() {
+        return 0;
+    }
+    ups[k]
+}
+
+// Whether two masks have a slot in common.
+pub fn meet(a: u64, b: u64) -> bool
+    ensures { λ r. ⌜ r ≡ meets a b ⌝ }
+{
+    a & b != 0
+}
+
+// A set of holders without the group of slot q.
+fn drop_group(set: &mut [u64], slots: &[u64], q: usize, n: usize)
+    requires { ⌜ (q < length (now slots)) × (n ≤ 64 * length (now set)) ⌝ }
+    ensures { λ _. ⌜ ((k : ℕ) → member (now (set .exit)) k ≡ (member (now (set .entry)) k && not (inUse n (now (slots .entry)) q && eqb (getD (now (slots .entry)) q 0) k))) ⌝ }
+{
+    if in_use(slots, q, n) {
+        let k = holder_at(slots, q);
+        bits::remove(set, k);
+    }
+}
+
+// A set of holders without the groups.
+pub fn drop_groups(set: &mut [u64], slots: &[u64], n: usize)
+    requires { ⌜ (length (now slots) ≡ groupLimit) × (n ≤ 64 * length (now set)) ⌝ }
+    ensures { λ _. ⌜ ((k : ℕ) → member (now (set .exit)) k ≡ (member (now (set .entry)) k && not (isGroup n (now (slots .entry)) k))) ⌝ }
+{
+    for q in 0..64usize {
+        drop_group(set, slots, q, n);
+    }
+}
+
+// Whether holder k is e, or has a tie up to a group of the mask m.
+pub fn is_under(ups: &[u64], m: u64, e: usize, k: usize) -> bool
+    ensures { λ r. ⌜ r ≡ under (now (ups .entry)) m e k ⌝ }
+{
+    if k == e {
+        return true;
+    }
+    let up = ties_up(ups, k);
+    meet(up, m)
+}
+
+// Whether the group of slot q is e, or has a tie up to a group of the mask m.
+fn joins(ups: &[u64], slots: &[u64], m: u64, e: usize, q: usize) -> bool
+    requires { ⌜ q < length (now slots) ⌝ }
+    ensures { λ r. ⌜ r ≡ (inUse (length (now (ups .entry))) (now (slots .entry)) q && under (now (ups .entry)) m e (getD (now (slots .entry)) q 0)) ⌝ }
+{
+    if !in_use(slots, q, ups.len()) {
+        return false;
+    }
+    let k = holder_at(slots, q);
+    is_under(ups, m, e, k)
+}
+
+// The slots of such groups.
+fn widened(ups: &[u64], slots: &[u64], m: u64, e: usize) -> u64
+    requires { ⌜ length (now slots) ≡ groupLimit ⌝ }
+    ensures { λ r. ⌜ ((q : ℕ) → q < groupLimit → bit r q ≡ (inUse (length (now (ups .entry))) (now (slots .entry)) q && under (now (ups .entry)) m e (getD (now (slots .entry)) q 0))) ⌝ }
+{
+    let mut next: u64 = 0;
+    for q in 0..64usize {
+        if joins(ups, slots, m, e, q) {
+            next = bits::with(next, q);
+        }
+    }
+    next
+}
+
+// The slots of holder e, if it is a group, and of the groups below it: the mask is widened until nothing is new.
+pub fn groups_below(ups: &[u64], slots: &[u64], e: usize) -> u64
+    requires { ⌜ length (now slots) ≡ groupLimit ⌝ }
+    ensures { λ r. ⌜ Marks (now (ups .entry)) (now (slots .entry)) e r ⌝ }
+{
+    let mut m: u64 = 0;
+    let mut next = widened(ups, slots, 0, e);
+    while next != m {
+        m = next;
+        next = widened(ups, slots, m, e);
+    }
+    m
+}
+
+// Puts into a set holder e and the holders below it, of whom m has the groups.
+pub fn holders_below(set: &mut [u64], ups: &[u64], m: u64, e: usize)
+    requires { ⌜ length (now ups) ≤ 64 * length (now set) ⌝ }
+    ensures { λ _. ⌜ ((k : ℕ) → member (now (set .exit)) k ≡ (member (now (set .entry)) k || ltb k (length (now (ups .entry))) && under (now (ups .entry)) m e k)) ⌝ }
+{
+    for k in 0..ups.len() {
+        if is_under(ups, m, e, k) {
+            bits::insert(set, k);
+        }
+    }
+}
+
+// Whether a tie from holder `child` up to holder `group` closes a circle: `group` is `child`, or below it.
+pub fn closes_circle(ups: &[u64; 256], slots: &[u64; 64], child: usize, group: usize) -> bool
+    ensures { λ r. ⌜ Closes (now (ups .entry)) (now (slots .entry)) child group r ⌝ }
+{
+    let m = groups_below(ups, slots, child);
+    is_under(ups, m, child, group)
+}
