@@ -1,14 +1,13 @@
 -- Laws of single bits. Assumes nothing.
-use Prim.Native.Nat.{ℕ, zero, suc, _+_, _-_, _*_, _/_, _%_, _^_, _≤_, _<_, min, max}
-use mathlib.Core.Path.{_≡_, refl, sym, ap, ap₂, _∙_}
-use mathlib.Core.Logic.{_⊎_, inl, inr, ⊎-elim}
-use mathlib.Core.Bool.{Bool, true, false, not, _&&_, _||_, and-true, and-false}
+use Prim.Native.Nat.{ℕ, zero, suc, _-_, _*_, _/_, _%_, _^_, _≤_, _<_, min, max}
+use mathlib.Core.Path.{_≡_, refl, sym, ap, _∙_}
+use mathlib.Core.Bool.{Bool, false, not, _&&_, _||_}
 use native.Mathlib.Nat.{zero-lt-suc, pow-suc, one-mul, mul-div-cancel, mul-mod-left}
 use native.Mathlib.Decide.{ℕ-discrete, decLt}
 use native.Mathlib.Numerals.{add-one, one-add}
 use native.Mathlib.Omega.{arith}
 use lib.Arith.{digits-mod, lt-one}
-use lib.Pow.{shr-shr, shr-lt, shl-exact, pow-pos, pow-lt}
+use lib.Pow.{shr-shr, shr-lt, shl-exact, pow-lt}
 use lib.Bits.{bitAnd, bitOr, or-step, and-step, or-shr, and-shr, and-mask}
 use lib.Dec.{eqb, eqb·zero-suc, eqb·suc-zero, eqb·suc-suc}
 use borrow.Author.Tests.{eq-eqb, ne-eqb, eqb-true, eqb-false}

@@ -1,5 +1,5 @@
 -- Laws of sets in words. Assumes nothing.
-use Prim.Native.Nat.{ℕ, zero, suc, _+_, _-_, _*_, _/_, _%_, _^_, _≤_, _<_}
+use Prim.Native.Nat.{ℕ, zero, suc, _+_, _-_, _*_, _/_, _%_, _^_, _<_}
 use mathlib.Core.Path.{_≡_, refl, sym, ap, ap₂, _∙_}
 use mathlib.Core.Bool.{Bool, true, false, not, _&&_, _||_, Bool·beq, true≢false, or-false, and-true}
 use mathlib.Core.List.{List, [], _∷_}
@@ -9,9 +9,8 @@ use lib.Bits.{bitAnd, bitOr}
 use lib.Dec.{eqb}
 use lib.ListN.{length, getD, take, drop, set, drop-of-length-le}
 use lib.Seq.{getD-take, getD-drop, sets-eq, getD-set-same, getD-set-other}
-use borrow.Author.Tests.{eq-eqb, ne-eqb, eqb-true}
-use Rattle.model.proofs.Lists.{same-truth, true-or-false}
-use Rattle.bits.specs.Bits.{bit, member, holds, differ, anyBelow}
+use borrow.Author.Tests.{eq-eqb, ne-eqb}
+use Rattle.bits.specs.Bits.{bit, member, holds, differ}
 use Rattle.bits.proofs.Bits.{same-test, bit-or, bit-and, bit-none, bit-ext}
 use Rattle.bits.proofs.Counts.{any-at, any-none}
 

@@ -1,17 +1,16 @@
 -- An edit's table: the edited holder and those below it anew, and the others as they were. Assumes nothing.
 use Prim.Native.Nat.{ℕ, zero, suc, _+_, _-_, _*_, _/_, _%_, _^_, _≤_, _<_}
-use mathlib.Core.Path.{_≡_, refl, sym, ap, ap₂, _∙_, subst}
-use mathlib.Core.Logic.{_⊎_, inl, inr, ⊎-elim}
+use mathlib.Core.Path.{_≡_, refl, sym, ap, ap₂, _∙_}
+use mathlib.Core.Logic.{⊎-elim}
 use mathlib.Core.Bool.{Bool, true, false, not, _&&_, _||_, Bool·beq, true≢false, or-false, and-false}
-use mathlib.Core.List.{List, [], _∷_}
+use mathlib.Core.List.{List}
 use native.Mathlib.Nat.{eq-or-lt-of-le}
 use native.Mathlib.Omega.{arith}
 use lib.Dec.{eqb, ltb}
 use lib.ListN.{length, getD, take, drop, replicate}
 use borrow.Author.Tests.{eq-eqb, eqb-true, ne-eqb, lt-ltb, not-true, not-false}
 use Rattle.model.specs.Declarations.{Declarations, holderNumbersOf}
-use Rattle.model.specs.Ties.{Tie, Ties, up, Above, edited}
-use Rattle.model.specs.Effective.{effective}
+use Rattle.model.specs.Ties.{Ties}
 use Rattle.model.specs.Table.{effectiveSet, table}
 use Rattle.model.specs.Edits.{differs, changes}
 use Rattle.model.proofs.Options.{parts, both}
@@ -20,12 +19,12 @@ use Rattle.model.proofs.Effective.{DifferAt, same-elsewhere}
 use Rattle.model.proofs.Standing.{Standing}
 use Rattle.bits.specs.Bits.{bit, member, holds, differ, anyBelow, countBelow}
 use Rattle.bits.proofs.Bits.{bit-none, bit-not}
-use Rattle.bits.proofs.Sets.{member-part, member-none, same-beq}
+use Rattle.bits.proofs.Sets.{member-part, same-beq}
 use Rattle.bits.proofs.Counts.{any-ext, any-suc, any-at, count-ext, count-rest}
 use Rattle.ties.specs.Ties.{inUse, tied, meets, isGroup, under, Kept, Under, here, over, Marks}
 use Rattle.ties.proofs.Masks.{in-use-lt}
 use Rattle.ties.proofs.Keeps.{any-find, find-any}
-use Rattle.ties.proofs.Below.{meets-above, above-meets, holders-fit}
+use Rattle.ties.proofs.Below.{above-meets, holders-fit}
 use Rattle.sets.specs.Settled.{Solves, RightAt, Right, Settled, AllDeep, GroupsRight, StoredEach}
 use Rattle.changes.specs.Refreshed.{unlike, Refreshed}
 use Rattle.sets.proofs.Parts.{holds-kept}

@@ -1,6 +1,6 @@
 -- How settled groups and stored sets add up. Assumes nothing.
-use Prim.Native.Nat.{ℕ, zero, suc, _+_, _-_, _*_, _/_, _%_, _<_, _≤_}
-use mathlib.Core.Path.{_≡_, refl, sym, ap, ap₂, _∙_, subst}
+use Prim.Native.Nat.{ℕ, zero, suc, _+_, _-_, _*_, _<_, _≤_}
+use mathlib.Core.Path.{_≡_, refl, sym, ap, _∙_, subst}
 use mathlib.Core.Logic.{_⊎_, inl, inr, ⊎-elim}
 use mathlib.Core.Bool.{Bool, true, false, _&&_, _||_, or-true, true≢false}
 use mathlib.Core.List.{List}
@@ -11,8 +11,8 @@ use native.Mathlib.Omega.{arith}
 use lib.ListN.{getD, length}
 use lib.Dec.{eqb}
 use borrow.Author.Tests.{eq-eqb, eqb-true}
-use Rattle.model.proofs.Lists.{true-or-false, or-cases}
-use Rattle.bits.specs.Bits.{bit, member, holds, anyBelow}
+use Rattle.model.proofs.Lists.{or-cases}
+use Rattle.bits.specs.Bits.{bit, member, holds}
 use Rattle.bits.proofs.Counts.{any-ext}
 use Rattle.bits.proofs.Bits.{bit-none}
 use Rattle.ties.specs.Ties.{inUse, tied}

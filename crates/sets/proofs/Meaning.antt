@@ -1,7 +1,6 @@
 -- The specification's effective sets solve the sentence over the arrays that keep the ties. Assumes nothing.
-use Prim.Native.Nat.{ℕ, zero, suc, _+_, _-_, _*_, _/_, _%_, _^_, _≤_, _<_}
+use Prim.Native.Nat.{ℕ, zero, suc, _/_, _%_, _^_, _≤_, _<_}
 use mathlib.Core.Path.{_≡_, refl, sym, ap, ap₂, _∙_, subst}
-use mathlib.Core.Logic.{_⊎_, inl, inr, ⊎-elim}
 use mathlib.Core.Bool.{Bool, true, false, not, _&&_, _||_, true≢false}
 use mathlib.Core.List.{List}
 use native.Mathlib.Decide.{decLt}
@@ -12,17 +11,17 @@ use Rattle.model.specs.Declarations.{Declarations, holderNumbersOf}
 use Rattle.model.specs.Ties.{Ties, up}
 use Rattle.model.specs.Ties
 use Rattle.model.specs.Effective.{effective}
-use Rattle.model.specs.Table.{effectiveSet, table}
+use Rattle.model.specs.Table.{effectiveSet}
 use Rattle.model.proofs.Options.{parts, both}
-use Rattle.model.proofs.Lists.{_∈_, same-truth, true-or-false, any-in, in-any, in-filter, filter-in, in-below, below-in, length-below}
+use Rattle.model.proofs.Lists.{same-truth, any-in, in-any, in-filter, filter-in, in-below, below-in, length-below}
 use Rattle.model.proofs.Chains
-use Rattle.model.proofs.Chains.{Among, acyclic-depth}
+use Rattle.model.proofs.Chains.{acyclic-depth}
 use Rattle.model.proofs.Effective.{effective-equation}
 use Rattle.model.proofs.Standing.{Standing, among}
 use Rattle.bits.specs.Bits.{bit, member, holds, anyBelow}
 use Rattle.bits.proofs.Bits.{bit-none, bit-not}
 use Rattle.bits.proofs.Sets.{four}
-use Rattle.ties.specs.Ties.{inUse, tied, isGroup, Kept}
+use Rattle.ties.specs.Ties.{tied, isGroup, Kept}
 use Rattle.ties.proofs.Masks.{in-use-lt}
 use Rattle.ties.proofs.Keeps.{any-find, find-any, up-slot, slot-up, group-slot, slot-group}
 use Rattle.sets.specs.Settled.{Solves, RightAt, Right, Depth, Settled, AllDeep, GroupsRight, NoGroups, StoredEach}

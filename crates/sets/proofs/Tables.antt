@@ -1,27 +1,25 @@
 -- The specification's table is known by the pairs of its holders. Assumes nothing.
-use Prim.Native.Nat.{ℕ, zero, suc, _+_, _-_, _*_, _/_, _%_, _^_, _≤_, _<_}
-use mathlib.Core.Path.{_≡_, refl, sym, ap, ap₂, _∙_, subst}
-use mathlib.Core.Logic.{_⊎_, inl, inr, ⊎-elim}
+use Prim.Native.Nat.{ℕ, zero, suc, _+_, _*_, _/_, _%_, _^_, _≤_, _<_}
+use mathlib.Core.Path.{_≡_, refl, sym, ap, ap₂, _∙_}
+use mathlib.Core.Logic.{⊎-elim}
 use mathlib.Core.Bool.{Bool, true, false}
 use mathlib.Core.List.{List, [], _∷_, _++_, append-assoc, append-nil}
 use native.Mathlib.Nat.{eq-or-lt-of-le}
 use native.Mathlib.Decide.{decLt}
 use native.Mathlib.Omega.{arith}
 use lib.Dec.{ltb}
-use lib.ListN.{length, getD, replicate, length-append, length-replicate, List·getD-append}
+use lib.ListN.{length, getD, replicate, length-append, List·getD-append}
 use lib.Seq.{ext-getD, getD-append-add}
 use borrow.Author.Tests.{lt-ltb, le-ltb}
 use Rattle.model.specs.Notation.{each, below}
 use Rattle.model.specs.Declarations.{Declarations, holderNumbersOf}
 use Rattle.model.specs.Ties.{Ties, value}
-use Rattle.model.specs.Effective.{effective, Has, own, inherited}
+use Rattle.model.specs.Effective.{Has, own, inherited}
 use Rattle.model.specs.Table.{word, wordsOf, effectiveSet, storedSet, table}
 use Rattle.model.proofs.Lists.{_∈_, in-below, true-or-false, nth-lt}
-use Rattle.model.proofs.Chains.{Among}
 use Rattle.model.proofs.Effective.{effective-has}
 use Rattle.model.proofs.Standing.{Standing, among}
-use Rattle.bits.specs.Bits.{bit, member, holds}
-use Rattle.bits.proofs.Bits.{bit-ext}
+use Rattle.bits.specs.Bits.{bit, holds}
 use Rattle.bits.proofs.Sets.{member-none}
 use Rattle.bits.proofs.Words.{length-words, getD-words, bit-word, word-is, words-are}
 

@@ -1,20 +1,19 @@
 -- The groups below a holder in the arrays are those below it by the ties that the arrays keep. Assumes nothing.
-use Prim.Native.Nat.{ℕ, _+_, _≤_, _<_}
+use Prim.Native.Nat.{ℕ, _<_}
 use mathlib.Core.Path.{_≡_, refl, sym, ap, ap₂, _∙_, subst}
 use mathlib.Core.Logic.{_⊎_, inl, inr, ⊎-elim}
-use mathlib.Core.Bool.{Bool, true, false, _&&_, _||_, true≢false}
+use mathlib.Core.Bool.{Bool, true, _&&_, _||_, true≢false}
 use mathlib.Core.List.{List}
 use native.Mathlib.Decide.{decLt}
 use native.Mathlib.Omega.{arith}
-use lib.Dec.{eqb}
 use lib.ListN.{getD, length, List·getD-eq-default}
 use Rattle.model.specs.Declarations.{Declarations, holderNumbersOf}
 use Rattle.model.specs.Ties.{Ties, up, Above, one, more, isAbove, closesCircle}
 use Rattle.model.proofs.Options.{parts, both}
-use Rattle.model.proofs.Lists.{_∈_, same-truth, in-below}
-use Rattle.model.proofs.Chains.{is-above, first-tie}
+use Rattle.model.proofs.Lists.{same-truth, in-below}
+use Rattle.model.proofs.Chains.{is-above}
 use Rattle.model.proofs.Standing.{Standing, among}
-use Rattle.bits.specs.Bits.{bit, anyBelow}
+use Rattle.bits.specs.Bits.{bit}
 use Rattle.bits.proofs.Bits.{bit-none}
 use Rattle.ties.specs.Ties.{inUse, tied, meets, under, Kept, Under, here, over, Marks}
 use Rattle.ties.proofs.Masks.{in-use-lt, eqb-flip}

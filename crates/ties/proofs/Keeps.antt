@@ -1,17 +1,16 @@
 -- What arrays that keep ties say of them. Assumes nothing.
-use Prim.Native.Nat.{ℕ, _≤_, _<_}
-use mathlib.Core.Path.{_≡_, refl, sym, ap, _∙_, subst}
-use mathlib.Core.Bool.{Bool, true, false, _&&_}
+use Prim.Native.Nat.{ℕ, _<_}
+use mathlib.Core.Path.{_≡_, refl, sym, _∙_}
+use mathlib.Core.Bool.{Bool, true, _&&_}
 use mathlib.Core.List.{List}
-use native.Mathlib.Omega.{arith}
 use lib.Dec.{eqb}
 use lib.ListN.{getD, length}
 use borrow.Author.Tests.{eq-eqb, eqb-true}
-use Rattle.model.specs.Notation.{any, below}
+use Rattle.model.specs.Notation.{below}
 use Rattle.model.specs.Ties.{Ties, up}
 use Rattle.model.proofs.Options.{parts, both}
 use Rattle.model.proofs.Lists.{any-in, in-any, in-below, below-in}
-use Rattle.bits.specs.Bits.{bit, anyBelow}
+use Rattle.bits.specs.Bits.{anyBelow}
 use Rattle.ties.specs.Ties.{inUse, tied, isGroup, Kept}
 
 -- some number below n passes exactly when there is one

@@ -1,7 +1,7 @@
 -- Slots in use and masks over slots. Assumes nothing.
-use Prim.Native.Nat.{ℕ, zero, suc, _^_, _≤_, _<_}
-use mathlib.Core.Path.{_≡_, refl, sym, ap, ap₂, _∙_}
-use mathlib.Core.Bool.{Bool, true, false, not, _&&_, _||_, true≢false}
+use Prim.Native.Nat.{ℕ, zero, suc, _^_, _<_}
+use mathlib.Core.Path.{_≡_, refl, sym, ap, _∙_}
+use mathlib.Core.Bool.{Bool, true, false, not, _&&_, _||_}
 use mathlib.Core.List.{List}
 use native.Mathlib.Decide.{ℕ-discrete}
 use native.Mathlib.Omega.{arith}
@@ -12,7 +12,6 @@ use borrow.Author.Tests.{eq-eqb, ne-eqb, ltb-true, lt-ltb, le-ltb}
 use Rattle.model.proofs.Options.{parts}
 use Rattle.bits.specs.Bits.{bit, anyBelow}
 use Rattle.bits.proofs.Bits.{same-test, bit-and, bit-none, bit-ext}
-use Rattle.bits.proofs.Sets.{same-by}
 use Rattle.bits.proofs.Counts.{any-at, any-none}
 use Rattle.ties.specs.Ties.{inUse, meets}
 

@@ -1,20 +1,19 @@
 -- A mask that is widened until nothing is new has just the groups below a holder. Assumes nothing.
-use Prim.Native.Nat.{ℕ, zero, suc, _+_, _-_, _^_, _≤_, _<_}
-use mathlib.Core.Path.{_≡_, refl, sym, ap, ap₂, _∙_, subst}
+use Prim.Native.Nat.{ℕ, _+_, _^_, _≤_, _<_}
+use mathlib.Core.Path.{_≡_, refl, sym, ap, _∙_}
 use mathlib.Core.Logic.{_⊎_, inl, inr, ⊎-elim}
-use mathlib.Core.Bool.{Bool, true, false, not, _&&_, _||_, or-false, and-true, and-false, true≢false}
+use mathlib.Core.Bool.{Bool, true, false, not, _&&_, _||_, or-false, true≢false}
 use mathlib.Core.List.{List}
 use native.Mathlib.Decide.{ℕ-discrete, decLt}
 use native.Mathlib.Omega.{arith}
 use lib.Dec.{eqb, ltb}
 use lib.ListN.{getD, length}
 use borrow.Author.Tests.{eq-eqb, eqb-true, ne-eqb, lt-ltb, le-ltb, not-true}
-use Rattle.model.specs.Notation.{below}
 use Rattle.model.proofs.Options.{parts, both}
 use Rattle.model.proofs.Lists.{same-truth, true-or-false, or-cases, or-left, or-right, count-more, below-in}
 use Rattle.bits.specs.Bits.{bit, anyBelow, countBelow}
 use Rattle.bits.proofs.Bits.{bit-none, bit-high, bit-ext}
-use Rattle.bits.proofs.Counts.{any-none, count-below-le}
+use Rattle.bits.proofs.Counts.{any-none}
 use Rattle.ties.specs.Ties.{inUse, tied, meets, under, Under, here, over, Marks}
 use Rattle.ties.proofs.Keeps.{any-find, find-any}
 

@@ -2,11 +2,7 @@
 use Rattle.bits.specs.Bits.{member}
 use borrow.Author.Needs.{needs}
 use Rattle.bits.proofs.contains.Statement.{statement}
-use native.Mathlib.Omega.{arith}
 use Rattle.bits.proofs.contains.Tie as tie
-use Rattle.bits.proofs.contains.Reads as reads
-use Rattle.bits.proofs.contains.Lts as lts
-use Rattle.bits.proofs.has.Reads as has-reads
 
 mul-word : tie.Need-mul-word
 mul-word c = search needs

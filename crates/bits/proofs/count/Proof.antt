@@ -1,6 +1,6 @@
 -- `bits::count` meets its contract: after i words the sum counts the numbers below 64 i. Assumes nothing.
-use mathlib.Core.Path.{_≡_, refl, sym, ap, _∙_}
-use Prim.Native.Nat.{ℕ, _+_, _*_, _-_, _≤_}
+use mathlib.Core.Path.{_≡_, refl, ap, _∙_}
+use Prim.Native.Nat.{ℕ, _*_, _-_, _≤_}
 use lib.ListN.{length, getD}
 use Rattle.bits.specs.Bits.{bit, member, countBelow}
 use Rattle.bits.proofs.Counts.{words-more, count-below-le}
@@ -8,9 +8,6 @@ use Rattle.bits.proofs.count.Statement.{statement}
 use borrow.Author.Needs.{needs}
 use native.Mathlib.Omega.{arith}
 use Rattle.bits.proofs.count.Tie as tie
-use Rattle.bits.proofs.count.Reads as reads
-use Rattle.bits.proofs.count.Lts as lts
-use Rattle.bits.proofs.ones.Reads as ones-reads
 
 abbrev Inv-loop : tie.InvT-loop
 Inv-loop set sum₀ i₀ i-end sum i = (i ≤ length set) × (sum ≡ countBelow (64 * i) (member set))

@@ -4,8 +4,6 @@ use borrow.Author.Needs.{needs}
 use Rattle.bits.proofs.differs.Statement.{statement}
 use native.Mathlib.Omega.{arith}
 use Rattle.bits.proofs.differs.Tie as tie
-use Rattle.bits.proofs.differs.Reads as reads
-use Rattle.bits.proofs.differs.Lts as lts
 
 shared-slice-read-if1 : tie.Need-shared-slice-read-if1
 shared-slice-read-if1 c = search needs

@@ -2,10 +2,7 @@
 use Rattle.bits.proofs.Bits.{bit-test}
 use borrow.Author.Needs.{needs}
 use Rattle.bits.proofs.has.Statement.{statement}
-use native.Mathlib.Omega.{arith}
 use Rattle.bits.proofs.has.Tie as tie
-use Rattle.bits.proofs.has.Reads as reads
-use Rattle.bits.proofs.has.Lts as lts
 
 shr-result : tie.Need-shr-result
 shr-result c = search needs

@@ -2,11 +2,7 @@
 use Rattle.bits.proofs.Sets.{member-with}
 use borrow.Author.Needs.{needs}
 use Rattle.bits.proofs.insert.Statement.{statement}
-use native.Mathlib.Omega.{arith}
 use Rattle.bits.proofs.insert.Tie as tie
-use Rattle.bits.proofs.insert.Reads as reads
-use Rattle.bits.proofs.insert.Lts as lts
-use Rattle.bits.proofs.with.Reads as with-reads
 
 mul-word : tie.Need-mul-word
 mul-word c = search needs

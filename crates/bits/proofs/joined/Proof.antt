@@ -3,10 +3,7 @@ use mathlib.Core.Path.{refl}
 use Rattle.bits.proofs.Sets.{member-or, four}
 use borrow.Author.Needs.{needs}
 use Rattle.bits.proofs.joined.Statement.{statement}
-use native.Mathlib.Omega.{arith}
 use Rattle.bits.proofs.joined.Tie as tie
-use Rattle.bits.proofs.joined.Reads as reads
-use Rattle.bits.proofs.joined.Lts as lts
 
 array-read-t6 : tie.Need-array-read-t6
 array-read-t6 c = search needs

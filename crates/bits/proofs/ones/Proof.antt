@@ -2,11 +2,8 @@
 use Rattle.bits.specs.Bits.{bit}
 use Rattle.bits.proofs.Counts.{ones-count, count-below-le}
 use Rattle.bits.proofs.ones.Statement.{statement}
-use borrow.Author.Needs.{needs}
 use native.Mathlib.Omega.{arith}
 use Rattle.bits.proofs.ones.Tie as tie
-use Rattle.bits.proofs.ones.Reads as reads
-use Rattle.bits.proofs.ones.Lts as lts
 
 cast-result : tie.Need-cast-result
 cast-result c = omega (arith, ones-count 64 (c .args .w) (c .fits .w .fits), count-below-le 64 (bit (c .args .w)))

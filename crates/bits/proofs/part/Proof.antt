@@ -3,10 +3,7 @@ use mathlib.Core.Path.{refl}
 use Rattle.bits.proofs.Sets.{member-and, four}
 use borrow.Author.Needs.{needs}
 use Rattle.bits.proofs.part.Statement.{statement}
-use native.Mathlib.Omega.{arith}
 use Rattle.bits.proofs.part.Tie as tie
-use Rattle.bits.proofs.part.Reads as reads
-use Rattle.bits.proofs.part.Lts as lts
 
 array-read-t6 : tie.Need-array-read-t6
 array-read-t6 c = search needs

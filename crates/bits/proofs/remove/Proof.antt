@@ -2,11 +2,7 @@
 use Rattle.bits.proofs.Sets.{member-without}
 use borrow.Author.Needs.{needs}
 use Rattle.bits.proofs.remove.Statement.{statement}
-use native.Mathlib.Omega.{arith}
 use Rattle.bits.proofs.remove.Tie as tie
-use Rattle.bits.proofs.remove.Reads as reads
-use Rattle.bits.proofs.remove.Lts as lts
-use Rattle.bits.proofs.without.Reads as without-reads
 
 mul-word : tie.Need-mul-word
 mul-word c = search needs

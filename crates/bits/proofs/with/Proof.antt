@@ -2,10 +2,7 @@
 use Rattle.bits.proofs.Bits.{bit-with}
 use borrow.Author.Needs.{needs}
 use Rattle.bits.proofs.with.Statement.{statement}
-use native.Mathlib.Omega.{arith}
 use Rattle.bits.proofs.with.Tie as tie
-use Rattle.bits.proofs.with.Reads as reads
-use Rattle.bits.proofs.with.Lts as lts
 
 shl-result : tie.Need-shl-result
 shl-result c = search needs

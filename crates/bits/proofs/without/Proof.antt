@@ -2,10 +2,7 @@
 use Rattle.bits.proofs.Bits.{bit-without}
 use borrow.Author.Needs.{needs}
 use Rattle.bits.proofs.without.Statement.{statement}
-use native.Mathlib.Omega.{arith}
 use Rattle.bits.proofs.without.Tie as tie
-use Rattle.bits.proofs.without.Reads as reads
-use Rattle.bits.proofs.without.Lts as lts
 
 shl-result : tie.Need-shl-result
 shl-result c = search needs

@@ -1,6 +1,6 @@
 -- `changes::copy` meets its contract: after i words those are the other table's. Assumes nothing.
-use mathlib.Core.Path.{_≡_, refl, sym, _∙_}
-use Prim.Native.Nat.{ℕ, _<_, _≤_, _+_, _-_}
+use mathlib.Core.Path.{_≡_, refl, _∙_}
+use Prim.Native.Nat.{ℕ, _<_, _≤_, _-_}
 use lib.ListN.{length, getD, length-set}
 use lib.Seq.{getD-set-same, getD-set-other, ext-getD}
 use borrow.Author.Count.{below-more}
@@ -8,8 +8,6 @@ use Rattle.changes.proofs.copy.Statement.{statement}
 use borrow.Author.Needs.{needs}
 use native.Mathlib.Omega.{arith}
 use Rattle.changes.proofs.copy.Tie as tie
-use Rattle.changes.proofs.copy.Reads as reads
-use Rattle.changes.proofs.copy.Lts as lts
 
 abbrev Inv-loop : tie.InvT-loop
 Inv-loop to₀ from i₀ i-end to i = (i ≤ length from) × (length to ≡ length to₀) × ((j : ℕ) → j < i → getD to j 0 ≡ getD from j 0)

@@ -3,11 +3,7 @@ use mathlib.Core.Path.{_∙_}
 use Rattle.changes.proofs.Refreshing.{unlike-parts}
 use borrow.Author.Needs.{needs}
 use Rattle.changes.proofs.differs_at.Statement.{statement}
-use native.Mathlib.Omega.{arith}
 use Rattle.changes.proofs.differs_at.Tie as tie
-use Rattle.changes.proofs.differs_at.Reads as reads
-use Rattle.changes.proofs.differs_at.Lts as lts
-use Rattle.bits.proofs.differs.Reads as differs-reads
 
 mul-at : tie.Need-mul-at
 mul-at c = search needs

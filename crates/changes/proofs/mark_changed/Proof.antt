@@ -1,11 +1,11 @@
 -- `changes::mark_changed` meets its contract: after k holders those of them that changed are marked. Assumes nothing.
-use mathlib.Core.Path.{_≡_, refl, sym, ap, ap₂, _∙_}
+use mathlib.Core.Path.{_≡_, refl, sym, ap, _∙_}
 use mathlib.Core.Logic.{⊎-elim}
-use mathlib.Core.Bool.{Bool, true, false, _&&_, _||_, or-false}
-use Prim.Native.Nat.{ℕ, _<_, _≤_, _+_, _-_}
+use mathlib.Core.Bool.{Bool, _&&_, _||_, or-false}
+use Prim.Native.Nat.{ℕ, _≤_, _-_}
 use lib.Dec.{eqb, ltb}
-use lib.ListN.{getD, length}
-use borrow.Author.Tests.{lt-ltb, le-ltb}
+use lib.ListN.{length}
+use borrow.Author.Tests.{le-ltb}
 use Rattle.bits.specs.Bits.{member}
 use Rattle.ties.proofs.Widening.{turn-on, turn-off, or-regroup}
 use Rattle.changes.specs.Refreshed.{unlike}
@@ -13,10 +13,6 @@ use Rattle.changes.proofs.mark_changed.Statement.{statement}
 use borrow.Author.Needs.{needs}
 use native.Mathlib.Omega.{arith}
 use Rattle.changes.proofs.mark_changed.Tie as tie
-use Rattle.changes.proofs.mark_changed.Reads as reads
-use Rattle.changes.proofs.mark_changed.Lts as lts
-use Rattle.bits.proofs.insert.Reads as insert-reads
-use Rattle.changes.proofs.differs_at.Reads as differs-at-reads
 
 abbrev Inv-loop : tie.InvT-loop
 Inv-loop marks₀ old new n k₀ marks k =

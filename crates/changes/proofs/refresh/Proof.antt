@@ -7,16 +7,6 @@ use Rattle.changes.proofs.refresh.Statement.{statement}
 use borrow.Author.Needs.{needs}
 use native.Mathlib.Omega.{arith}
 use Rattle.changes.proofs.refresh.Tie as tie
-use Rattle.changes.proofs.refresh.Reads as reads
-use Rattle.changes.proofs.refresh.Lts as lts
-use Rattle.bits.proofs.count.Reads as count-reads
-use Rattle.changes.proofs.copy.Reads as copy-reads
-use Rattle.changes.proofs.mark_changed.Reads as mark-changed-reads
-use Rattle.sets.proofs.settle_groups.Reads as settle-groups-reads
-use Rattle.sets.proofs.store_each.Reads as store-each-reads
-use Rattle.ties.proofs.drop_groups.Reads as drop-groups-reads
-use Rattle.ties.proofs.groups_below.Reads as groups-below-reads
-use Rattle.ties.proofs.holders_below.Reads as holders-below-reads
 
 slice-aggregate-copy : tie.Need-slice-aggregate-copy
 slice-aggregate-copy c = search needs

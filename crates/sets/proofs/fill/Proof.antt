@@ -4,11 +4,6 @@ use Rattle.sets.proofs.Meaning.{filled}
 use borrow.Author.Needs.{needs}
 use Rattle.sets.proofs.fill.Statement.{statement}
 use Rattle.sets.proofs.fill.Tie as tie
-use Rattle.sets.proofs.fill.Reads as reads
-use Rattle.sets.proofs.fill.Lts as lts
-use Rattle.sets.proofs.settle_groups.Reads as settle-groups-reads
-use Rattle.sets.proofs.store_each.Reads as store-each-reads
-use Rattle.ties.proofs.drop_groups.Reads as drop-groups-reads
 
 -- src/lib.rt:145:23
 slice-aggregate-drop-groups : tie.Need-slice-aggregate-drop-groups

@@ -1,5 +1,5 @@
 -- `sets::gather` meets its contract: after q slots the sum has the pairs of those groups. Assumes nothing.
-use mathlib.Core.Path.{_≡_, sym, _∙_}
+use mathlib.Core.Path.{_≡_}
 use mathlib.Core.Bool.{_&&_}
 use Prim.Native.Nat.{ℕ, _≤_, _<_, _-_}
 use lib.ListN.{getD}
@@ -10,9 +10,6 @@ use Rattle.sets.proofs.gather.Statement.{statement}
 use borrow.Author.Needs.{needs}
 use native.Mathlib.Omega.{arith}
 use Rattle.sets.proofs.gather.Tie as tie
-use Rattle.sets.proofs.gather.Reads as reads
-use Rattle.sets.proofs.gather.Lts as lts
-use Rattle.sets.proofs.inherit_from.Reads as inherit-from-reads
 
 abbrev Inv-loop : tie.InvT-loop
 Inv-loop table slots mask sum₀ q₀ sum q =

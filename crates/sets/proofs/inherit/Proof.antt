@@ -8,9 +8,6 @@ use borrow.Author.Needs.{needs}
 use Rattle.sets.proofs.inherit.Statement.{statement}
 use native.Mathlib.Omega.{arith}
 use Rattle.sets.proofs.inherit.Tie as tie
-use Rattle.sets.proofs.inherit.Reads as reads
-use Rattle.sets.proofs.inherit.Lts as lts
-use Rattle.bits.proofs.joined.Reads as joined-reads
 
 returns : tie.Need-returns
 returns c p h =

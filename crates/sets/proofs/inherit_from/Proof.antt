@@ -1,17 +1,10 @@
 -- `sets::inherit_from` meets its contract. Assumes nothing.
-use mathlib.Core.Path.{_≡_, sym, ap, _∙_}
-use mathlib.Core.Bool.{Bool, true, false, _||_, _&&_, or-false}
-use Prim.Native.Nat.{ℕ}
-use Rattle.bits.specs.Bits.{bit, member, holds}
+use mathlib.Core.Path.{_≡_, sym, _∙_}
+use mathlib.Core.Bool.{true, false, or-false}
+use Rattle.bits.specs.Bits.{bit}
 use borrow.Author.Needs.{needs}
 use Rattle.sets.proofs.inherit_from.Statement.{statement}
-use native.Mathlib.Omega.{arith}
 use Rattle.sets.proofs.inherit_from.Tie as tie
-use Rattle.sets.proofs.inherit_from.Reads as reads
-use Rattle.sets.proofs.inherit_from.Lts as lts
-use Rattle.bits.proofs.has.Reads as has-reads
-use Rattle.sets.proofs.inherit.Reads as inherit-reads
-use Rattle.ties.proofs.holder_at.Reads as holder-at-reads
 
 has-requires : tie.Need-has-requires
 has-requires c κs = search needs

@@ -3,10 +3,7 @@ use mathlib.Core.Path.{refl}
 use Rattle.bits.proofs.Sets.{member-or, four, stored4}
 use borrow.Author.Needs.{needs}
 use Rattle.sets.proofs.rewrite.Statement.{statement}
-use native.Mathlib.Omega.{arith}
 use Rattle.sets.proofs.rewrite.Tie as tie
-use Rattle.sets.proofs.rewrite.Reads as reads
-use Rattle.sets.proofs.rewrite.Lts as lts
 
 shared-slice-read-set : tie.Need-shared-slice-read-set
 shared-slice-read-set c = search needs

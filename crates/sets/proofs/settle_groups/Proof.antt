@@ -1,7 +1,7 @@
 -- `sets::settle_groups` meets its contract: after g slots their groups are settled. Assumes nothing.
-use mathlib.Core.Path.{_≡_, refl, sym, _∙_}
+use mathlib.Core.Path.{_≡_, sym, _∙_}
 use mathlib.Core.Logic.{inl, inr, ⊎-elim}
-use Prim.Native.Nat.{ℕ, _<_, _≤_, _+_, _-_, _*_}
+use Prim.Native.Nat.{_<_, _≤_, _+_, _-_, _*_}
 use native.Mathlib.Nat.{eq-or-lt-of-le}
 use lib.ListN.{length}
 use Rattle.sets.specs.Settled.{Settled, AllDeep}
@@ -10,9 +10,6 @@ use Rattle.sets.proofs.settle_groups.Statement.{statement}
 use borrow.Author.Needs.{needs}
 use native.Mathlib.Omega.{arith}
 use Rattle.sets.proofs.settle_groups.Tie as tie
-use Rattle.sets.proofs.settle_groups.Reads as reads
-use Rattle.sets.proofs.settle_groups.Lts as lts
-use Rattle.sets.proofs.settle.Reads as settle-reads
 
 abbrev Inv-loop : tie.InvT-loop
 Inv-loop table₀ own ups slots done seen₀ g₀ table seen g =

@@ -1,6 +1,6 @@
 -- `sets::store` meets its contract: holder k's four words are lent to `rewrite`. Assumes nothing.
 use mathlib.Core.Path.{_≡_, refl, _∙_}
-use Prim.Native.Nat.{_<_, _≤_, _+_, _*_}
+use Prim.Native.Nat.{_≤_, _+_, _*_}
 use lib.ListN.{length}
 use borrow.Rule.Slice.PartMut.{mid-len}
 use Rattle.bits.proofs.Sets.{member-part}
@@ -9,10 +9,6 @@ use borrow.Author.Needs.{needs}
 use Rattle.sets.proofs.store.Statement.{statement}
 use native.Mathlib.Omega.{arith}
 use Rattle.sets.proofs.store.Tie as tie
-use Rattle.sets.proofs.store.Reads as reads
-use Rattle.sets.proofs.store.Lts as lts
-use Rattle.sets.proofs.gather.Reads as gather-reads
-use Rattle.sets.proofs.rewrite.Reads as rewrite-reads
 
 returns : tie.Need-returns
 returns c = record { pairs = λ few p h. absurd (omega arith); others = λ j n. refl }

@@ -1,18 +1,14 @@
 -- `sets::store_each` meets its contract: after k holders those of the set are stored. Assumes nothing.
-use mathlib.Core.Path.{_≡_, refl, sym, ap, _∙_}
+use mathlib.Core.Path.{_≡_, refl, sym, _∙_}
 use mathlib.Core.Logic.{⊎-elim}
-use Prim.Native.Nat.{ℕ, _<_, _≤_, _+_, _-_, _*_}
-use lib.ListN.{length, getD}
+use Prim.Native.Nat.{_≤_, _-_, _*_}
+use lib.ListN.{length}
 use Rattle.sets.specs.Settled.{StoredEach}
 use Rattle.sets.proofs.Laws.{each-taken, each-left}
 use Rattle.sets.proofs.store_each.Statement.{statement}
 use borrow.Author.Needs.{needs}
 use native.Mathlib.Omega.{arith}
 use Rattle.sets.proofs.store_each.Tie as tie
-use Rattle.sets.proofs.store_each.Reads as reads
-use Rattle.sets.proofs.store_each.Lts as lts
-use Rattle.bits.proofs.contains.Reads as contains-reads
-use Rattle.sets.proofs.store.Reads as store-reads
 
 abbrev Inv-loop : tie.InvT-loop
 Inv-loop table₀ own ups slots wanted k₀ k-end table k = (k ≤ length ups) × (length table ≡ 4 * length ups) × StoredEach ups own slots wanted table₀ table k

@@ -4,12 +4,7 @@ use Rattle.ties.specs.Ties.{Closes}
 use Rattle.ties.proofs.Below.{closes}
 use borrow.Author.Needs.{needs}
 use Rattle.ties.proofs.closes_circle.Statement.{statement}
-use native.Mathlib.Omega.{arith}
 use Rattle.ties.proofs.closes_circle.Tie as tie
-use Rattle.ties.proofs.closes_circle.Reads as reads
-use Rattle.ties.proofs.closes_circle.Lts as lts
-use Rattle.ties.proofs.groups_below.Reads as groups-below-reads
-use Rattle.ties.proofs.is_under.Reads as is-under-reads
 
 groups-below-requires : tie.Need-groups-below-requires
 groups-below-requires c κs = search needs

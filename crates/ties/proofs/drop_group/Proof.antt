@@ -1,7 +1,6 @@
 -- `ties::drop_group` meets its contract. Assumes nothing.
 use mathlib.Core.Path.{_≡_, sym, ap, _∙_}
 use mathlib.Core.Bool.{Bool, true, _&&_, not}
-use Prim.Native.Nat.{ℕ}
 use lib.Dec.{eqb}
 use lib.ListN.{getD}
 use Rattle.bits.specs.Bits.{member}
@@ -11,11 +10,6 @@ use borrow.Author.Needs.{needs}
 use Rattle.ties.proofs.drop_group.Statement.{statement}
 use native.Mathlib.Omega.{arith}
 use Rattle.ties.proofs.drop_group.Tie as tie
-use Rattle.ties.proofs.drop_group.Reads as reads
-use Rattle.ties.proofs.drop_group.Lts as lts
-use Rattle.bits.proofs.remove.Reads as remove-reads
-use Rattle.ties.proofs.holder_at.Reads as holder-at-reads
-use Rattle.ties.proofs.in_use.Reads as in-use-reads
 
 in-use-requires : tie.Need-in-use-requires
 in-use-requires c κs = search needs

@@ -1,7 +1,7 @@
 -- `ties::drop_groups` meets its contract: after q slots the groups of those are out. Assumes nothing.
 use mathlib.Core.Path.{_≡_, refl, sym, ap, _∙_}
 use mathlib.Core.Bool.{Bool, _&&_, not, and-true}
-use Prim.Native.Nat.{ℕ, _≤_, _<_, _+_, _-_, _*_}
+use Prim.Native.Nat.{ℕ, _≤_, _-_}
 use lib.Dec.{eqb}
 use lib.ListN.{length, getD}
 use Rattle.bits.specs.Bits.{member, anyBelow}
@@ -12,9 +12,6 @@ use Rattle.ties.proofs.drop_groups.Statement.{statement}
 use borrow.Author.Needs.{needs}
 use native.Mathlib.Omega.{arith}
 use Rattle.ties.proofs.drop_groups.Tie as tie
-use Rattle.ties.proofs.drop_groups.Reads as reads
-use Rattle.ties.proofs.drop_groups.Lts as lts
-use Rattle.ties.proofs.drop_group.Reads as drop-group-reads
 
 abbrev Inv-loop : tie.InvT-loop
 Inv-loop set₀ slots n q₀ set q =

@@ -1,8 +1,7 @@
 -- `ties::groups_below` meets its contract: what is marked is below, the mask grows, and where it does not it has all. Assumes nothing.
-use mathlib.Core.Path.{_≡_, refl, sym, ap, ap₂, _∙_}
-use mathlib.Core.Bool.{Bool, true, false}
-use Prim.Native.Nat.{ℕ, _<_, _≤_, _+_, _-_, _^_}
-use lib.ListN.{getD, length}
+use mathlib.Core.Path.{_≡_}
+use mathlib.Core.Bool.{true}
+use Prim.Native.Nat.{ℕ, _<_, _-_, _^_}
 use Rattle.bits.specs.Bits.{bit, countBelow}
 use Rattle.bits.proofs.Counts.{count-below-le}
 use Rattle.ties.specs.Ties.{Under}
@@ -11,9 +10,6 @@ use Rattle.ties.proofs.groups_below.Statement.{statement}
 use borrow.Author.Needs.{needs}
 use native.Mathlib.Omega.{arith}
 use Rattle.ties.proofs.groups_below.Tie as tie
-use Rattle.ties.proofs.groups_below.Reads as reads
-use Rattle.ties.proofs.groups_below.Lts as lts
-use Rattle.ties.proofs.widened.Reads as widened-reads
 
 abbrev Inv-loop : tie.InvT-loop
 Inv-loop ups slots e m₀ next₀ m next =

@@ -1,11 +1,11 @@
 -- `ties::holders_below` meets its contract: after k holders those of them that are under e are marked. Assumes nothing.
-use mathlib.Core.Path.{_≡_, refl, sym, ap, ap₂, _∙_}
+use mathlib.Core.Path.{_≡_, refl, sym, ap, _∙_}
 use mathlib.Core.Logic.{⊎-elim}
-use mathlib.Core.Bool.{Bool, true, false, _&&_, _||_, or-false}
-use Prim.Native.Nat.{ℕ, _<_, _≤_, _+_, _-_}
+use mathlib.Core.Bool.{Bool, _&&_, _||_, or-false}
+use Prim.Native.Nat.{ℕ, _≤_, _-_}
 use lib.Dec.{eqb, ltb}
-use lib.ListN.{getD, length}
-use borrow.Author.Tests.{lt-ltb, le-ltb}
+use lib.ListN.{length}
+use borrow.Author.Tests.{le-ltb}
 use Rattle.bits.specs.Bits.{member}
 use Rattle.ties.specs.Ties.{under}
 use Rattle.ties.proofs.Widening.{turn-on, turn-off, or-regroup}
@@ -13,10 +13,6 @@ use Rattle.ties.proofs.holders_below.Statement.{statement}
 use borrow.Author.Needs.{needs}
 use native.Mathlib.Omega.{arith}
 use Rattle.ties.proofs.holders_below.Tie as tie
-use Rattle.ties.proofs.holders_below.Reads as reads
-use Rattle.ties.proofs.holders_below.Lts as lts
-use Rattle.bits.proofs.insert.Reads as insert-reads
-use Rattle.ties.proofs.is_under.Reads as is-under-reads
 
 abbrev Inv-loop : tie.InvT-loop
 Inv-loop set₀ ups m e k₀ k-end set k =

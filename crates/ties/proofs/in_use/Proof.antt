@@ -2,11 +2,7 @@
 use Rattle.ties.proofs.Masks.{in-use-no, in-use-by}
 use borrow.Author.Needs.{needs}
 use Rattle.ties.proofs.in_use.Statement.{statement}
-use native.Mathlib.Omega.{arith}
 use Rattle.ties.proofs.in_use.Tie as tie
-use Rattle.ties.proofs.in_use.Reads as reads
-use Rattle.ties.proofs.in_use.Lts as lts
-use Rattle.ties.proofs.holder_at.Reads as holder-at-reads
 
 holder-at-requires : tie.Need-holder-at-requires
 holder-at-requires c κs = search needs

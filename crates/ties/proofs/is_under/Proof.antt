@@ -1,19 +1,13 @@
 -- `ties::is_under` meets its contract. Assumes nothing.
-use mathlib.Core.Path.{_≡_, sym, ap, ap₂, _∙_}
+use mathlib.Core.Path.{sym, ap, _∙_}
 use mathlib.Core.Bool.{Bool, _||_}
 use Prim.Native.Nat.{ℕ}
-use lib.Dec.{eqb}
 use lib.ListN.{getD}
 use borrow.Author.Tests.{eq-eqb, ne-eqb}
 use Rattle.ties.specs.Ties.{under, meets}
 use borrow.Author.Needs.{needs}
 use Rattle.ties.proofs.is_under.Statement.{statement}
-use native.Mathlib.Omega.{arith}
 use Rattle.ties.proofs.is_under.Tie as tie
-use Rattle.ties.proofs.is_under.Reads as reads
-use Rattle.ties.proofs.is_under.Lts as lts
-use Rattle.ties.proofs.meet.Reads as meet-reads
-use Rattle.ties.proofs.ties_up.Reads as ties-up-reads
 
 returns : tie.Need-returns
 unfolding under

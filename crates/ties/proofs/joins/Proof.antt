@@ -1,19 +1,12 @@
 -- `ties::joins` meets its contract. Assumes nothing.
-use mathlib.Core.Path.{_≡_, sym, ap, ap₂, _∙_}
-use mathlib.Core.Bool.{Bool, true, false, _&&_}
-use Prim.Native.Nat.{ℕ}
+use mathlib.Core.Path.{_≡_, sym, ap, _∙_}
+use mathlib.Core.Bool.{Bool, true, _&&_}
 use lib.ListN.{getD, length}
 use borrow.Author.Tests.{not-true, not-false}
 use Rattle.ties.specs.Ties.{under, inUse}
 use borrow.Author.Needs.{needs}
 use Rattle.ties.proofs.joins.Statement.{statement}
-use native.Mathlib.Omega.{arith}
 use Rattle.ties.proofs.joins.Tie as tie
-use Rattle.ties.proofs.joins.Reads as reads
-use Rattle.ties.proofs.joins.Lts as lts
-use Rattle.ties.proofs.holder_at.Reads as holder-at-reads
-use Rattle.ties.proofs.in_use.Reads as in-use-reads
-use Rattle.ties.proofs.is_under.Reads as is-under-reads
 
 in-use-requires : tie.Need-in-use-requires
 in-use-requires c κs = search needs

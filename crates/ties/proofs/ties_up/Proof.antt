@@ -3,10 +3,7 @@ use mathlib.Core.Path.{sym}
 use lib.ListN.{List·getD-eq-default}
 use borrow.Author.Needs.{needs}
 use Rattle.ties.proofs.ties_up.Statement.{statement}
-use native.Mathlib.Omega.{arith}
 use Rattle.ties.proofs.ties_up.Tie as tie
-use Rattle.ties.proofs.ties_up.Reads as reads
-use Rattle.ties.proofs.ties_up.Lts as lts
 
 returns : tie.Need-returns
 returns c = sym (List·getD-eq-default (c .before .args .ups .now) 0 (c .if1 .taken))

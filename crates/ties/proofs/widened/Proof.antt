@@ -1,8 +1,8 @@
 -- `ties::widened` meets its contract: after q slots those of them that join are marked. Assumes nothing.
-use mathlib.Core.Path.{_≡_, refl, sym, ap, ap₂, _∙_}
+use mathlib.Core.Path.{_≡_, sym, ap, _∙_}
 use mathlib.Core.Logic.{⊎-elim}
-use mathlib.Core.Bool.{Bool, true, false, _&&_, _||_}
-use Prim.Native.Nat.{ℕ, _<_, _≤_, _+_, _-_}
+use mathlib.Core.Bool.{Bool, _&&_, _||_}
+use Prim.Native.Nat.{ℕ, _≤_, _-_}
 use lib.Dec.{eqb, ltb}
 use lib.ListN.{getD, length}
 use borrow.Author.Tests.{lt-ltb, le-ltb}
@@ -14,10 +14,6 @@ use Rattle.ties.proofs.widened.Statement.{statement}
 use borrow.Author.Needs.{needs}
 use native.Mathlib.Omega.{arith}
 use Rattle.ties.proofs.widened.Tie as tie
-use Rattle.ties.proofs.widened.Reads as reads
-use Rattle.ties.proofs.widened.Lts as lts
-use Rattle.bits.proofs.with.Reads as with-reads
-use Rattle.ties.proofs.joins.Reads as joins-reads
 
 abbrev Inv-loop : tie.InvT-loop
 Inv-loop ups slots m e next₀ q₀ next q =
