@@ -1,0 +1,260 @@
+use Prim.Native.Nat.{suc, _+_, _-_, _*_}
+use native.Mathlib.Omega.{arith}
+use lib.ListN.{length}
+use borrow.Author.Needs.{needs}
+use Rattle.policy.specs.Readers.{lending}
+use Rattle.policy.proofs.Levels.{conjunctions, policies, level-none, level-stop, level-falls, level-more}
+use Rattle.policy.proofs.Heads.{head-none, head-leaf, head-falls, head-open}
+use Prim.Native.Nat.{ℕ, _<_}
+use borrow.Fn.Kinds.{In}
+use borrow.Fn.PlainCycle.{Measures, is, falls, and}
+use Rattle.policy.proofs.conjunction.Reads as conjunction
+use Rattle.policy.proofs.conjunction.Kinds as conjunction-kinds
+use Rattle.policy.proofs.+conjunction+policy+term.Lts-conjunction as conjunction-lts
+use Rattle.policy.proofs.policy.Reads as policy
+use Rattle.policy.proofs.policy.Kinds as policy-kinds
+use Rattle.policy.proofs.+conjunction+policy+term.Lts-policy as policy-lts
+use Rattle.policy.proofs.term.Reads as term
+use Rattle.policy.proofs.term.Kinds as term-kinds
+use Rattle.policy.proofs.+conjunction+policy+term.Lts-term as term-lts
+use Rattle.policy.proofs.close.Reads as close-reads
+use Rattle.policy.proofs.join.Reads as join-reads
+use Rattle.policy.proofs.term_head.Reads as term-head-reads
+use Rattle.tokens.proofs.token_at.Reads as token-at-reads
+use Rattle.policy.proofs.+conjunction+policy+term.{statement}
+use Rattle.policy.proofs.+conjunction+policy+term.Tie.{close}
+
+abbrev μ-conjunction : Measures 5 conjunction-kinds.ps ℕ
+μ-conjunction κs a = 3 * (length (a .0 .now) - a .1 .1 .1 .1 .1 .1 .1 .1 .0) + 1
+
+abbrev μ-policy : Measures 5 policy-kinds.ps ℕ
+μ-policy κs a = 3 * (length (a .0 .now) - a .1 .1 .1 .1 .1 .1 .1 .1 .0) + 2
+
+abbrev μ-term : Measures 5 term-kinds.ps ℕ
+μ-term κs a = 3 * (length (a .0 .now) - a .1 .1 .1 .1 .1 .1 .1 .1 .0) + 0
+
+abbrev conjunction-at : ℕ → In 5 conjunction-kinds.ps
+conjunction-at t =
+    and 5 conjunction-kinds.ps (is 5 conjunction-kinds.ps μ-conjunction t) conjunction.Pre
+
+abbrev conjunction-below : ℕ → In 5 conjunction-kinds.ps
+conjunction-below t =
+    and 5 conjunction-kinds.ps (falls 5 conjunction-kinds.ps _<_ μ-conjunction t) conjunction.Pre
+
+abbrev policy-at : ℕ → In 5 policy-kinds.ps
+policy-at t = and 5 policy-kinds.ps (is 5 policy-kinds.ps μ-policy t) policy.Pre
+
+abbrev policy-below : ℕ → In 5 policy-kinds.ps
+policy-below t = and 5 policy-kinds.ps (falls 5 policy-kinds.ps _<_ μ-policy t) policy.Pre
+
+abbrev term-at : ℕ → In 5 term-kinds.ps
+term-at t = and 5 term-kinds.ps (is 5 term-kinds.ps μ-term t) term.Pre
+
+abbrev term-below : ℕ → In 5 term-kinds.ps
+term-below t = and 5 term-kinds.ps (falls 5 term-kinds.ps _<_ μ-term t) term.Pre
+
+abbrev conjunction-claims : ℕ → conjunction-lts.Claims
+conjunction-claims t = (term-below t, term.Post, token-at-reads.Asked, token-at-reads.Learnt, conjunction-below t, conjunction.Post, join-reads.Asked, join-reads.Learnt)
+
+abbrev policy-claims : ℕ → policy-lts.Claims
+policy-claims t = (conjunction-below t, conjunction.Post, token-at-reads.Asked, token-at-reads.Learnt, policy-below t, policy.Post, join-reads.Asked, join-reads.Learnt)
+
+abbrev term-claims : ℕ → term-lts.Claims
+term-claims t = (term-head-reads.Asked, term-head-reads.Learnt, policy-below t, policy.Post, close-reads.Asked, close-reads.Learnt)
+
+conjunction-term-requires : (t : ℕ) → conjunction-lts.Need-term-requires (conjunction-claims t) (conjunction-at t) conjunction.Post
+conjunction-term-requires t c κs = (omega (arith, c .before .before .before .pre .0), tt)
+
+conjunction-enum-told : (t : ℕ) → conjunction-lts.Need-enum-told (conjunction-claims t) (conjunction-at t) conjunction.Post
+conjunction-enum-told t c = search needs
+
+conjunction-enum-known-x : (t : ℕ) → conjunction-lts.Need-enum-known-x (conjunction-claims t) (conjunction-at t) conjunction.Post
+conjunction-enum-known-x t c = search needs
+
+conjunction-token-at-requires : (t : ℕ) → conjunction-lts.Need-token-at-requires (conjunction-claims t) (conjunction-at t) conjunction.Post
+conjunction-token-at-requires t c κs = search needs
+
+conjunction-conjunction-requires : (t : ℕ) → conjunction-lts.Need-conjunction-requires (conjunction-claims t) (conjunction-at t) conjunction.Post
+conjunction-conjunction-requires t c κs =
+    let a = c .before .before .before .before .before .before .before .before .before .before .args in
+    let s = a .s .now in
+    let L = lending (a .attributes .now) (a .pairs .now) (a .table .now) (a .user) (a .object) (a .mask) (a .entries .now) in
+    let r = c .before .before .before .before .before .before .term in
+    let x = c .before .before .before .before .x .given in
+    let u = c .before .before .token-at in
+    let w = level-falls s L 1 conjunctions (a .at) (r .result) (r .ensures) (x .0 .0) (u .result) (x .1) (u .ensures) (c .if1 .taken) in
+    (omega (arith, w .0, w .1, c .before .before .before .before .before .before .before .before .before .before .pre .0), tt)
+
+conjunction-join-requires : (t : ℕ) → conjunction-lts.Need-join-requires (conjunction-claims t) (conjunction-at t) conjunction.Post
+conjunction-join-requires t c κs = search needs
+
+conjunction-returns : (t : ℕ) → conjunction-lts.Need-returns (conjunction-claims t) (conjunction-at t) conjunction.Post
+conjunction-returns t c =
+    let a = c .before .before .before .before .before .before .args in
+    let s = a .s .now in
+    let L = lending (a .attributes .now) (a .pairs .now) (a .table .now) (a .user) (a .object) (a .mask) (a .entries .now) in
+    let r = c .before .before .term in
+    level-none s L 1 conjunctions (a .at) (r .result) (r .ensures) (c .enum-told .given .1)
+
+conjunction-returns-2 : (t : ℕ) → conjunction-lts.Need-returns-2 (conjunction-claims t) (conjunction-at t) conjunction.Post
+conjunction-returns-2 t c =
+    let a = c .before .before .before .before .before .before .before .before .before .before .before .before .args in
+    let s = a .s .now in
+    let L = lending (a .attributes .now) (a .pairs .now) (a .table .now) (a .user) (a .object) (a .mask) (a .entries .now) in
+    let r = c .before .before .before .before .before .before .before .before .term in
+    let x = c .before .before .before .before .before .before .x .given in
+    let u = c .before .before .before .before .token-at in
+    level-more s L 1 conjunctions (a .at) (r .result) (r .ensures) (x .0 .0) (u .result) (x .1) (u .ensures) (c .before .conjunction .result) (c .join .result) (c .before .before .if1 .taken) (c .before .conjunction .ensures) (c .join .ensures)
+
+conjunction-returns-3 : (t : ℕ) → conjunction-lts.Need-returns-3 (conjunction-claims t) (conjunction-at t) conjunction.Post
+conjunction-returns-3 t c =
+    let a = c .before .before .before .before .before .before .before .before .before .before .args in
+    let s = a .s .now in
+    let L = lending (a .attributes .now) (a .pairs .now) (a .table .now) (a .user) (a .object) (a .mask) (a .entries .now) in
+    let r = c .before .before .before .before .before .before .term in
+    let x = c .before .before .before .before .x .given in
+    let u = c .before .before .token-at in
+    level-stop s L 1 conjunctions (a .at) (r .result) (r .ensures) (x .0 .0) (u .result) (x .1) (u .ensures) (c .if1 .left)
+
+policy-conjunction-requires : (t : ℕ) → policy-lts.Need-conjunction-requires (policy-claims t) (policy-at t) policy.Post
+policy-conjunction-requires t c κs = (omega (arith, c .before .before .before .pre .0), tt)
+
+policy-enum-told : (t : ℕ) → policy-lts.Need-enum-told (policy-claims t) (policy-at t) policy.Post
+policy-enum-told t c = search needs
+
+policy-enum-known-x : (t : ℕ) → policy-lts.Need-enum-known-x (policy-claims t) (policy-at t) policy.Post
+policy-enum-known-x t c = search needs
+
+policy-token-at-requires : (t : ℕ) → policy-lts.Need-token-at-requires (policy-claims t) (policy-at t) policy.Post
+policy-token-at-requires t c κs = search needs
+
+policy-policy-requires : (t : ℕ) → policy-lts.Need-policy-requires (policy-claims t) (policy-at t) policy.Post
+policy-policy-requires t c κs =
+    let a = c .before .before .before .before .before .before .before .before .before .before .args in
+    let s = a .s .now in
+    let L = lending (a .attributes .now) (a .pairs .now) (a .table .now) (a .user) (a .object) (a .mask) (a .entries .now) in
+    let r = c .before .before .before .before .before .before .conjunction in
+    let x = c .before .before .before .before .x .given in
+    let u = c .before .before .token-at in
+    let w = level-falls s L 2 policies (a .at) (r .result) (r .ensures) (x .0 .0) (u .result) (x .1) (u .ensures) (c .if1 .taken) in
+    (omega (arith, w .0, w .1, c .before .before .before .before .before .before .before .before .before .before .pre .0), tt)
+
+policy-join-requires : (t : ℕ) → policy-lts.Need-join-requires (policy-claims t) (policy-at t) policy.Post
+policy-join-requires t c κs = search needs
+
+policy-returns : (t : ℕ) → policy-lts.Need-returns (policy-claims t) (policy-at t) policy.Post
+policy-returns t c =
+    let a = c .before .before .before .before .before .before .args in
+    let s = a .s .now in
+    let L = lending (a .attributes .now) (a .pairs .now) (a .table .now) (a .user) (a .object) (a .mask) (a .entries .now) in
+    let r = c .before .before .conjunction in
+    level-none s L 2 policies (a .at) (r .result) (r .ensures) (c .enum-told .given .1)
+
+policy-returns-2 : (t : ℕ) → policy-lts.Need-returns-2 (policy-claims t) (policy-at t) policy.Post
+policy-returns-2 t c =
+    let a = c .before .before .before .before .before .before .before .before .before .before .before .before .args in
+    let s = a .s .now in
+    let L = lending (a .attributes .now) (a .pairs .now) (a .table .now) (a .user) (a .object) (a .mask) (a .entries .now) in
+    let r = c .before .before .before .before .before .before .before .before .conjunction in
+    let x = c .before .before .before .before .before .before .x .given in
+    let u = c .before .before .before .before .token-at in
+    level-more s L 2 policies (a .at) (r .result) (r .ensures) (x .0 .0) (u .result) (x .1) (u .ensures) (c .before .policy .result) (c .join .result) (c .before .before .if1 .taken) (c .before .policy .ensures) (c .join .ensures)
+
+policy-returns-3 : (t : ℕ) → policy-lts.Need-returns-3 (policy-claims t) (policy-at t) policy.Post
+policy-returns-3 t c =
+    let a = c .before .before .before .before .before .before .before .before .before .before .args in
+    let s = a .s .now in
+    let L = lending (a .attributes .now) (a .pairs .now) (a .table .now) (a .user) (a .object) (a .mask) (a .entries .now) in
+    let r = c .before .before .before .before .before .before .conjunction in
+    let x = c .before .before .before .before .x .given in
+    let u = c .before .before .token-at in
+    level-stop s L 2 policies (a .at) (r .result) (r .ensures) (x .0 .0) (u .result) (x .1) (u .ensures) (c .if1 .left)
+
+term-term-head-requires : (t : ℕ) → term-lts.Need-term-head-requires (term-claims t) (term-at t) term.Post
+term-term-head-requires t c κs = search needs
+
+term-enum-told : (t : ℕ) → term-lts.Need-enum-told (term-claims t) (term-at t) term.Post
+term-enum-told t c = search needs
+
+term-enum-known-x : (t : ℕ) → term-lts.Need-enum-known-x (term-claims t) (term-at t) term.Post
+term-enum-known-x t c = search needs
+
+term-enum-known-negated : (t : ℕ) → term-lts.Need-enum-known-negated (term-claims t) (term-at t) term.Post
+term-enum-known-negated t c = search needs
+
+term-policy-requires : (t : ℕ) → term-lts.Need-policy-requires (term-claims t) (term-at t) term.Post
+term-policy-requires t c κs =
+    let a = c .before .before .before .before .before .before .before .args in
+    let s = a .s .now in
+    let L = lending (a .attributes .now) (a .pairs .now) (a .table .now) (a .user) (a .object) (a .mask) (a .entries .now) in
+    let h = c .before .before .before .term-head in
+    let x = c .before .negated .given in
+    let w = head-falls s L (a .at) (h .result) (h .ensures) (x .0 .0) (x .0 .1 .0) (x .1) in
+    (omega (arith, w .0, w .1, c .before .before .before .before .before .before .before .pre .0), tt)
+
+term-close-requires : (t : ℕ) → term-lts.Need-close-requires (term-claims t) (term-at t) term.Post
+term-close-requires t c κs = search needs
+
+term-returns : (t : ℕ) → term-lts.Need-returns (term-claims t) (term-at t) term.Post
+term-returns t c =
+    let a = c .before .before .before .before .before .before .args in
+    let s = a .s .now in
+    let L = lending (a .attributes .now) (a .pairs .now) (a .table .now) (a .user) (a .object) (a .mask) (a .entries .now) in
+    let h = c .before .before .term-head in
+    head-none s L (a .at) (h .result) (h .ensures) (c .enum-told .given .1)
+
+term-returns-2 : (t : ℕ) → term-lts.Need-returns-2 (term-claims t) (term-at t) term.Post
+term-returns-2 t c =
+    let a = c .before .before .before .before .before .before .before .args in
+    let s = a .s .now in
+    let L = lending (a .attributes .now) (a .pairs .now) (a .table .now) (a .user) (a .object) (a .mask) (a .entries .now) in
+    let h = c .before .before .before .term-head in
+    let x = c .before .x .given in
+    head-leaf s L (a .at) (h .result) (h .ensures) (x .0 .0) (x .1)
+
+term-returns-3 : (t : ℕ) → term-lts.Need-returns-3 (term-claims t) (term-at t) term.Post
+term-returns-3 t c =
+    let a = c .before .before .before .before .before .before .before .before .before .args in
+    let s = a .s .now in
+    let L = lending (a .attributes .now) (a .pairs .now) (a .table .now) (a .user) (a .object) (a .mask) (a .entries .now) in
+    let h = c .before .before .before .before .before .term-head in
+    let x = c .before .before .before .negated .given in
+    head-open s L (a .at) (h .result) (h .ensures) (x .0 .0) (x .0 .1 .0) (x .1) (c .before .policy .result) (c .close .result) (c .before .policy .ensures) (c .close .ensures)
+
+pub +conjunction+policy+term-spec : {M : Type 1} → statement M
++conjunction+policy+term-spec = close μ-conjunction μ-policy μ-term (λ t. conjunction-lts.spec (conjunction-claims t)
+    (conjunction-at t)
+    conjunction.Post
+    (conjunction-term-requires t)
+    (conjunction-enum-told t)
+    (conjunction-enum-known-x t)
+    (conjunction-token-at-requires t)
+    (conjunction-conjunction-requires t)
+    (conjunction-join-requires t)
+    (conjunction-returns t)
+    (conjunction-returns-2 t)
+    (conjunction-returns-3 t))
+    (λ t. policy-lts.spec (policy-claims t)
+    (policy-at t)
+    policy.Post
+    (policy-conjunction-requires t)
+    (policy-enum-told t)
+    (policy-enum-known-x t)
+    (policy-token-at-requires t)
+    (policy-policy-requires t)
+    (policy-join-requires t)
+    (policy-returns t)
+    (policy-returns-2 t)
+    (policy-returns-3 t))
+    λ t. term-lts.spec (term-claims t)
+    (term-at t)
+    term.Post
+    (term-term-head-requires t)
+    (term-enum-told t)
+    (term-enum-known-x t)
+    (term-enum-known-negated t)
+    (term-policy-requires t)
+    (term-close-requires t)
+    (term-returns t)
+    (term-returns-2 t)
+    (term-returns-3 t)

@@ -1,0 +1,69 @@
+use mathlib.Core.Path.{refl, sym, ap, _∙_}
+use mathlib.Core.Bool.{Bool}
+use Rattle.values.specs.Truths.{truthOf}
+use Rattle.policy.specs.Readers.{joinTruths}
+use borrow.Author.Needs.{needs}
+use Rattle.policy.proofs.joined_part.Statement.{statement}
+use Rattle.policy.proofs.joined_part.Tie as tie
+use Rattle.policy.proofs.joined_part.Reads as reads
+use Rattle.policy.proofs.joined_part.Lts as lts
+use Rattle.policy.proofs.add_terms.Reads as add-terms-reads
+use Rattle.policy.proofs.larger.Reads as larger-reads
+use Rattle.values.proofs.and.Reads as and-reads
+use Rattle.values.proofs.or.Reads as or-reads
+
+-- src/lib.rt:150:9
+add-terms-requires : tie.Need-add-terms-requires
+add-terms-requires c κs = search needs
+
+-- src/lib.rt:151:9
+larger-requires : tie.Need-larger-requires
+larger-requires c κs = search needs
+
+-- src/lib.rt:152:9
+larger-requires-2 : tie.Need-larger-requires-2
+larger-requires-2 c κs = search needs
+
+-- src/lib.rt:156:20
+and-requires : tie.Need-and-requires
+and-requires c κs = search needs
+
+-- src/lib.rt:164:20
+or-requires : tie.Need-or-requires
+or-requires c κs = search needs
+
+-- src/lib.rt:145:1
+returns : tie.Need-returns
+returns c =
+    let a = c .before .before .before .before .before .args in
+    record {
+      ends = refl;
+      more-terms = c .before .before .before .before .add-terms .ensures;
+      deeper = c .before .before .before .larger .ensures;
+      larger = c .before .before .larger2 .ensures;
+      both = c .and .ensures ∙ ap (λ (k : Bool). joinTruths k (truthOf (a .x .value)) (truthOf (a .y .value))) (sym (c .before .if1 .taken));
+    }
+
+-- src/lib.rt:145:1
+returns-2 : tie.Need-returns-2
+returns-2 c =
+    let a = c .before .before .before .before .before .args in
+    record {
+      ends = refl;
+      more-terms = c .before .before .before .before .add-terms .ensures;
+      deeper = c .before .before .before .larger .ensures;
+      larger = c .before .before .larger2 .ensures;
+      both = c .or .ensures ∙ ap (λ (k : Bool). joinTruths k (truthOf (a .x .value)) (truthOf (a .y .value))) (sym (c .before .if1 .left));
+    }
+
+pub joined-part-spec : {M : Type 1} → statement M
+joined-part-spec =
+    tie.close
+    (tie.spec
+    add-terms-requires
+    larger-requires
+    larger-requires-2
+    and-requires
+    or-requires
+    returns
+    returns-2)

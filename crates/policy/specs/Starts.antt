@@ -1,0 +1,61 @@
+-- How a term begins: what its tokens say before any policy in parentheses is read.
+use mathlib.Core.Bool.{Bool, true, false}
+use mathlib.Core.List.{List, [], _∷_, _++_}
+use mathlib.Core.Option.{Option, none, some}
+use Rattle.model.specs.Notation.{_>>=_, onlyIf}
+use Rattle.model.specs.Atoms.{Atom}
+use Rattle.model.specs.Tokens.{Token, Mark}
+use Rattle.model.specs.Grammar.{Var, constants, Policy, constant, lone, not, and, or, isMark, behindMark, oneType, readItems, Reading, readComparison, closed}
+
+-- a term without parentheses, and the tokens behind it; a parenthesis, after NOT or not, and the tokens of its policy; or neither
+pub data Start : Type 0 where
+  whole : Policy → List Token → Start
+  opened : Bool → List Token → Start
+  neither : Start
+
+abbrev pub simpleStart : List Token → Start
+simpleStart [] = neither
+simpleStart (Token.name s n ∷ ts) = whole (lone s n) ts
+simpleStart (Token.int n ∷ ts) = neither
+simpleStart (Token.str s ∷ ts) = neither
+simpleStart (Token.truth t ∷ ts) = whole (constant t) ts
+simpleStart (Token.operator o ∷ ts) = neither
+simpleStart (Token.mark m ∷ ts) = elim (isMark Mark.lparen m) [ true ↦ opened false ts | false ↦ neither ]
+
+abbrev pub negatedStart : Start → Start
+negatedStart (whole p ts) = whole (not p) ts
+negatedStart (opened b ts) = opened true ts
+negatedStart neither = neither
+
+-- what was read, or else another start
+abbrev pub readOr : Start → Reading → Start
+readOr x none = x
+readOr x (some (p, ts)) = whole p ts
+
+unfoldable pub comparisonStart : List Token → Start
+comparisonStart ts = readOr neither (readComparison ts)
+
+unfoldable pub termStart : List Token → Start
+termStart ts =
+    elim (behindMark Mark.NOT ts) [ some rest ↦ negatedStart (simpleStart rest) | none ↦ readOr (simpleStart ts) (readComparison ts) ]
+
+-- a policy, after NOT or not
+abbrev pub negatedIf : Bool → Policy → Policy
+negatedIf true p = not p
+negatedIf false p = p
+
+-- a policy that was read in parentheses: their end
+abbrev pub closedBy : Bool → Reading → Reading
+closedBy b o = o >>= closed >>= λ (p, rest). some (negatedIf b p, rest)
+
+-- the two ways to join
+abbrev pub joinOf : Bool → Policy → Policy → Policy
+joinOf true = and
+joinOf false = or
+
+abbrev pub joinedTo : Bool → Policy → Reading → Reading
+joinedTo c p o = o >>= λ (q, rest). some (joinOf c p q, rest)
+
+-- the constants of a set, where those of l were read before
+unfoldable pub readSetAfter : List Atom → List Token → Option (Var × List Token)
+readSetAfter l ts = readItems ts >>= λ (more, rest). onlyIf (oneType (l ++ more)) (constants (l ++ more), rest)
