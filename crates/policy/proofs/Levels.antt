@@ -47,7 +47,7 @@ module _ (s : Bytes) (L : Lending) (m : Mark) (c : Bool) (more : List model.Toke
 
   join-more : (k : ℕ) (x : Part) (o : grammar.Reading) (r q : Reading) → Answers s L (Read x) o → Whenever (λ y. length (y .1) < k) o
       → ((rest : List model.Token) → length rest < k → From s (x .next) rest
-        → (left : List model.Token) × (behindMark m rest ≡ some left) × Answers s L r (more left))
+      → (left : List model.Token) × (behindMark m rest ≡ some left) × Answers s L r (more left))
       → Joins c x r q → Answers s L q (o >>= joinedBy m (joinOf c) more)
   join-more k x none r q a l f j = absurd a
   join-more k x (some (p, rest)) r q a l f j =
@@ -106,9 +106,11 @@ module _ (s : Bytes) (L : Lending) (d : ℕ) {F G : ℕ → List model.Token →
           ahead = j .ahead at (later u (U .ahead));
           answers = λ ts f. step-to q ts λ n l.
               join-more s L m c (λ rest. G n rest) (length ts) x (F n ts) u q (read-at ts f n l) (J .fewer n ts)
-              (λ rest less g. let k = mark-on m s t rest (told s (x .next) t h rest g) z in
-              (k .rest, subst (λ (us : List model.Token). behindMark m us ≡ some (k .rest)) (sym (k .split)) (behind-mark m (k .rest)),
-              U .answers (k .rest) (k .behind) n (omega (arith, ap length (k .split))))) j;
+              (λ rest less g. let k = mark-on m s t rest (told s (x .next) t h rest g) z in (
+                k .rest,
+                subst (λ (us : List model.Token). behindMark m us ≡ some (k .rest)) (sym (k .split)) (behind-mark m (k .rest)),
+                U .answers (k .rest) (k .behind) n (omega (arith, ap length (k .split))),
+              )) j;
         }
       where
         later : (u : Reading) → Ahead (t .next) u → Ahead at u

@@ -228,12 +228,14 @@ module _ (s : Bytes) (L : Lending) (t : Token) where
   name-var : (x : Operand) → Looked (L .attributes) (L .user) (L .object) (L .mask) (L .entries) (t .kind - 30) (t .low) (t .high) x
       → 31 ≤ t .kind → (ts : List model.Token) → Front s t ts → VarAnswers s L (record { ok = true; operand = x; atoms = 0; next = t .next }) (readVar ts)
   name-var x h a [] f = absurd (omega (arith, f))
-  name-var x h a (model.Token.name y n ∷ ts) f =
-      (refl, record {
-        behind = f .behind;
-        atom-count = refl;
-        stands = λ l S b g. found h S b g y n (f .written) (omega (arith, f .kind-is)) (f .low-is) (f .high-is);
-      })
+  name-var x h a (model.Token.name y n ∷ ts) f = (
+    refl,
+    record {
+      behind = f .behind;
+      atom-count = refl;
+      stands = λ l S b g. found h S b g y n (f .written) (omega (arith, f .kind-is)) (f .low-is) (f .high-is);
+    },
+  )
   name-var x h a (model.Token.int n ∷ ts) f = absurd (omega (arith, f .kind-is))
   name-var x h a (model.Token.str n ∷ ts) f = absurd (omega (arith, f .kind-is))
   name-var x h a (model.Token.truth w ∷ ts) f = absurd (omega (arith, f .kind-is, truth-range w))

@@ -274,7 +274,16 @@ fn var_at(
             }
         }
         31..=35 => {
-            let o = session::operand_of(attributes, user, object, mask, entries, k - 30, t.low, t.high);
+            let o = session::operand_of(
+                attributes,
+                user,
+                object,
+                mask,
+                entries,
+                k - 30,
+                t.low,
+                t.high,
+            );
             Var {
                 ok: true,
                 operand: o,
@@ -311,7 +320,17 @@ fn comparison_head(
     if 23 < o.kind {
         return Head::Neither;
     }
-    let w = var_at(s, attributes, pairs, table, user, object, mask, entries, o.next);
+    let w = var_at(
+        s,
+        attributes,
+        pairs,
+        table,
+        user,
+        object,
+        mask,
+        entries,
+        o.next,
+    );
     if !w.ok {
         return Head::Neither;
     }
@@ -342,7 +361,16 @@ fn simple_head(
         2 => Head::Open(false, n),
         10..=12 => Head::Leaf(leaf(truth_of(k), n, 0)),
         31..=35 => {
-            let o = session::operand_of(attributes, user, object, mask, entries, k - 30, t.low, t.high);
+            let o = session::operand_of(
+                attributes,
+                user,
+                object,
+                mask,
+                entries,
+                k - 30,
+                t.low,
+                t.high,
+            );
             Head::Leaf(leaf(values::lone(pairs, table, o), n, 0))
         }
         _ => Head::Neither,
@@ -365,7 +393,17 @@ fn term_head(
 {
     let t = tokens::token_at(s, at);
     if t.kind == 9 {
-        return not_head(simple_head(s, attributes, pairs, table, user, object, mask, entries, t.next));
+        return not_head(simple_head(
+            s,
+            attributes,
+            pairs,
+            table,
+            user,
+            object,
+            mask,
+            entries,
+            t.next,
+        ));
     }
     match comparison_head(s, attributes, pairs, table, user, object, mask, entries, at) {
         Head::Leaf(x) => Head::Leaf(x),
@@ -393,7 +431,21 @@ pub fn policy(
         Reading::Read(x) => {
             let t = tokens::token_at(s, x.next);
             if t.kind == 8 {
-                join(false, x, policy(s, attributes, pairs, table, user, object, mask, entries, t.next))
+                join(
+                    false,
+                    x,
+                    policy(
+                        s,
+                        attributes,
+                        pairs,
+                        table,
+                        user,
+                        object,
+                        mask,
+                        entries,
+                        t.next,
+                    ),
+                )
             } else {
                 Reading::Read(x)
             }
@@ -420,7 +472,21 @@ fn conjunction(
         Reading::Read(x) => {
             let t = tokens::token_at(s, x.next);
             if t.kind == 7 {
-                join(true, x, conjunction(s, attributes, pairs, table, user, object, mask, entries, t.next))
+                join(
+                    true,
+                    x,
+                    conjunction(
+                        s,
+                        attributes,
+                        pairs,
+                        table,
+                        user,
+                        object,
+                        mask,
+                        entries,
+                        t.next,
+                    ),
+                )
             } else {
                 Reading::Read(x)
             }
@@ -445,6 +511,10 @@ fn term(
     match term_head(s, attributes, pairs, table, user, object, mask, entries, at) {
         Head::Neither => Reading::Malformed,
         Head::Leaf(x) => Reading::Read(x),
-        Head::Open(negated, n) => close(s, negated, policy(s, attributes, pairs, table, user, object, mask, entries, n)),
+        Head::Open(negated, n) => close(
+            s,
+            negated,
+            policy(s, attributes, pairs, table, user, object, mask, entries, n),
+        ),
     }
 }

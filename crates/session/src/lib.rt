@@ -41,7 +41,7 @@ fn is_named(attributes: &[u64; 128], i: usize, source: u8, low: u64, high: u64) 
 }
 
 // The number of the attribute of that source and name; 32 where there is none.
-fn number_of(attributes: &[u64; 128], source: u8, low: u64, high: u64) -> usize
+pub fn number_of(attributes: &[u64; 128], source: u8, low: u64, high: u64) -> usize
     ensures { λ r. ⌜ FirstNamed (now (attributes .entry)) source low high r ⌝ }
 {
     for i in 0..32usize {

@@ -95,7 +95,7 @@ items-items-requires t c κs =
     let item = items-falls (a .s .now) (a .at) (a .kind) (a .operand) (a .atoms) (t₀ .result) (t₀ .ensures) in
     let u = c .before .before .before .before .token-at2 in
     let w = item (c .before .before .before .before .before .before .before .before .before .before .before .before .if1 .left) (c .before .before .before .before .before .before .before .before .before .before .if2 .left) (sym (c .before .before .before .before .before .before .before .before .before .fits2 .ensures) ∙ not-false _ (c .before .before .before .before .before .before .before .before .if3 .left)) (c .before .before .before .before .before .before .with-constant .result) (c .before .before .before .before .before .one-more .result) (c .before .before .before .before .before .before .with-constant .ensures) (c .before .before .before .before .before .one-more .ensures)
-        (u .result) (u .ensures) (c .if5 .taken) in
+    (u .result) (u .ensures) (c .if5 .taken) in
     (omega (arith, w .0, w .1, c .before .before .before .before .before .before .before .before .before .before .before .before .before .before .before .before .pre .0), tt)
 
 items-returns-5 : (t : ℕ) → items-lts.Need-returns-5 (items-claims t) (items-at t) items.Post
