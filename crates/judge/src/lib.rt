@@ -104,8 +104,8 @@ pub fn evaluate(
     match policy::policy(s, attributes, pairs, table, user, object, mask, entries, 0) {
         Reading::Malformed => Truth::Undef,
         Reading::Read(x) => {
-            let t = tokens::token_at(s, x.next);
-            if t.kind != 0 {
+            let end = tokens::token_at(s, x.next);
+            if end.kind != 0 {
                 return Truth::Undef;
             }
             let v = x.value;

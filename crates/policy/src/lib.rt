@@ -9,6 +9,44 @@ ghost use Rattle.policy.specs.Readers.{lending, Policies, Conjunctions, 
 use values::Operand;
 use values::Truth;
 
+// The kinds of tokens: marks, truth values, the constants, the first and last operator, and names, which follow
+// NAMES by their source, as constants follow TRUE by their type.
+const LPAREN: u8 = 2;
+
+const RPAREN: u8 = 3;
+
+const LBRACE: u8 = 4;
+
+const RBRACE: u8 = 5;
+
+const COMMA: u8 = 6;
+
+const AND: u8 = 7;
+
+const OR: u8 = 8;
+
+const NOT: u8 = 9;
+
+const FALSE: u8 = 10;
+
+const UNDEF: u8 = 11;
+
+const TRUE: u8 = 12;
+
+const INT: u8 = 13;
+
+const STR: u8 = 14;
+
+const EQUAL: u8 = 16;
+
+const AT_LEAST: u8 = 23;
+
+const NAMES: u8 = 30;
+
+const USER: u8 = 31;
+
+const CONNECT: u8 = 35;
+
 // What a part of a policy comes to: where it ends, its value, its terms (17 for more than 16), the depth of its parentheses (9 for more
 // than 8) and the atoms of its largest set (9 for more than 8).
 pub struct Part {
@@ -134,7 +172,7 @@ fn close(s: &[u8], negated: bool, r: Reading) -> Reading
         Reading::Malformed => Reading::Malformed,
         Reading::Read(x) => {
             let t = tokens::token_at(s, x.next);
-            if t.kind == 3 {
+            if t.kind == RPAREN {
                 Reading::Read(closed_part(negated, x, t.next))
             } else {
                 Reading::Malformed
@@ -185,8 +223,8 @@ fn truth_of(kind: u8) -> Truth
     ensures { λ r. ⌜ Spoken kind r ⌝ }
 {
     match kind {
-        10 => Truth::False,
-        11 => Truth::Undef,
+        FALSE => Truth::False,
+        UNDEF => Truth::Undef,
         _ => Truth::True,
     }
 }
@@ -219,19 +257,19 @@ fn items(s: &[u8], at: usize, kind: u8, operand: Operand, atoms: usize) -> Var
     ensures { λ r. ⌜ Items (now (s .entry)) at kind operand atoms r ⌝ }
 {
     let t = tokens::token_at(s, at);
-    if t.kind < 13 {
+    if t.kind < INT {
         return no_var();
     }
-    if 14 < t.kind {
+    if STR < t.kind {
         return no_var();
     }
     if !fits(kind, t.kind) {
         return no_var();
     }
-    let o = values::with_constant(operand, t.kind - 12, t.low, t.high);
+    let o = values::with_constant(operand, t.kind - TRUE, t.low, t.high);
     let n = one_more(atoms);
     let u = tokens::token_at(s, t.next);
-    if u.kind == 5 {
+    if u.kind == RBRACE {
         return Var {
             ok: true,
             operand: o,
@@ -239,7 +277,7 @@ fn items(s: &[u8], at: usize, kind: u8, operand: Operand, atoms: usize) -> Var
             next: u.next,
         };
     }
-    if u.kind == 6 {
+    if u.kind == COMMA {
         return items(s, u.next, t.kind, o, n);
     }
     no_var()
@@ -263,9 +301,9 @@ fn var_at(
     let k = t.kind;
     let n = t.next;
     match k {
-        4 => items(s, n, 0, values::no_values(), 0),
-        13..=14 => {
-            let o = values::constant(k - 12, t.low, t.high);
+        LBRACE => items(s, n, 0, values::no_values(), 0),
+        INT..=STR => {
+            let o = values::constant(k - TRUE, t.low, t.high);
             Var {
                 ok: true,
                 operand: o,
@@ -273,14 +311,14 @@ fn var_at(
                 next: n,
             }
         }
-        31..=35 => {
+        USER..=CONNECT => {
             let o = session::operand_of(
                 attributes,
                 user,
                 object,
                 mask,
                 entries,
-                k - 30,
+                k - NAMES,
                 t.low,
                 t.high,
             );
@@ -314,10 +352,10 @@ fn comparison_head(
         return Head::Neither;
     }
     let o = tokens::token_at(s, v.next);
-    if o.kind < 16 {
+    if o.kind < EQUAL {
         return Head::Neither;
     }
-    if 23 < o.kind {
+    if AT_LEAST < o.kind {
         return Head::Neither;
     }
     let w = var_at(
@@ -358,16 +396,16 @@ fn simple_head(
     let k = t.kind;
     let n = t.next;
     match k {
-        2 => Head::Open(false, n),
-        10..=12 => Head::Leaf(leaf(truth_of(k), n, 0)),
-        31..=35 => {
+        LPAREN => Head::Open(false, n),
+        FALSE..=TRUE => Head::Leaf(leaf(truth_of(k), n, 0)),
+        USER..=CONNECT => {
             let o = session::operand_of(
                 attributes,
                 user,
                 object,
                 mask,
                 entries,
-                k - 30,
+                k - NAMES,
                 t.low,
                 t.high,
             );
@@ -392,7 +430,7 @@ fn term_head(
     ensures { λ r. ⌜ Heads termStart (now (s .entry)) (lending (now (attributes .entry)) (now (pairs .entry)) (now (table .entry)) user object mask (now (entries .entry))) at r ⌝ }
 {
     let t = tokens::token_at(s, at);
-    if t.kind == 9 {
+    if t.kind == NOT {
         return not_head(simple_head(
             s,
             attributes,
@@ -430,7 +468,7 @@ pub fn policy(
         Reading::Malformed => Reading::Malformed,
         Reading::Read(x) => {
             let t = tokens::token_at(s, x.next);
-            if t.kind == 8 {
+            if t.kind == OR {
                 join(
                     false,
                     x,
@@ -471,7 +509,7 @@ fn conjunction(
         Reading::Malformed => Reading::Malformed,
         Reading::Read(x) => {
             let t = tokens::token_at(s, x.next);
-            if t.kind == 7 {
+            if t.kind == AND {
                 join(
                     true,
                     x,
