@@ -70,7 +70,7 @@ IsRead conjunction us p rest = (n : ℕ) → 3 * length us + 2 ≤ n → conjunc
 IsRead policy us p rest = (n : ℕ) → 3 * length us + 3 ≤ n → policyWithin n (us ++ rest) ≡ some (p, rest)
 
 -- a bound is at least one more than another
-above : (P : ℕ → Type 0) (m n : ℕ) → suc m ≤ n → ((k : ℕ) → m ≤ k → P (suc k)) → P n
+pub above : (P : ℕ → Type 0) (m n : ℕ) → suc m ≤ n → ((k : ℕ) → m ≤ k → P (suc k)) → P n
 above P m zero h f = absurd (not-suc-le-zero h)
 above P m (suc k) h f = f k (le-of-suc-le-suc h)
 

@@ -35,7 +35,7 @@ use Rattle.policy.specs.Readers.{Lending, Reads, Answers, Ahead, Reader,
 use Rattle.policy.proofs.Tokens.{Told, Front, told, grows, mark-range, truth-range, operator-range, source-range, isnt-mark, mark-on, mark-off, operator-on, operator-off}
 use Rattle.policy.proofs.Values.{found, operator-number}
 use Rattle.policy.proofs.Parts.{negated-starts, not-further}
-use Rattle.policy.proofs.Levels.{above}
+use Rattle.model.proofs.Complete.{above}
 use Rattle.policy.proofs.Shorter.{mark-fewer}
 
 -- ---- simple terms

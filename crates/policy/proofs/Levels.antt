@@ -5,7 +5,6 @@ use mathlib.Core.Bool.{Bool, true, false}
 use mathlib.Core.List.{List, [], _∷_}
 use mathlib.Core.Option.{Option, none, some}
 use native.Mathlib.Omega.{arith}
-use native.Mathlib.Nat.{le-of-suc-le-suc, not-suc-le-zero}
 use lib.ListN.{length}
 use Rattle.model.specs.Notation.{_>>=_}
 use Rattle.model.specs.Bytes.{Bytes}
@@ -14,6 +13,7 @@ use Rattle.model.specs.Tokens.{Mark}
 use Rattle.model.specs.Grammar as grammar
 use Rattle.model.specs.Grammar.{Policy, behindMark, joinedBy, policyWithin, conjunctionWithin, termWithin}
 use Rattle.model.proofs.Results.{Whenever}
+use Rattle.model.proofs.Complete.{above}
 use Rattle.tokens.specs.declared.Token.{Token}
 use Rattle.tokens.specs.Codes.{markCode}
 use Rattle.tokens.specs.Reading.{From, tokenAt}
@@ -24,11 +24,6 @@ use Rattle.policy.specs.Starts.{joinOf, joinedTo}
 use Rattle.policy.specs.Readers.{Lending, Reads, Answers, Ahead, Reader, Joins}
 use Rattle.policy.proofs.Shorter.{Fewer, term-within, conjunction-within}
 use Rattle.policy.proofs.Tokens.{mark-range, told, grows, mark-on, mark-off, behind-mark}
-
--- from a bound to one less
-pub above : (P : ℕ → Type 0) (m g : ℕ) → suc m ≤ g → ((k : ℕ) → m ≤ k → P (suc k)) → P g
-above P m zero h f = absurd (not-suc-le-zero h)
-above P m (suc k) h f = f k (le-of-suc-le-suc h)
 
 -- what is read before the mark that may join, and the mark
 module _ (s : Bytes) (L : Lending) (m : Mark) (c : Bool) (more : List model.Token → grammar.Reading) where
