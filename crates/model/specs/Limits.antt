@@ -1,5 +1,5 @@
 -- The figures of document 01, each named once.
-use Prim.Native.Nat.{ℕ}
+use Prim.Native.Nat.{ℕ, _+_}
 
 -- "At most 32,768 bytes. Lines end with byte 10 and have at most 255 bytes before it."
 abbrev pub fileBytes : ℕ
@@ -29,7 +29,7 @@ abbrev pub groupLimit : ℕ
 groupLimit = 64
 
 abbrev pub holderNumbers : ℕ
-holderNumbers = 256
+holderNumbers = holderLimit + 1
 
 -- "NAME: 1 to 12 bytes", "str in double quotes, 0 to 12 bytes", "int 0 to 4294967295"
 abbrev pub nameBytes : ℕ
