@@ -15,8 +15,9 @@ use Rattle.model.specs.Table.{effectiveSet, table}
 use Rattle.model.specs.Edits.{differs, changes}
 use Rattle.model.proofs.Options.{parts, both}
 use Rattle.model.proofs.Lists.{true-or-false, or-cases, or-left, or-right, or-none}
-use Rattle.model.proofs.Effective.{DifferAt, same-elsewhere}
-use Rattle.model.proofs.Standing.{Standing}
+use Rattle.model.proofs.Effective.{same-elsewhere}
+use Rattle.model.specs.Standing.{Standing, DifferAt}
+use Rattle.model.proofs.Standing as model
 use Rattle.bits.specs.Bits.{bit, member, holds, differ, anyBelow, countBelow}
 use Rattle.bits.proofs.Bits.{bit-none, bit-not}
 use Rattle.bits.proofs.Sets.{member-part, same-beq}
@@ -146,7 +147,7 @@ module _ (ups own slots : List ℕ) (e m : ℕ) (marks : Marks ups slots e m) wh
       unlike-differs k h =
           any-ext 256 (λ p. not (Bool·beq (holds t k p) (holds t₂ k p))) (λ p. not (Bool·beq (effectiveSet D T k p) (effectiveSet D U k p)))
           (λ p l. ap₂ (λ (x y : Bool). not (Bool·beq x y)) (ap (λ (x : List ℕ). holds x k p) was ∙ holds-table D T standing k p h l) (all-right k p h l))
-          ∙ any-rest (length (D .pairs)) 256 (λ p. not (Bool·beq (effectiveSet D T k p) (effectiveSet D U k p))) (standing .pairs-fit)
+          ∙ any-rest (length (D .pairs)) 256 (λ p. not (Bool·beq (effectiveSet D T k p) (effectiveSet D U k p))) (model.pairs-fit standing)
           (λ p l m. same-beq (effectiveSet D T k p) (effectiveSet D U k p) (none T standing k p l ∙ sym (none U after k p l)))
         where
           none : (S : Ties) → Standing (record { declared = D; ties = S }) → (k p : ℕ) → length (D .pairs) ≤ p → effectiveSet D S k p ≡ false
@@ -155,9 +156,9 @@ module _ (ups own slots : List ℕ) (e m : ℕ) (marks : Marks ups slots e m) wh
       pub counted : countBelow 256 (unlike t t₂) ≡ changes D T U
       unfolding changes differs holderNumbersOf countBelow anyBelow
       counted =
-          count-rest (length (D .holders)) 256 (unlike t t₂) (standing .holders-fit) (λ k l h. unlike-differs k h ∙ any-at (length (D .pairs)) _ (λ p x.
+          count-rest (length (D .holders)) 256 (unlike t t₂) (model.holders-fit standing) (λ k l h. unlike-differs k h ∙ any-at (length (D .pairs)) _ (λ p x.
           same-beq (effectiveSet D T k p) (effectiveSet D U k p) (no-holder D T standing k p l ∙ sym (no-holder D U after k p l))))
-          ∙ count-ext (length (D .holders)) (unlike t t₂) (differs D T U) (λ k l. unlike-differs k (omega (arith, standing .holders-fit)))
+          ∙ count-ext (length (D .holders)) (unlike t t₂) (differs D T U) (λ k l. unlike-differs k (omega (arith, model.holders-fit standing)))
 
 -- ---- the whole of an edit
 

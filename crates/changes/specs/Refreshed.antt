@@ -9,8 +9,7 @@ use Rattle.model.specs.Declarations.{Declarations}
 use Rattle.model.specs.Ties.{Ties}
 use Rattle.model.specs.Table.{table}
 use Rattle.model.specs.Edits.{changes}
-use Rattle.model.proofs.Effective.{DifferAt}
-use Rattle.model.proofs.Standing.{Standing}
+use Rattle.model.specs.Standing.{Standing, DifferAt}
 use Rattle.bits.specs.Bits.{holds, anyBelow}
 use Rattle.ties.specs.Ties.{tied, Kept, Under}
 

@@ -8,9 +8,9 @@ use native.Mathlib.Nat.{not-suc-le-zero, le-of-suc-le-suc}
 use lib.ListN.{length, length-append}
 use Rattle.model.specs.Notation.{_>>=_, _or-else_}
 use Rattle.model.specs.Atoms.{Atom}
-use Rattle.model.specs.Tokens.{Token, Operator, Mark, markWord}
+use Rattle.model.specs.Tokens.{Token, Operator, Mark, markWord, asConstant}
 use Rattle.model.specs.Grammar.{Var, constants, Policy, compare, not, and, or, parenthesised}
-use Rattle.model.specs.Grammar.{constantOf, Items, last, next, IsVar, a-constant, a-set, an-attribute}
+use Rattle.model.specs.Grammar.{Items, last, next, IsVar, a-constant, a-set, an-attribute}
 use Rattle.model.specs.Grammar.{Part, simple, term, conjunction, policy, Obeys, a-truth, a-lone, in-parentheses, plain, negation, comparison, one-term, joined-by-and, one-conjunction, joined-by-or}
 use Rattle.model.specs.Grammar.{behindMark, readOperator, readItems, readSet, readVar, Reading, readComparison, readSimple, readTerm, joinedBy, policyWithin, conjunctionWithin, termWithin, readPolicy}
 use Rattle.model.proofs.Words.{none-is-some, same-refl}
@@ -25,7 +25,7 @@ record VarRead (us : List Token) (v : Var) (rest : List Token) : Type 0 where
   no-not : behindMark Mark.NOT (us ++ rest) ≡ none
   read : readVar (us ++ rest) ≡ some (v, rest)
 
-reads-constant : (t : Token) (a : Atom) → constantOf t ≡ some a → (rest : List Token) → VarRead (t ∷ []) (constants (a ∷ [])) rest
+reads-constant : (t : Token) (a : Atom) → asConstant t ≡ some a → (rest : List Token) → VarRead (t ∷ []) (constants (a ∷ [])) rest
 reads-constant (Token.name s n) a e rest = none-is-some e
 reads-constant (Token.int n) a e rest = record { no-not = refl; read = cc }
 reads-constant (Token.str s) a e rest = record { no-not = refl; read = cc }

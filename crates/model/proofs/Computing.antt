@@ -5,15 +5,15 @@ use Rattle.model.specs.Tokens.{readAttributeName, readWord, readText, re
 use Rattle.model.specs.Grammar.{readComparison, readSet, readTerm, tooLarge, policyWithin, readPolicy}
 use Rattle.model.specs.Comparison.{compareSets, loneValue}
 use Rattle.model.specs.Meaning.{meaningOf}
-use Rattle.model.specs.Lines.{readAttr, readOp, readPair, readHolder, readTwo, readValue, readRule, readKeyed, readLine}
+use Rattle.model.specs.Lines.{readAttr, readOp, readPair, readHolder, readTwo, readValue, readRule, readKeyed, framed, readLine}
 use Rattle.model.specs.Declarations.{attributeNumber, attributeOf, operationNumber, pairNumber, holderNumber, sortOf, holderNumbersOf, groups}
-use Rattle.model.specs.Ties.{isAbove, closesCircle}
+use Rattle.model.specs.Ties.{isBelow, closesCircle}
 use Rattle.model.specs.Effective.{effective}
 use Rattle.model.specs.Table.{wordsOf, effectiveSet, storedSet, table}
 use Rattle.model.specs.State.{after}
-use Rattle.model.specs.Block.{isFramed, readBlock, activated}
+use Rattle.model.specs.Block.{isBlock, readBlock, activated}
 use Rattle.model.specs.Session.{pairsOf, held, entered, userValues, readBy}
-use Rattle.model.specs.Refusals.{wrongTable, tooLong, wrongFirstLine, framed, lineOf, unframed, outOfOrder, malformed, fits, stands, circular, lineRefusal, otherKey, notStanding, editRefusal, badBlock, entryFits, wrongNumber, isHeld, notHeld, requestRefusal}
+use Rattle.model.specs.Refusals.{wrongTable, tooLong, wrongFirstLine, unframed, outOfOrder, malformed, fits, stands, circular, lineRefusal, otherKey, notStanding, editRefusal, badBlock, entryFits, wrongNumber, isHeld, notHeld, requestRefusal}
 use Rattle.model.specs.Decision.{verdicts, decided as decision-decided, decide}
 use Rattle.model.specs.Load.{readOn, load as load-load}
 use Rattle.model.specs.Edits.{editedTie, differs, changes, edit as edits-edit}
@@ -22,5 +22,5 @@ use Rattle.model.specs.Host.{hostCall, hostTable}
 use Rattle.model.specs.Gate.{isEnd, hexPairs, callOf, printed, output, gate}
 
 unfoldable pub computing : Unit {0}
-unfolding isName readInt decimal isText readStr readBool readAtom readAttributeName readWord readText readToken tokensOf readComparison readSet readTerm tooLarge policyWithin readPolicy compareSets loneValue meaningOf readAttr readOp readPair readHolder readTwo readValue readRule readKeyed readLine attributeNumber attributeOf operationNumber pairNumber holderNumber sortOf holderNumbersOf groups isAbove closesCircle effective wordsOf effectiveSet storedSet table after isFramed readBlock activated pairsOf held entered userValues readBy wrongTable tooLong wrongFirstLine framed lineOf unframed outOfOrder malformed fits stands circular lineRefusal otherKey notStanding editRefusal badBlock entryFits wrongNumber isHeld notHeld requestRefusal verdicts decision-decided decide readOn load-load editedTie differs changes edits-edit step tableAfter ledger hostCall hostTable isEnd hexPairs callOf printed output gate
+unfolding isName readInt decimal isText readStr readBool readAtom readAttributeName readWord readText readToken tokensOf readComparison readSet readTerm tooLarge policyWithin readPolicy compareSets loneValue meaningOf readAttr readOp readPair readHolder readTwo readValue readRule readKeyed readLine attributeNumber attributeOf operationNumber pairNumber holderNumber sortOf holderNumbersOf groups isBelow closesCircle effective wordsOf effectiveSet storedSet table after isBlock readBlock activated pairsOf held entered userValues readBy wrongTable tooLong wrongFirstLine framed unframed outOfOrder malformed fits stands circular lineRefusal otherKey notStanding editRefusal badBlock entryFits wrongNumber isHeld notHeld requestRefusal verdicts decision-decided decide readOn load-load editedTie differs changes edits-edit step tableAfter ledger hostCall hostTable isEnd hexPairs callOf printed output gate
 computing = tt

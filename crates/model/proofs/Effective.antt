@@ -7,8 +7,9 @@ use mathlib.Core.Bool.{Bool, true, _||_, true≢false}
 use mathlib.Core.List.{List}
 use lib.ListN.{length}
 use Rattle.model.specs.Notation.{any}
-use Rattle.model.specs.Ties.{Tie, Ties, parent, member, value, edited, up, one, more, Below, Acyclic, ups}
+use Rattle.model.specs.Ties.{Ties, parent, member, value, up, one, more, Below, Acyclic, ups}
 use Rattle.model.specs.Effective.{direct, effectiveWithin, effective, Has, own, inherited}
+use Rattle.model.specs.Standing.{DifferAt}
 use Rattle.model.proofs.Lists.{_∈_, same-truth, or-cases, or-left, or-right, any-in, in-any, any-ext, filter-ext, in-filter, filter-in}
 use Rattle.model.proofs.Chains.{Among, Depth, acyclic-depth}
 
@@ -85,11 +86,7 @@ module _ (hs : List ℕ) (T : Ties) (a : Among hs T) (acyclic : Acyclic T) where
   effective-equation h p =
       same-truth (effective hs T h p) (by-sentence h p) (λ e. sentence-complete h p (effective-has h p .0 e)) (sentence-sound h p)
 
--- T and U differ in ties of the holder e alone
-abbrev pub DifferAt : ℕ → Ties → Ties → Type 0
-DifferAt e T U = (t : Tie) → (edited t ≡ e → ⊥) → U t ≡ T t
-
--- then each holder that is neither e nor below it has the same effective set on both
+-- where T and U differ in ties of the holder e alone, each holder that is neither e nor below it has the same effective set on both
 module _ (hs : List ℕ) (T U : Ties) (e : ℕ) (differ : DifferAt e T U) where
   same-within : (n k p : ℕ) → (k ≡ e → ⊥) → (Below T k e → ⊥) → effectiveWithin n hs U k p ≡ effectiveWithin n hs T k p
   same-within zero k p not-e not-below = refl

@@ -1,83 +1,94 @@
 -- The ledger: every state that calls leave is standing; a refused edit and a request change nothing; an edit changes the sets of the edited
 -- holder and those below it alone. Assumes nothing.
 use Prim.Native.Nat.{ℕ, suc}
-use mathlib.Core.Path.{_≡_, refl, sym, ap}
+use mathlib.Core.Path.{_≡_, refl, sym, ap, subst}
 use mathlib.Core.Bool.{Bool, true, false, _&&_, _||_, not, true≢false}
-use mathlib.Core.List.{List, [], _∷_}
+use mathlib.Core.List.{List, [], _∷_, List·Memᴰ·head as here, List·Memᴰ·tail as there}
 use mathlib.Core.Option.{Option, none, some}
+use lib.ListN.{length}
 use lib.Dec.{eqb}
 use borrow.Author.Tests.{eqb-true, eqb-false}
 use Rattle.model.specs.Notation.{if_then_else_, _>>=_, _or-else_, _is_, isNone}
 use Rattle.model.specs.Bytes.{Bytes, linesOf}
-use Rattle.model.specs.Lines.{Line}
+use Rattle.model.specs.Keys.{Key}
+use Rattle.model.specs.Lines.{Line, readLine}
 use Rattle.model.specs.Declarations.{holderNumbersOf}
 use Rattle.model.specs.Ties.{Tie, Ties, edited, added, removed, Below}
 use Rattle.model.specs.Effective.{effective}
 use Rattle.model.specs.State.{State, empty, tieOf}
-use Rattle.model.specs.Refusals.{_if_, tooLong, wrongFirstLine, wrongTable, lineOf, framed, lineTests, lineRefusal, wrongSort, full, tieCloses, circular, plusLine, minusLine, signedLine, editTests, editRefusal}
+use Rattle.model.specs.Refusals.{_if_, tooLong, wrongFirstLine, wrongTable, lineTests, lineRefusal, overLimits, undeclared, wrongSort, repeated, full, tieCloses, circular, plusLine, minusLine, signedLine, editTests, editRefusal}
 use Rattle.model.specs.Load
-use Rattle.model.specs.Load.{Loaded, readOn, stepped, rankOf, refusedAt, otherLines}
+use Rattle.model.specs.Load.{Loaded, readOn, stepped, keyOf, refusedAt, otherLines}
 use Rattle.model.specs.Edits
 use Rattle.model.specs.Edits.{Edited, editedTie, adds, editedTies, accepting, refusing}
-use Rattle.model.specs.Ledger.{Call, step, withTable, withoutTable}
+use Rattle.model.specs.Ledger.{Call, step, withTable, withoutTable, Outcome, outcome, ledgerFrom, ledger}
+use Rattle.model.specs.Standing.{Standing, DifferAt}
 use Rattle.model.proofs.Options.{bind-some, some-not}
 use Rattle.model.proofs.Tests.{none-holds}
 use Rattle.model.proofs.Ties.{other-tie}
-use Rattle.model.proofs.Effective.{DifferAt, same-elsewhere}
-use Rattle.model.proofs.Standing.{Standing, empty-standing, after-standing, added-standing, removed-standing, tie-fits}
+use Rattle.model.proofs.Effective.{same-elsewhere}
+use Rattle.model.proofs.Lists.{_∈_}
+use Rattle.model.proofs.Lines.{line-formed}
+use Rattle.model.proofs.Declared.{Acceptable}
+use Rattle.model.proofs.Standing.{empty-standing, after-standing, added-standing, removed-standing, tie-fits}
 
--- a line that is not refused
-accepted-line : (S : State) (before : ℕ) (line : Bytes) (l : Line) → lineRefusal S before line ≡ 0 → lineOf line ≡ some l
-    → (wrongSort (S .declared) l ≡ false) × (full (S .declared) l ≡ false) × (circular S l ≡ false)
+-- a line that is not refused: no condition of a number holds
+pub accepted-line : (S : State) (previous : Option Key) (line : Bytes) (l : Line) → lineRefusal S previous line ≡ 0 → readLine line ≡ some l
+    → Acceptable S l × (circular S l ≡ false)
 unfolding lineRefusal
-accepted-line S before line l e q =
-    let r = none-holds (lineTests S before line) refl e in
-    let t9 : (lineOf line is wrongSort (S .declared)) ≡ false = r .1 .1 .1 .1 .1 .0 in
-    let t11 : (lineOf line is full (S .declared)) ≡ false = r .1 .1 .1 .1 .1 .1 .1 .0 in
-    let t12 : (lineOf line is circular S) ≡ false = r .1 .1 .1 .1 .1 .1 .1 .1 .0 in
-    (rw q at t9, rw q at t11, rw q at t12)
+accepted-line S previous line l e q =
+    let r = none-holds (lineTests S previous line) refl e in
+    let t7 : (readLine line is overLimits) ≡ false = r .1 .1 .1 .0 in
+    let t8 : (readLine line is undeclared (S .declared)) ≡ false = r .1 .1 .1 .1 .0 in
+    let t9 : (readLine line is wrongSort (S .declared)) ≡ false = r .1 .1 .1 .1 .1 .0 in
+    let t10 : (readLine line is repeated S) ≡ false = r .1 .1 .1 .1 .1 .1 .0 in
+    let t11 : (readLine line is full (S .declared)) ≡ false = r .1 .1 .1 .1 .1 .1 .1 .0 in
+    let t12 : (readLine line is circular S) ≡ false = r .1 .1 .1 .1 .1 .1 .1 .1 .0 in (
+      record { formed = line-formed line l q; within = rw q at t7; known = rw q at t8; sorted = rw q at t9; new = rw q at t10; room = rw q at t11 },
+      rw q at t12,
+    )
 
 -- ---- a load
 
-stepped-standing : (S : State) (before : ℕ) (line : Bytes) → Standing S → lineRefusal S before line ≡ 0 → (o : Option Line) → lineOf line ≡ o → Standing (stepped S o)
-stepped-standing S before line standing e none q = standing
-stepped-standing S before line standing e (some l) q = let a = accepted-line S before line l e q in after-standing l standing (a .0) (a .1) (a .2)
+stepped-standing : (S : State) (previous : Option Key) (line : Bytes) → Standing S → lineRefusal S previous line ≡ 0 → (o : Option Line) → readLine line ≡ o → Standing (stepped S o)
+stepped-standing S previous line standing e none q = standing
+stepped-standing S previous line standing e (some l) q = let (a, c) = accepted-line S previous line l e q in after-standing l standing a c
 
-read-standing : (S : State) (before n : ℕ) (ls : List Bytes) → Standing S → Standing (readOn S before n ls .state)
+read-standing : (S : State) (previous : Option Key) (n : ℕ) (ls : List Bytes) → Standing S → Standing (readOn S previous n ls .state)
 unfolding readOn
-read-standing S before n [] standing = standing
-read-standing S before n (l ∷ ls) standing = go (eqb (lineRefusal S before l) 0) refl (λ T before′ s. read-standing T before′ (suc n) ls s)
+read-standing S previous n [] standing = standing
+read-standing S previous n (l ∷ ls) standing = go (eqb (lineRefusal S previous l) 0) refl (λ T key s. read-standing T key (suc n) ls s)
   where
-    go : (b : Bool) → eqb (lineRefusal S before l) 0 ≡ b → ((T : State) (before′ : ℕ) → Standing T → Standing (readOn T before′ (suc n) ls .state))
-        → Standing ((elim b as (λ _. Loaded) [ true ↦ readOn (stepped S (lineOf l)) (rankOf (framed l)) (suc n) ls | false ↦ refusedAt (lineRefusal S before l) (suc n) ]) .state)
-    go true e f = f (stepped S (lineOf l)) (rankOf (framed l)) (stepped-standing S before l standing (eqb-true _ _ e) (lineOf l) refl)
+    go : (b : Bool) → eqb (lineRefusal S previous l) 0 ≡ b → ((T : State) (key : Option Key) → Standing T → Standing (readOn T key (suc n) ls .state))
+        → Standing ((elim b as (λ _. Loaded) [ true ↦ readOn (stepped S (readLine l)) (keyOf l) (suc n) ls | false ↦ refusedAt (lineRefusal S previous l) (suc n) ]) .state)
+    go true e f = f (stepped S (readLine l)) (keyOf l) (stepped-standing S previous l standing (eqb-true _ _ e) (readLine l) refl)
     go false e f = empty-standing
 
 pub load-standing : (file : Bytes) → Standing (Load.load file .state)
 unfolding Load.load
 load-standing file = go (tooLong file) (wrongFirstLine file)
   where
-    go : (b c : Bool) → Standing ((elim b as (λ _. Loaded) [ true ↦ refusedAt 2 0 | false ↦ elim c as (λ _. Loaded) [ true ↦ refusedAt 3 1 | false ↦ readOn empty 0 1 (otherLines (linesOf file)) ] ]) .state)
+    go : (b c : Bool) → Standing ((elim b as (λ _. Loaded) [ true ↦ refusedAt 2 0 | false ↦ elim c as (λ _. Loaded) [ true ↦ refusedAt 3 1 | false ↦ readOn empty none 1 (otherLines (linesOf file)) ] ]) .state)
     go true c = empty-standing
     go false true = empty-standing
-    go false false = read-standing empty 0 1 (otherLines (linesOf file)) empty-standing
+    go false false = read-standing empty none 1 (otherLines (linesOf file)) empty-standing
 
 -- ---- an edit
 
 -- an edit that is not refused: its line, read, has no wrong sort, and closes no circle where it adds
-accepted-edit : (S : State) (edit : Bytes) (l : Line) → editRefusal S edit ≡ 0 → (signedLine edit >>= lineOf) ≡ some l
-    → (wrongSort (S .declared) l ≡ false) × (((plusLine edit >>= lineOf) is circular S) ≡ false)
+accepted-edit : (S : State) (edit : Bytes) (l : Line) → editRefusal S edit ≡ 0 → (signedLine edit >>= readLine) ≡ some l
+    → (wrongSort (S .declared) l ≡ false) × (((plusLine edit >>= readLine) is circular S) ≡ false)
 unfolding editRefusal
 accepted-edit S edit l e q =
     let r = none-holds (editTests S edit) refl e in
-    let t9 : ((signedLine edit >>= lineOf) is wrongSort (S .declared)) ≡ false = r .1 .1 .1 .1 .0 in
+    let t9 : ((signedLine edit >>= readLine) is wrongSort (S .declared)) ≡ false = r .1 .1 .1 .1 .0 in
     (rw q at t9, r .1 .1 .1 .1 .1 .1 .0)
 
 -- the line of an edit that adds
-plus-line : (edit : Bytes) (l : Line) → isNone (plusLine edit) ≡ false → (signedLine edit >>= lineOf) ≡ some l → (plusLine edit >>= lineOf) ≡ some l
+plus-line : (edit : Bytes) (l : Line) → isNone (plusLine edit) ≡ false → (signedLine edit >>= readLine) ≡ some l → (plusLine edit >>= readLine) ≡ some l
 plus-line edit l a e = go (plusLine edit) (minusLine edit) a e
   where
-    go : (p m : Option Bytes) → isNone p ≡ false → ((p or-else m) >>= lineOf) ≡ some l → (p >>= lineOf) ≡ some l
+    go : (p m : Option Bytes) → isNone p ≡ false → ((p or-else m) >>= readLine) ≡ some l → (p >>= readLine) ≡ some l
     go none m a f = absurd (true≢false a)
     go (some x) m a f = f
 
@@ -89,12 +100,12 @@ module _ (S : State) (line : Bytes) where
   accepted-standing standing e b a none q = standing
   accepted-standing standing e true a (some t) q = removed-standing standing t
   accepted-standing standing e false a (some t) q =
-      let r = bind-some (signedLine line >>= lineOf) (tieOf (S .declared)) q in
+      let r = bind-some (signedLine line >>= readLine) (tieOf (S .declared)) q in
       let l = r .0 in
       let c = accepted-edit S line l e (r .1) in
       added-standing standing t (tie-fits (S .declared) l t (r .2) (c .0))
       (some-not (tieOf (S .declared) l) (tieCloses (holderNumbersOf (S .declared)) (S .ties))
-      (some-not (plusLine line >>= lineOf) (circular S) (c .1) l (plus-line line l a (r .1))) t (r .2))
+      (some-not (plusLine line >>= readLine) (circular S) (c .1) l (plus-line line l a (r .1))) t (r .2))
 
   -- an edit, accepted or refused
   edit-cases : (P : Edited → Type 0)
@@ -158,15 +169,16 @@ step-standing words {S} c standing = go (wrongTable words) c
     go false (Call.edit line) = edit-standing S line standing
     go false (Call.request block) = standing
 
--- the state behind a list of calls
-abbrev pub stateAfter : ℕ → State → List Call → State
-stateAfter words S [] = S
-stateAfter words S (c ∷ calls) = stateAfter words (step words S c .state) calls
+-- "State: declarations D of the file … and a set T of ties": every state in a ledger stands
+pub from-standing : (S : State) (words : List ℕ) (calls : List Call) → Standing S → (o : Outcome) → o ∈ ledgerFrom S words calls → Standing (o .state)
+from-standing S words [] standing o m = elim m [ ]
+from-standing S words (c ∷ calls) standing o (here e) = subst (λ (x : Outcome). Standing (x .state)) (sym e) (step-standing (length words) c standing)
+from-standing S words (c ∷ calls) standing o (there m) =
+    from-standing (outcome S words c .state) (outcome S words c .words) calls (step-standing (length words) c standing) o m
 
--- from any list, ties stay acyclic and between declared holders and pairs
-pub ledger-standing : (words : ℕ) (S : State) (calls : List Call) → Standing S → Standing (stateAfter words S calls)
-ledger-standing words S [] standing = standing
-ledger-standing words S (c ∷ calls) standing = ledger-standing words (step words S c .state) calls (step-standing words c standing)
+pub ledger-standing : (words : List ℕ) (file : Bytes) (calls : List Call) (o : Outcome) → o ∈ ledger words file calls → Standing (o .state)
+unfolding ledger
+ledger-standing words file calls = from-standing empty words (Call.load file ∷ calls) empty-standing
 
 -- a request changes nothing
 pub request-keeps : (words : ℕ) (S : State) (block : Bytes) → step words S (Call.request block) .state ≡ S

@@ -20,6 +20,7 @@ pub mod Decimals
 pub mod Atoms
 pub mod Names
 pub mod Fields
+pub mod Tokens
 pub mod Lines
 -- Policies: the reader and the grammar.
 pub mod Sound
@@ -33,6 +34,8 @@ pub mod Effective
 pub mod Table
 -- The ledger: what holds of every state.
 pub mod Tests
+pub mod Growing
+pub mod Declared
 pub mod Standing
 pub mod Ledger
 pub mod Gate

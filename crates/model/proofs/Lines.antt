@@ -4,23 +4,27 @@ use mathlib.Core.Path.{_≡_, refl, ap, _∙_}
 use mathlib.Core.Logic.{_↔_}
 use mathlib.Core.Bool.{Bool, true, false, _&&_, not}
 use mathlib.Core.List.{[], _∷_, _++_, append-assoc}
-use mathlib.Core.Option.{some, Option·some-injective}
-use Rattle.model.specs.Notation.{_>>=_}
+use mathlib.Core.Option.{Option, some, Option·some-injective}
+use lib.ListN.{length}
+use lib.Dec.{leb}
+use Rattle.model.specs.Notation.{_>>=_, isNone, onlyIf}
+use Rattle.model.specs.Limits.{lineBytes}
 use Rattle.model.specs.Bytes.{Bytes, bytes, newline, content}
 use Rattle.model.specs.Names.{isName, readName}
 use Rattle.model.specs.Attributes.{Source, sourceWord, readSource, typeWord}
 use Rattle.model.specs.Atoms.{Atom, isAtom, writeAtom, readAtom}
 use Rattle.model.specs.Keys.{Key, keyWord, keys, readKey}
 use Rattle.model.specs.Tokens.{tokensOf}
-use Rattle.model.specs.Grammar.{readPolicy}
+use Rattle.model.specs.Grammar.{Policy, readPolicy}
 use Rattle.model.specs.Declarations.{Sort, sortWord, isSort}
-use Rattle.model.specs.Lines.{Line, readAttr, readOp, readPair, readHolder, readTwo, readValue, readRule, readFields, readKeyed, readLine, writeLine, isLine}
+use Rattle.model.specs.Lines.{Line, readAttr, readOp, readPair, readHolder, readTwo, readValue, readRule, readFields, readKeyed, framed, readLine, writeLine, isLine}
 use Rattle.model.proofs.Words.{false-is-true, one-of-word, reads-key}
-use Rattle.model.proofs.Options.{parts, both, fields, bound}
+use Rattle.model.proofs.Options.{parts, both, fields, bound, condition}
 use Rattle.model.proofs.Lists.{all-append, all-cons}
 use Rattle.model.proofs.Cuts.{isnt, lacks, cut-joined, cut-bound, content-exact}
 use Rattle.model.proofs.Names.{name-exact, name-lacks, source-lacks, type-lacks, sort-lacks, key-lacks}
 use Rattle.model.proofs.Atoms.{atom-lacks}
+use Rattle.model.proofs.Tokens.{tokens-formed}
 use Rattle.model.proofs.Fields.{nameField, atomField, sourceField, typeField, reads, both-fields, reads-both, three-fields, reads-three}
 
 abbrev pub withoutPolicy : Line → Bool
@@ -83,28 +87,29 @@ two-read line a b e =
     reads-both nameField nameField line a b h k (name-lacks 44 refl a h)
 
 -- the fields behind a key that are read as a line are those that it is written with
-pub fields-said : (k : Key) (f : Bytes) (l : Line) → withoutPolicy l ≡ true → readFields k f ≡ some l
-    → (isLine l ≡ true) × (keyWord k ++ 61 ∷ f ≡ writeLine l)
+pub fields-said : (k : Key) (f : Bytes) (l : Line) → readFields k f ≡ some l
+    → (isLine l ≡ true) × (withoutPolicy l ≡ true → keyWord k ++ 61 ∷ f ≡ writeLine l)
 unfolding readAttr readOp readHolder readTwo readValue readRule
-fields-said Key.attr f l w e =
-    three-fields sourceField nameField typeField Line.attr f l e λ a b c m n o j z. rw (← z, j) (n, simp append-assoc)
-fields-said Key.op f l w e = let (m, z) = named Line.op f l e in rw (← z) (m, refl)
-fields-said Key.atom f l w e = pair-said f l e
-fields-said Key.ugroup f l w e = let (m, z) = named (Line.holder Sort.ugroup) f l e in rw (← z) (m, refl)
-fields-said Key.ogroup f l w e = let (m, z) = named (Line.holder Sort.ogroup) f l e in rw (← z) (m, refl)
-fields-said Key.user f l w e = let (m, z) = named (Line.holder Sort.user) f l e in rw (← z) (m, refl)
-fields-said Key.object f l w e = let (m, z) = named (Line.holder Sort.object) f l e in rw (← z) (m, refl)
-fields-said Key.parent f l w e = both-fields nameField nameField Line.parent f l e λ a b m n j z. rw (← z, j) (both m n, simp append-assoc)
-fields-said Key.member f l w e = both-fields nameField nameField Line.member f l e λ a b m n j z. rw (← z, j) (both m n, simp append-assoc)
-fields-said Key.value f l w e =
-    three-fields nameField nameField atomField Line.value f l e λ a b c m n o j z. rw (← z, j) (both (both m n) o, simp append-assoc)
-fields-said Key.rule f l w e =
+fields-said Key.attr f l e =
+    three-fields sourceField nameField typeField Line.attr f l e λ a b c m n o j z. rw (← z, j) (n, λ w. simp append-assoc)
+fields-said Key.op f l e = let (m, z) = named Line.op f l e in rw (← z) (m, λ w. refl)
+fields-said Key.atom f l e = let (m, z) = pair-said f l e in (m, λ w. z)
+fields-said Key.ugroup f l e = let (m, z) = named (Line.holder Sort.ugroup) f l e in rw (← z) (m, λ w. refl)
+fields-said Key.ogroup f l e = let (m, z) = named (Line.holder Sort.ogroup) f l e in rw (← z) (m, λ w. refl)
+fields-said Key.user f l e = let (m, z) = named (Line.holder Sort.user) f l e in rw (← z) (m, λ w. refl)
+fields-said Key.object f l e = let (m, z) = named (Line.holder Sort.object) f l e in rw (← z) (m, λ w. refl)
+fields-said Key.parent f l e = both-fields nameField nameField Line.parent f l e λ a b m n j z. rw (← z, j) (both m n, λ w. simp append-assoc)
+fields-said Key.member f l e = both-fields nameField nameField Line.member f l e λ a b m n j z. rw (← z, j) (both m n, λ w. simp append-assoc)
+fields-said Key.value f l e =
+    three-fields nameField nameField atomField Line.value f l e λ a b c m n o j z. rw (← z, j) (both (both m n) o, λ w. simp append-assoc)
+fields-said Key.rule f l e =
     cut-bound 44 f e λ c p j e₁.
     bound {o = readName (c .0)} e₁ λ o q e₂.
     bound {o = tokensOf (c .1)} e₂ λ ts r e₃.
     bound {o = readPolicy ts} e₃ λ y g e₄.
     let z : Line.rule o ts ≡ l = Option·some-injective _ _ e₄ in
-    false-is-true (ap withoutPolicy z ∙ w)
+    let formed = both (both (name-exact (c .0) o .0 q .0) (tokens-formed (c .1) ts r)) (ap (λ (x : Option Policy). not (isNone x)) g) in
+    (rw (← z) formed, λ w. false-is-true (ap withoutPolicy z ∙ w))
 
 -- a line that is written has a key, and the fields behind it are read as that line
 pub fields-read : (l : Line) → withoutPolicy l ≡ true → isLine l ≡ true
@@ -128,23 +133,7 @@ fields-read (Line.value o n a) w h =
     (Key.value, o ++ 44 ∷ (n ++ 44 ∷ writeAtom a), simp append-assoc, reads-three nameField nameField atomField Line.value o n a p q r (name-lacks 44 refl o p) (name-lacks 44 refl n q))
 fields-read (Line.rule o ts) w h = false-is-true w
 
--- reading bytes gives a line exactly when the bytes are that line's writing
-pub line-exact : (l : Line) → withoutPolicy l ≡ true → (s : Bytes) → (readLine s ≡ some l) ↔ ((isLine l ≡ true) × (s ≡ writeLine l))
-unfolding readLine
-line-exact l w s = (sound, λ h. rw (h .1) (complete (h .0)))
-  where
-    sound : readLine s ≡ some l → (isLine l ≡ true) × (s ≡ writeLine l)
-    sound e = bound {o = readKeyed s} e λ c p q.
-        let (m, z) = fields-said (c .0) (c .1) l w q in
-        (m, keyed-exact s (c .0) (c .1) .0 p ∙ z)
-
-    framed : (k : Key) (f : Bytes) → readFields k f ≡ some l → readLine (keyWord k ++ 61 ∷ f) ≡ some l
-    framed k f e = rw (keyed-exact (keyWord k ++ 61 ∷ f) k f .1 refl) e
-
-    complete : isLine l ≡ true → readLine (writeLine l) ≡ some l
-    complete h = let (k, f, u, v) = fields-read l w h in ap readLine u ∙ framed k f v
-
--- no line holds byte 10: with byte 10 behind it, it is that line's content
+-- no line holds byte 10
 joined-lack : (a b : Bytes) (x : ℕ) → isnt newline x ≡ true → lacks newline a ≡ true → lacks newline b ≡ true → lacks newline (a ++ (x ∷ []) ++ b) ≡ true
 joined-lack a b x h p q = all-append (isnt newline) (a ++ x ∷ []) b (all-append (isnt newline) a (x ∷ []) p (all-cons (isnt newline) x [] h refl)) q
 
@@ -169,5 +158,28 @@ line-lacks (Line.value o n a) w h =
     joined-lack (o ++ bytes "," ++ n) (writeAtom a) 44 refl (joined-lack o n 44 refl (name-lacks newline refl o p) (name-lacks newline refl n q)) (atom-lacks a r)
 line-lacks (Line.rule o ts) w h = false-is-true w
 
-pub line-content : (l : Line) → withoutPolicy l ≡ true → isLine l ≡ true → content (writeLine l ++ newline ∷ []) ≡ some (writeLine l)
-line-content l w h = content-exact (writeLine l ++ newline ∷ []) (writeLine l) .1 (line-lacks l w h, refl)
+-- reading bytes gives a line exactly when the bytes are that line's writing, of at most 255 bytes, and byte 10
+pub line-exact : (l : Line) → withoutPolicy l ≡ true → (s : Bytes)
+    → (readLine s ≡ some l) ↔ ((isLine l ≡ true) × (leb (length (writeLine l)) lineBytes ≡ true) × (s ≡ writeLine l ++ newline ∷ []))
+unfolding readLine framed
+line-exact l w s = (sound, λ h. rw (h .2) (complete (h .0) (h .1)))
+  where
+    sound : readLine s ≡ some l → (isLine l ≡ true) × (leb (length (writeLine l)) lineBytes ≡ true) × (s ≡ writeLine l ++ newline ∷ [])
+    sound e =
+        bound {o = framed s} e λ c p q.
+        bound {o = content s} p λ b h j.
+        bound {o = onlyIf (leb (length b) lineBytes) b} j λ b′ g k.
+        let (short, same) = condition {t = leb (length b) lineBytes} {a = b} g in
+        let (m, said) = fields-said (c .0) (c .1) l q in
+        let written : b ≡ writeLine l = same ∙ keyed-exact b′ (c .0) (c .1) .0 k ∙ said w in
+        (m, rw written at short, content-exact s b .0 h .1 ∙ ap (λ (x : Bytes). x ++ newline ∷ []) written)
+
+    complete : isLine l ≡ true → leb (length (writeLine l)) lineBytes ≡ true → readLine (writeLine l ++ newline ∷ []) ≡ some l
+    complete h short =
+        let (k, f, u, v) = fields-read l w h in
+        rw (content-exact (writeLine l ++ newline ∷ []) (writeLine l) .1 (line-lacks l w h, refl), short, keyed-exact (writeLine l) k f .1 u, v)
+
+-- what is read as a line is well formed
+pub line-formed : (s : Bytes) (l : Line) → readLine s ≡ some l → isLine l ≡ true
+unfolding readLine
+line-formed s l e = bound {o = framed s} e λ c p q. fields-said (c .0) (c .1) l q .0

@@ -7,9 +7,9 @@ use mathlib.Core.Option.{some}
 use lib.ListN.{length}
 use Rattle.model.specs.Notation.{_>>=_}
 use Rattle.model.specs.Atoms.{Atom}
-use Rattle.model.specs.Tokens.{Token, Mark, markWord}
+use Rattle.model.specs.Tokens.{Token, Mark, markWord, asConstant}
 use Rattle.model.specs.Grammar.{constants, Policy, and, or}
-use Rattle.model.specs.Grammar.{constantOf, oneType, Items, last, next, IsVar, a-constant, a-set, an-attribute}
+use Rattle.model.specs.Grammar.{oneType, Items, last, next, IsVar, a-constant, a-set, an-attribute}
 use Rattle.model.specs.Grammar.{Part, simple, term, conjunction, policy, Obeys, a-truth, a-lone, in-parentheses, plain, negation, comparison, one-term, joined-by-and, one-conjunction, joined-by-or}
 use Rattle.model.specs.Grammar.{isMark, behindMark, readOperator, readItems, readSet, readVar, Reading, readComparison, readSimple, readTerm, joinedBy, policyWithin, conjunctionWithin, termWithin, wholly, readPolicy}
 use Rattle.model.proofs.Results.{Whenever, result, bind-so, case-so, map-so, if-so, only-so, else-so}
@@ -63,7 +63,7 @@ items-so (t ∷ []) = tt
 items-so (t ∷ u ∷ ts) =
     let Q = Front Closing (t ∷ u ∷ ts) in
     let more = items-so ts in
-    bind-so (λ a. constantOf t ≡ some a) Q _ (constantOf t) (result (constantOf t)) λ a e.
+    bind-so (λ a. asConstant t ≡ some a) Q _ (asConstant t) (result (asConstant t)) λ a e.
     case-so (λ rest. u ∷ ts ≡ Token.mark Mark.rbrace ∷ rest) (Whenever Q) _ _ (behindMark Mark.rbrace (u ∷ ts)) (mark-so Mark.rbrace (u ∷ ts))
     (λ rest f. record {
       used = t ∷ Token.mark Mark.rbrace ∷ [];
@@ -130,13 +130,16 @@ module _ (inner : List Token → Reading) (inner-so : (ts : List Token) → When
   simple-so (Token.operator o ∷ ts) = tt
   simple-so (Token.mark m ∷ ts) =
       let Q = Front (Obeys simple) (Token.mark m ∷ ts) in
-      if-so Q (isMark Mark.lparen m) _ λ e.
-      bind-so (Front (Obeys policy) ts) Q _ (inner ts) (inner-so ts) λ x f.
+      let opened : List Token → Type 0 = λ us. Token.mark m ∷ ts ≡ Token.mark Mark.lparen ∷ us in
+      let R : Policy × List Token → Type 0 = λ x. (us : List Token) × opened us × Front (Obeys policy) us x in
+      bind-so R Q _ (behindMark Mark.lparen (Token.mark m ∷ ts) >>= inner)
+      (bind-so opened R _ (behindMark Mark.lparen (Token.mark m ∷ ts)) (mark-so Mark.lparen (Token.mark m ∷ ts)) λ us e.
+      map-so (Front (Obeys policy) us) R (inner us) (inner-so us) λ x f. (us, e, f)) λ x r.
       bind-so (λ rest. x .1 ≡ Token.mark Mark.rparen ∷ rest) Q _ (behindMark Mark.rparen (x .1)) (mark-so Mark.rparen (x .1)) λ rest g.
       record {
-        used = Token.mark Mark.lparen ∷ f .used ++ Token.mark Mark.rparen ∷ [];
-        split = around (Token.mark Mark.lparen ∷ f .used) [] rest (ap₂ (λ k l. Token.mark k ∷ l) (sym (is-mark Mark.lparen m e)) (f .split)) g refl;
-        is = in-parentheses (f .is);
+        used = Token.mark Mark.lparen ∷ r .2 .used ++ Token.mark Mark.rparen ∷ [];
+        split = around (Token.mark Mark.lparen ∷ r .2 .used) [] rest (r .1 ∙ ap (λ l. Token.mark Mark.lparen ∷ l) (r .2 .split)) g refl;
+        is = in-parentheses (r .2 .is);
       }
 
   term-so : (ts : List Token) → Whenever (Front (Obeys term) ts) (readTerm inner ts)

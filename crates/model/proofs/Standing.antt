@@ -1,58 +1,30 @@
--- What holds of every state: ties are acyclic and between declared holders and pairs. A line or an edit that is accepted keeps it so.
+-- A line or an edit that is accepted keeps a state standing: declarations well declared, ties acyclic and between declared holders and pairs.
 -- Assumes nothing.
 use Prim.Native.Nat.{ℕ, _≤_, _<_}
 use mathlib.Core.Path.{_≡_, refl, sym, ap, subst, _∙_}
 use mathlib.Core.Logic.{_⊎_, inl, inr, ⊎-elim}
-use mathlib.Core.Bool.{true, false, _&&_, true≢false}
-use mathlib.Core.List.{List, [], _∷_, _++_}
+use mathlib.Core.Bool.{true, false, _&&_, not, true≢false}
 use mathlib.Core.Option.{Option, none, some, Option·some-injective}
 use native.Mathlib.Omega.{arith}
-use lib.ListN.{length, length-append}
-use lib.Dec.{leb}
-use borrow.Author.Tests.{leb-false, not-false}
-use Rattle.model.specs.Notation.{_>>=_, _is_, nth}
+use lib.ListN.{length}
+use borrow.Author.Tests.{not-false}
+use Rattle.model.specs.Notation.{_>>=_, _is_, isNone, nth}
 use Rattle.model.specs.Limits.{holderNumbers, pairLimit}
 use Rattle.model.specs.Bytes.{Bytes, same}
 use Rattle.model.specs.Attributes.{sourceWord, sources, sameSource}
 use Rattle.model.specs.Atoms.{Atom, sameAtom}
 use Rattle.model.specs.Lines.{Line, attr, op, atom, holder, parent, member, value, rule}
-use Rattle.model.specs.Declarations.{Declarations, Pair, Holder, Sort, sortWord, isSort, isNamed, holderNumber, sortOf, sourceFor, parentSort, groupSort, pairNumber, holderNumbersOf, isGroup}
+use Rattle.model.specs.Declarations.{Declarations, Pair, Holder, Sort, sortWord, isSort, isNamed, holderNumber, sortOf, sourceFor, parentSort, groupSort, pairNumber, isHolder, holderNumbersOf, isGroup}
 use Rattle.model.specs.Ties.{Tie, Ties, added, removed, up, Acyclic}
-use Rattle.model.specs.State.{State, empty, tieOf, tied, after}
-use Rattle.model.specs.Refusals.{fits, wrongSort, full, tieCloses, circular}
+use Rattle.model.specs.State.{State, empty, tieOf, tied, declare, after}
+use Rattle.model.specs.Refusals.{fits, wrongSort, tieCloses, circular}
+use Rattle.model.specs.Standing.{SortsFit, PairFits, TieFits, WellDeclared, Standing}
 use Rattle.model.proofs.Words.{none-is-some, false-is-true, same-word, reads-source, reads-sort, sorts}
 use Rattle.model.proofs.Options.{parts, bind-some, is-some}
-use Rattle.model.proofs.Lists.{_∈_, or-cases, or-left, or-right, or-none, nth-lt, nth-append, place-nth, below-in}
+use Rattle.model.proofs.Lists.{_∈_, or-cases, or-left, or-right, nth-lt, lt-nth, nth-append, place-nth, below-in, length-below}
 use Rattle.model.proofs.Ties.{added-cases, removed-stood, up-added}
-use Rattle.model.proofs.Chains.{Among, first-tie, last-tie, AtOrAbove, still-acyclic, parent-acyclic, fewer-acyclic}
-
--- the sorts of two holders, the lower one's and the upper one's, by a rule of which sort stands above which
-pub record SortsFit (above : Sort → Option Sort) (D : Declarations) (lower upper : ℕ) : Type 0 where
-  pub lower-sort : Sort
-  pub upper-sort : Sort
-  pub lower-is : sortOf D lower ≡ some lower-sort
-  pub upper-is : sortOf D upper ≡ some upper-sort
-  pub one-above : above lower-sort ≡ some upper-sort
-
--- a holder and a pair of the source that its sort fixes
-pub record PairFits (D : Declarations) (h p : ℕ) : Type 0 where
-  pub sort : Sort
-  pub pair : Pair
-  pub sort-is : sortOf D h ≡ some sort
-  pub pair-is : nth (D .pairs) p ≡ some pair
-  pub source-is : pair .source ≡ sourceFor sort
-
--- a tie between declared holders and pairs
-abbrev pub TieFits : Declarations → Tie → Type 0
-TieFits D (Tie.parent c g) = SortsFit parentSort D c g
-TieFits D (Tie.member p g) = SortsFit groupSort D p g
-TieFits D (Tie.value h p) = PairFits D h p
-
-pub record Standing (S : State) : Type 0 where
-  pub acyclic : Acyclic (S .ties)
-  pub ties-fit : (t : Tie) → S .ties t ≡ true → TieFits (S .declared) t
-  pub holders-fit : length (S .declared .holders) ≤ holderNumbers
-  pub pairs-fit : length (S .declared .pairs) ≤ pairLimit
+use Rattle.model.proofs.Declared.{Acceptable, declare-well, nothing-well}
+use Rattle.model.proofs.Chains.{Among, first-tie, last-tie, AtOrBelow, still-acyclic, parent-acyclic, fewer-acyclic}
 
 -- ---- the tie of a line fits, where the line's sorts do
 
@@ -182,7 +154,7 @@ module _ {S : State} (standing : Standing S) where
       differ q = let z : _≡_ {A = ℕ} 0 1 = cc in absurd (omega (arith, z))
 
       -- a member is no group, so nothing leads up to it
-      no-way : AtOrAbove (S .ties) p g → ⊥
+      no-way : AtOrBelow (S .ties) g p → ⊥
       no-way (inl q) =
           true≢false
           (sym (upper-group (f .lower-sort) (f .upper-sort) (inr (f .one-above)))
@@ -208,8 +180,7 @@ module _ {S : State} (standing : Standing S) where
   added-standing t f e = record {
     acyclic = added-acyclic t f e;
     ties-fit = λ u q. ⊎-elim (λ s. subst (TieFits (S .declared)) s f) (standing .ties-fit u) (added-cases t (S .ties) u q);
-    holders-fit = standing .holders-fit;
-    pairs-fit = standing .pairs-fit;
+    declarations = standing .declarations;
   }
 
   -- and so does one less
@@ -223,8 +194,7 @@ module _ {S : State} (standing : Standing S) where
         (or-cases (removed t (S .ties) (Tie.parent h g)) (removed t (S .ties) (Tie.member h g)) e))
         (standing .acyclic);
     ties-fit = λ u q. standing .ties-fit u (removed-stood t (S .ties) u q);
-    holders-fit = standing .holders-fit;
-    pairs-fit = standing .pairs-fit;
+    declarations = standing .declarations;
   }
 
 -- ---- declarations that grow
@@ -261,47 +231,63 @@ module _ {D E : Declarations} (grows : Grows D E) where
     source-is = f .source-is;
   }
 
-grown-standing : {D : Declarations} {T : Ties} → Standing (record { declared = D; ties = T }) → (E : Declarations) → Grows D E
-    → length (E .holders) ≤ holderNumbers → length (E .pairs) ≤ pairLimit → Standing (record { declared = E; ties = T })
-grown-standing standing E g h p = record {
-  acyclic = standing .acyclic;
+grown-standing : {D : Declarations} {T : Ties} → Standing (record { declared = D; ties = T }) → (E : Declarations) → Grows D E → WellDeclared E
+    → Standing (record { declared = E; ties = T })
+grown-standing standing E g well = record {
+  declarations = well;
   ties-fit = λ t e. tie-stays g t (standing .ties-fit t e);
-  holders-fit = h;
-  pairs-fit = p;
+  acyclic = standing .acyclic;
 }
 
 -- ---- an accepted line
-
-one-longer : {A : Type 0} (n : ℕ) (xs : List A) (x : A) → leb n (length xs) ≡ false → length (xs ++ x ∷ []) ≤ n
-one-longer n xs x e = omega (arith, length-append xs (x ∷ []), leb-false n (length xs) e)
 
 tied-standing : {S : State} → Standing S → (o : Option Tie) → ((t : Tie) → o ≡ some t → TieFits (S .declared) t)
     → (o is tieCloses (holderNumbersOf (S .declared)) (S .ties)) ≡ false → Standing (record { declared = S .declared; ties = tied o (S .ties) })
 tied-standing standing none f e = standing
 tied-standing standing (some t) f e = added-standing standing t (f t refl) e
 
-pub after-standing : {S : State} (l : Line) → Standing S → wrongSort (S .declared) l ≡ false → full (S .declared) l ≡ false → circular S l ≡ false → Standing (after l S)
+same-declared : {D : Declarations} → Grows D D
+same-declared = record { holders-stay = λ k h e. e; pairs-stay = λ k p e. e }
+
+declared-grows : (D : Declarations) (l : Line) → Grows D (declare l D)
+declared-grows D (attr s n y) = record { holders-stay = λ k h e. e; pairs-stay = λ k p e. e }
+declared-grows D (op n) = record { holders-stay = λ k h e. e; pairs-stay = λ k p e. e }
+declared-grows D (atom s n a) = record { holders-stay = λ k h e. e; pairs-stay = λ k p e. nth-append (D .pairs) _ k e }
+declared-grows D (holder s n) = record { holders-stay = λ k h e. nth-append (D .holders) _ k e; pairs-stay = λ k p e. e }
+declared-grows D (parent c g) = same-declared
+declared-grows D (member p g) = same-declared
+declared-grows D (value h n a) = same-declared
+declared-grows D (rule o ts) = record { holders-stay = λ k h e. e; pairs-stay = λ k p e. e }
+
+pub after-standing : {S : State} (l : Line) → Standing S → Acceptable S l → circular S l ≡ false → Standing (after l S)
 unfolding after circular
-after-standing (attr s n y) standing w f c =
-    grown-standing standing _ (record { holders-stay = λ k h e. e; pairs-stay = λ k p e. e }) (standing .holders-fit) (standing .pairs-fit)
-after-standing (op n) standing w f c =
-    grown-standing standing _ (record { holders-stay = λ k h e. e; pairs-stay = λ k p e. e }) (standing .holders-fit) (standing .pairs-fit)
-after-standing {S} (atom s n a) standing w f c =
-    grown-standing standing _ (record { holders-stay = λ k h e. e; pairs-stay = λ k p e. nth-append (S .declared .pairs) _ k e }) (standing .holders-fit)
-    (one-longer pairLimit (S .declared .pairs) _ f)
-after-standing {S} (holder s n) standing w f c =
-    grown-standing standing _ (record { holders-stay = λ k h e. nth-append (S .declared .holders) _ k e; pairs-stay = λ k p e. e })
-    (one-longer holderNumbers (S .declared .holders) _ (or-none (leb holderNumbers (length (S .declared .holders))) _ f .0)) (standing .pairs-fit)
-after-standing {S} (parent p g) standing w f c = tied-standing standing (tieOf (S .declared) (parent p g)) (λ t e. tie-fits (S .declared) (parent p g) t e w) c
-after-standing {S} (member p g) standing w f c = tied-standing standing (tieOf (S .declared) (member p g)) (λ t e. tie-fits (S .declared) (member p g) t e w) c
-after-standing {S} (value h n a) standing w f c = tied-standing standing (tieOf (S .declared) (value h n a)) (λ t e. tie-fits (S .declared) (value h n a) t e w) c
-after-standing (rule o ts) standing w f c =
-    grown-standing standing _ (record { holders-stay = λ k h e. e; pairs-stay = λ k p e. e }) (standing .holders-fit) (standing .pairs-fit)
+after-standing {S} l standing a c =
+    let tie = tied-standing standing (tieOf (S .declared) l) (λ t e. tie-fits (S .declared) l t e (a .sorted)) c in
+    grown-standing tie (declare l (S .declared)) (declared-grows (S .declared) l) (declare-well S l (standing .declarations) a)
 
 pub empty-standing : Standing empty
 empty-standing = record {
-  acyclic = λ h c. false-is-true (first-tie c .1);
+  declarations = nothing-well;
   ties-fit = λ t e. false-is-true e;
-  holders-fit = omega arith;
-  pairs-fit = omega arith;
+  acyclic = λ h c. false-is-true (first-tie c .1);
 }
+
+-- ---- numbers of holders and pairs
+
+pub holders-fit : {S : State} → Standing S → length (S .declared .holders) ≤ holderNumbers
+unfolding holderNumbersOf
+holders-fit {S} standing = rw (length-below (length (S .declared .holders))) at (standing .declarations .holders .few)
+
+pub pairs-fit : {S : State} → Standing S → length (S .declared .pairs) ≤ pairLimit
+pairs-fit standing = standing .declarations .pairs .few
+
+-- the holders are those of the first numbers
+pub holder-lt : (D : Declarations) (k : ℕ) → k < length (D .holders) → isHolder D k ≡ true
+holder-lt D k h = let (x, e) = lt-nth (D .holders) k h in rw e
+
+pub holder-none : (D : Declarations) (k : ℕ) → length (D .holders) ≤ k → isHolder D k ≡ false
+holder-none D k h = go (nth (D .holders) k) refl
+  where
+    go : (o : Option Holder) → nth (D .holders) k ≡ o → not (isNone o) ≡ false
+    go none e = refl
+    go (some x) e = absurd (omega (arith, nth-lt (D .holders) k e))

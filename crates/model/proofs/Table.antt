@@ -6,10 +6,9 @@ use mathlib.Core.List.{List, [], _∷_}
 use native.Mathlib.Omega.{arith}
 use native.Mathlib.Nat.{mul-suc}
 use lib.ListN.{length, length-append, replicate}
-use lib.Dec.{ltb}
 use Rattle.model.specs.Notation.{each, below}
 use Rattle.model.specs.Limits.{tableWords, setWords, holderNumbers}
-use Rattle.model.specs.Declarations.{Declarations, nothingDeclared}
+use Rattle.model.specs.Declarations.{Declarations, nothingDeclared, isHolder}
 use Rattle.model.specs.Ties.{Ties, noTies}
 use Rattle.model.specs.Table.{wordsOf, effectiveSet, storedSet, table}
 use Rattle.model.proofs.Computing.{computing}
@@ -17,7 +16,7 @@ use Rattle.model.proofs.Lists.{length-below}
 
 pub set-length : (D : Declarations) (T : Ties) (k : ℕ) → length (storedSet D T k) ≡ setWords
 unfolding storedSet wordsOf
-set-length D T k = go (ltb k (length (D .holders)))
+set-length D T k = go (isHolder D k)
   where
     go : (b : Bool) → length {A = ℕ} (elim b as (λ _. List ℕ) [ true ↦ wordsOf (effectiveSet D T k) | false ↦ replicate setWords 0 ]) ≡ setWords
     go true = refl

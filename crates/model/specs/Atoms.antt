@@ -6,7 +6,7 @@ use mathlib.Core.List.{[], _∷_, _++_}
 use mathlib.Core.Option.{Option, some}
 use lib.ListN.{length}
 use lib.Dec.{eqb, leb, ltb}
-use Rattle.model.specs.Notation.{_>>=_, _or-else_, onlyIf, isEmpty, all}
+use Rattle.model.specs.Notation.{if_then_else_, _>>=_, _or-else_, onlyIf, isEmpty, all}
 use Rattle.model.specs.Limits.{largestInt, textBytes}
 use Rattle.model.specs.Bytes.{Bytes, bytes, same, isByte, inRange, cutAt, behind, oneOf}
 use Rattle.model.specs.Attributes.{AtomType}
@@ -41,7 +41,7 @@ readInt s =
 -- the decimal digits of a number below 10 to the power of the first argument
 abbrev pub digitsWithin : ℕ → ℕ → Bytes
 digitsWithin zero n = []
-digitsWithin (suc f) n = elim (ltb n 10) [ true ↦ (code "0" + n) ∷ [] | false ↦ digitsWithin f (n / 10) ++ (code "0" + n % 10) ∷ [] ]
+digitsWithin (suc f) n = if ltb n 10 then (code "0" + n) ∷ [] else digitsWithin f (n / 10) ++ (code "0" + n % 10) ∷ []
 
 unfoldable pub decimal : ℕ → Bytes
 decimal n = digitsWithin (suc n) n

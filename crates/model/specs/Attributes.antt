@@ -1,7 +1,8 @@
 -- SRC and TYPE of an attribute.
-use mathlib.Core.Bool.{Bool, true, false}
+use mathlib.Core.Bool.{Bool}
 use mathlib.Core.List.{List, [], _∷_}
 use mathlib.Core.Option.{Option}
+use Rattle.model.specs.Notation.{any}
 use Rattle.model.specs.Bytes.{Bytes, bytes, same, oneOf}
 
 -- "SRC is user, object, admin, env or connect"
@@ -25,12 +26,11 @@ abbrev pub sameSource : Source → Source → Bool
 sameSource a b = same (sourceWord a) (sourceWord b)
 
 -- the sources that holders do not have: their values come with the pass block
+abbrev pub blockSources : List Source
+blockSources = env ∷ connect ∷ []
+
 abbrev pub fromBlock : Source → Bool
-fromBlock user = false
-fromBlock object = false
-fromBlock admin = false
-fromBlock env = true
-fromBlock connect = true
+fromBlock s = any (sameSource s) blockSources
 
 -- "TYPE is int, str or bool"
 pub data AtomType : Type 0 where

@@ -39,14 +39,14 @@ entriesOf zero s = []
 entriesOf (suc n) s = record { attribute = byteAt s 0; value = valueAt s 1 } ∷ entriesOf n (drop entryBytes s)
 
 -- "Byte 0: 1. … 8: n, 0 to 8. 9: 0. … Length exactly 10 + 5n"
-unfoldable pub isFramed : Bytes → Bool
-isFramed s =
+unfoldable pub isBlock : Bytes → Bool
+isBlock s =
     eqb (byteAt s 0) 1 && leb (byteAt s 8) entryLimit && eqb (byteAt s 9) 0 && eqb (length s) (headBytes + entryBytes * byteAt s 8)
 
 -- "Byte 1: user's holder number. 2: object's. 3: operation. 4-7: activation mask"
 unfoldable pub readBlock : Bytes → Option Block
 readBlock s =
-    onlyIf (isFramed s)
+    onlyIf (isBlock s)
     (record {
       user = byteAt s 1;
       object = byteAt s 2;

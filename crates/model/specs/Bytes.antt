@@ -6,7 +6,7 @@ use mathlib.Core.Bool.{Bool, true, false, _&&_}
 use mathlib.Core.List.{List, [], _∷_}
 use mathlib.Core.Option.{Option, none, some}
 use lib.Dec.{eqb, leb}
-use Rattle.model.specs.Notation.{_>>=_, onlyIf, isEmpty}
+use Rattle.model.specs.Notation.{if_then_else_, _>>=_, onlyIf, isEmpty}
 
 -- a list of bytes: numbers below 256
 abbrev pub Bytes : Type 0
@@ -33,12 +33,12 @@ abbrev pub same : Bytes → Bytes → Bool
 same [] [] = true
 same [] (y ∷ ys) = false
 same (x ∷ xs) [] = false
-same (x ∷ xs) (y ∷ ys) = elim (eqb x y) [ true ↦ same xs ys | false ↦ false ]
+same (x ∷ xs) (y ∷ ys) = if eqb x y then same xs ys else false
 
 -- what stands before the first byte b and what stands after it; none where there is no b
 abbrev pub cut : ℕ → Bytes → Option (Bytes × Bytes)
 cut b [] = none
-cut b (x ∷ xs) = elim (eqb x b) [ true ↦ some ([], xs) | false ↦ cut b xs >>= λ (l, r). some (x ∷ l, r) ]
+cut b (x ∷ xs) = if eqb x b then some ([], xs) else (cut b xs >>= λ (l, r). some (x ∷ l, r))
 
 abbrev pub cutAt : Char → Bytes → Option (Bytes × Bytes)
 cutAt c s = cut (code c) s
@@ -47,7 +47,7 @@ cutAt c s = cut (code c) s
 abbrev pub behind : Bytes → Bytes → Option Bytes
 behind [] s = some s
 behind (t ∷ ts) [] = none
-behind (t ∷ ts) (x ∷ xs) = elim (eqb x t) [ true ↦ behind ts xs | false ↦ none ]
+behind (t ∷ ts) (x ∷ xs) = if eqb x t then behind ts xs else none
 
 -- a byte more at the front of the first line
 abbrev pub begun : ℕ → List Bytes → List Bytes
@@ -57,7 +57,7 @@ begun x (l ∷ ls) = (x ∷ l) ∷ ls
 -- "Lines end with byte 10": the lines, each with its byte 10; what stands behind the last byte 10 is a line without one
 abbrev pub linesOf : Bytes → List Bytes
 linesOf [] = []
-linesOf (x ∷ xs) = elim (eqb x newline) [ true ↦ (x ∷ []) ∷ linesOf xs | false ↦ begun x (linesOf xs) ]
+linesOf (x ∷ xs) = if eqb x newline then (x ∷ []) ∷ linesOf xs else begun x (linesOf xs)
 
 -- a line without its byte 10; none where it has none, or bytes behind it
 abbrev pub content : Bytes → Option Bytes
@@ -66,4 +66,4 @@ content s = cut newline s >>= λ (l, r). onlyIf (isEmpty r) l
 -- the value whose word these bytes are, among those listed
 abbrev pub oneOf : {A : Type 0} → (A → Bytes) → List A → Bytes → Option A
 oneOf word [] s = none
-oneOf word (a ∷ rest) s = elim (same (word a) s) [ true ↦ some a | false ↦ oneOf word rest s ]
+oneOf word (a ∷ rest) s = if same (word a) s then some a else oneOf word rest s

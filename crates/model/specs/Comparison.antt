@@ -3,7 +3,7 @@ use Prim.Native.Nat.{ℕ}
 use mathlib.Core.Bool.{Bool, true, false}
 use mathlib.Core.List.{List, [], _∷_}
 use lib.Dec.{leb, ltb}
-use Rattle.model.specs.Notation.{any, all}
+use Rattle.model.specs.Notation.{if_then_else_, any, all}
 use Rattle.model.specs.Attributes.{sameType}
 use Rattle.model.specs.Atoms.{Atom, typeOf, sameAtom}
 use Rattle.model.specs.Truth.{Truth, truth, NOT}
@@ -52,7 +52,7 @@ unfoldable pub compareSets : Operator → List Atom → List Atom → Truth
 compareSets o [] right = Truth.UNDEF
 compareSets o (a ∷ left) [] = Truth.UNDEF
 compareSets o (a ∷ left) (b ∷ right) =
-    elim (sameType (typeOf a) (typeOf b)) [ true ↦ compareLike o a (a ∷ left) (b ∷ right) | false ↦ Truth.UNDEF ]
+    if sameType (typeOf a) (typeOf b) then compareLike o a (a ∷ left) (b ∷ right) else Truth.UNDEF
 
 -- "A lone attribute: UNDEF if absent or not bool, else whether TRUE is among its values"
 unfoldable pub loneValue : List Atom → Truth

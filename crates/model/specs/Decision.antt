@@ -19,6 +19,13 @@ pub data Decision : Type 0 where
   deny undefined : Decision
   refused : ℕ → Decision
 
+-- "0 permit, 64 deny, 65 undefined, else the refusal": the number of each case, and the values that it carries
+abbrev pub numberAndValues : Decision → ℕ × List ℕ
+numberAndValues (permit rule) = (0, rule ∷ [])
+numberAndValues deny = (64, [])
+numberAndValues undefined = (65, [])
+numberAndValues (refused n) = (n, [])
+
 -- "The rules of the operation are evaluated": their numbers and values
 unfoldable pub verdicts : State → Block → List (ℕ × Truth)
 verdicts S b =
@@ -52,4 +59,4 @@ judged S (some b) = decided (verdicts S b)
 unfoldable pub decide : State → Bytes → Decision
 decide S block =
     let n = requestRefusal S block in
-    elim (eqb n 0) [ true ↦ judged S (readBlock block) | false ↦ refused n ]
+    if eqb n 0 then judged S (readBlock block) else refused n

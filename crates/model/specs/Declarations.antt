@@ -1,10 +1,10 @@
 -- What the lines of a file declare, and the numbers by which it is known.
 use Prim.Native.Nat.{ℕ}
-use mathlib.Core.Bool.{Bool, true, false, _&&_}
+use mathlib.Core.Bool.{Bool, _&&_, not}
 use mathlib.Core.List.{List, [], _∷_}
 use mathlib.Core.Option.{Option, none, some}
 use lib.ListN.{length}
-use Rattle.model.specs.Notation.{_>>=_, place, nth, count, below}
+use Rattle.model.specs.Notation.{_>>=_, isNone, any, place, nth, count, below}
 use Rattle.model.specs.Bytes.{Bytes, bytes, same}
 use Rattle.model.specs.Attributes.{Source, AtomType, sameSource}
 use Rattle.model.specs.Atoms.{Atom, sameAtom}
@@ -73,19 +73,36 @@ pairNumber D s n a = place (λ p. isNamed (p .source) (p .name) s n && sameAtom 
 unfoldable pub holderNumber : Declarations → Bytes → Option ℕ
 holderNumber D n = place (λ h. same (h .name) n) (D .holders)
 
+-- the holder of a number
+abbrev pub holderOf : Declarations → ℕ → Option Holder
+holderOf D k = nth (D .holders) k
+
 unfoldable pub sortOf : Declarations → ℕ → Option Sort
-sortOf D k = nth (D .holders) k >>= λ h. some (h .sort)
+sortOf D k = holderOf D k >>= λ h. some (h .sort)
+
+abbrev pub isHolder : Declarations → ℕ → Bool
+isHolder D k = not (isNone (holderOf D k))
 
 -- the numbers of the holders
 unfoldable pub holderNumbersOf : Declarations → List ℕ
 holderNumbersOf D = below (length (D .holders))
 
+abbrev pub sortWord : Sort → Bytes
+sortWord Sort.admin = bytes "admin"
+sortWord Sort.ugroup = bytes "ugroup"
+sortWord Sort.ogroup = bytes "ogroup"
+sortWord Sort.user = bytes "user"
+sortWord Sort.object = bytes "object"
+
+abbrev pub isSort : Sort → Sort → Bool
+isSort a b = same (sortWord a) (sortWord b)
+
+-- "groups (both sorts together)"
+abbrev pub groupSorts : List Sort
+groupSorts = Sort.ugroup ∷ Sort.ogroup ∷ []
+
 abbrev pub isGroup : Sort → Bool
-isGroup Sort.admin = false
-isGroup Sort.ugroup = true
-isGroup Sort.ogroup = true
-isGroup Sort.user = false
-isGroup Sort.object = false
+isGroup s = any (isSort s) groupSorts
 
 unfoldable pub groups : Declarations → ℕ
 groups D = count (λ h. isGroup (h .sort)) (D .holders)
@@ -113,13 +130,3 @@ groupSort Sort.ugroup = none
 groupSort Sort.ogroup = none
 groupSort Sort.user = some Sort.ugroup
 groupSort Sort.object = some Sort.ogroup
-
-abbrev pub sortWord : Sort → Bytes
-sortWord Sort.admin = bytes "admin"
-sortWord Sort.ugroup = bytes "ugroup"
-sortWord Sort.ogroup = bytes "ogroup"
-sortWord Sort.user = bytes "user"
-sortWord Sort.object = bytes "object"
-
-abbrev pub isSort : Sort → Sort → Bool
-isSort a b = same (sortWord a) (sortWord b)

@@ -6,15 +6,16 @@ use lib.ListN.{length}
 use lib.Dec.{eqb}
 use Rattle.model.specs.Notation.{if_then_else_, _>>=_, isNone, any, count, below}
 use Rattle.model.specs.Bytes.{Bytes}
+use Rattle.model.specs.Lines.{readLine}
 use Rattle.model.specs.Declarations.{Declarations, holderNumbersOf}
 use Rattle.model.specs.Ties.{Tie, Ties, added, removed}
 use Rattle.model.specs.Table.{effectiveSet}
 use Rattle.model.specs.State.{State, tieOf}
-use Rattle.model.specs.Refusals.{lineOf, plusLine, signedLine, editRefusal}
+use Rattle.model.specs.Refusals.{plusLine, signedLine, editRefusal}
 
 -- the tie that an edit adds or removes
 unfoldable pub editedTie : State → Bytes → Option Tie
-editedTie S line = signedLine line >>= lineOf >>= tieOf (S .declared)
+editedTie S line = signedLine line >>= readLine >>= tieOf (S .declared)
 
 -- whether it adds: the sign is `+`
 abbrev pub adds : Bytes → Bool
@@ -50,4 +51,4 @@ abbrev pub refusing : State → Bytes → Edited
 refusing S line = record { number = editRefusal S line; changed = 0; state = S }
 
 unfoldable pub edit : State → Bytes → Edited
-edit S line = elim (eqb (editRefusal S line) 0) [ true ↦ accepting S line | false ↦ refusing S line ]
+edit S line = if eqb (editRefusal S line) 0 then accepting S line else refusing S line

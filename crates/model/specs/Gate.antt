@@ -6,7 +6,7 @@ use mathlib.Core.List.{List, [], _∷_, _++_}
 use mathlib.Core.Option.{Option, none, some}
 use lib.ListN.{length}
 use lib.Dec.{ltb}
-use Rattle.model.specs.Notation.{_>>=_, _or-else_, onlyIf, map}
+use Rattle.model.specs.Notation.{if_then_else_, _>>=_, _or-else_, onlyIf, map}
 use Rattle.model.specs.Limits.{inputBytes, tableWords}
 use Rattle.model.specs.Bytes.{Bytes, bytes, same, behind, linesOf, content, inRange}
 use Rattle.model.specs.Atoms.{decimal}
@@ -26,11 +26,11 @@ isEnd line = same (bare line) (bytes "end=")
 -- "file lines, a line `end=`, then …"; "Without `end=` all is file"
 abbrev pub fileOf : List Bytes → Bytes
 fileOf [] = []
-fileOf (l ∷ ls) = elim (isEnd l) [ true ↦ [] | false ↦ l ++ fileOf ls ]
+fileOf (l ∷ ls) = if isEnd l then [] else l ++ fileOf ls
 
 abbrev pub commandsOf : List Bytes → List Bytes
 commandsOf [] = []
-commandsOf (l ∷ ls) = elim (isEnd l) [ true ↦ ls | false ↦ commandsOf ls ]
+commandsOf (l ∷ ls) = if isEnd l then ls else commandsOf ls
 
 -- "lower-case hex": the value of a digit
 abbrev pub hexDigit : ℕ → Option ℕ
@@ -71,7 +71,5 @@ output S (some c ∷ calls) = let s = step tableWords S c in printed (s .answer)
 unfoldable pub gate : Bytes → Bytes
 gate input =
     let lines = linesOf input in
-    elim (ltb inputBytes (length input)) [
-      | true ↦ printed (loaded 2 0)
-      | false ↦ output empty (some (Call.load (fileOf lines)) ∷ map callOf (commandsOf lines))
-    ]
+    if ltb inputBytes (length input) then printed (loaded 2 0)
+    else output empty (some (Call.load (fileOf lines)) ∷ map callOf (commandsOf lines))

@@ -12,7 +12,7 @@ use Rattle.model.specs.Bytes.{Bytes, same}
 use Rattle.model.specs.Attributes.{Source, sameType}
 use Rattle.model.specs.Atoms.{Atom, typeOf}
 use Rattle.model.specs.Truth.{Truth}
-use Rattle.model.specs.Tokens.{Token, Operator, Mark, markWord}
+use Rattle.model.specs.Tokens.{Token, Operator, Mark, markWord, asName, asConstant, asTruth, asOperator, asMark}
 
 -- "var: int or str constant, set, attribute"; "A constant is a set of one"
 pub data Var : Type 0 where
@@ -27,15 +27,6 @@ pub data Policy : Type 0 where
   and or : Policy → Policy → Policy
   parenthesised : Policy → Policy
 
--- "int or str constant"
-abbrev pub constantOf : Token → Option Atom
-constantOf (Token.name s n) = none
-constantOf (Token.int n) = some (Atom.int n)
-constantOf (Token.str s) = some (Atom.str s)
-constantOf (Token.truth t) = none
-constantOf (Token.operator o) = none
-constantOf (Token.mark m) = none
-
 -- "atoms of one type"
 abbrev pub oneType : List Atom → Bool
 oneType [] = true
@@ -43,13 +34,13 @@ oneType (a ∷ l) = all (λ b. sameType (typeOf a) (typeOf b)) l
 
 -- Items ts l: the tokens ts are the constants l, parted by commas
 pub data Items : List Token → List Atom → Type 0 where
-  last : {t : Token} {a : Atom} → constantOf t ≡ some a → Items (t ∷ []) (a ∷ [])
-  next : {t : Token} {a : Atom} {ts : List Token} {l : List Atom} → constantOf t ≡ some a → Items ts l
+  last : {t : Token} {a : Atom} → asConstant t ≡ some a → Items (t ∷ []) (a ∷ [])
+  next : {t : Token} {a : Atom} {ts : List Token} {l : List Atom} → asConstant t ≡ some a → Items ts l
       → Items (t ∷ Token.mark Mark.comma ∷ ts) (a ∷ l)
 
 -- IsVar ts v: the tokens ts are the var v
 pub data IsVar : List Token → Var → Type 0 where
-  a-constant : {t : Token} {a : Atom} → constantOf t ≡ some a → IsVar (t ∷ []) (constants (a ∷ []))
+  a-constant : {t : Token} {a : Atom} → asConstant t ≡ some a → IsVar (t ∷ []) (constants (a ∷ []))
   a-set : {ts : List Token} {l : List Atom} → Items ts l → oneType l ≡ true
       → IsVar (Token.mark Mark.lbrace ∷ ts ++ Token.mark Mark.rbrace ∷ []) (constants l)
   an-attribute : (s : Source) (n : Bytes) → IsVar (Token.name s n ∷ []) (attribute s n)
@@ -84,29 +75,19 @@ isMark a b = same (markWord a) (markWord b)
 
 abbrev pub behindMark : Mark → List Token → Option (List Token)
 behindMark m [] = none
-behindMark m (Token.name s n ∷ ts) = none
-behindMark m (Token.int n ∷ ts) = none
-behindMark m (Token.str s ∷ ts) = none
-behindMark m (Token.truth t ∷ ts) = none
-behindMark m (Token.operator o ∷ ts) = none
-behindMark m (Token.mark k ∷ ts) = onlyIf (isMark m k) ts
+behindMark m (t ∷ ts) = asMark t >>= λ k. onlyIf (isMark m k) ts
 
 -- an operator at the front, and the tokens behind it
 abbrev pub readOperator : List Token → Option (Operator × List Token)
 readOperator [] = none
-readOperator (Token.name s n ∷ ts) = none
-readOperator (Token.int n ∷ ts) = none
-readOperator (Token.str s ∷ ts) = none
-readOperator (Token.truth t ∷ ts) = none
-readOperator (Token.operator o ∷ ts) = some (o, ts)
-readOperator (Token.mark m ∷ ts) = none
+readOperator (t ∷ ts) = asOperator t >>= λ o. some (o, ts)
 
 -- constants parted by commas up to the brace that ends their set, and the tokens behind it
 abbrev pub readItems : List Token → Option (List Atom × List Token)
 readItems [] = none
 readItems (t ∷ []) = none
 readItems (t ∷ u ∷ ts) =
-    constantOf t >>= λ a.
+    asConstant t >>= λ a.
     elim (behindMark Mark.rbrace (u ∷ ts)) [
       | some rest ↦ some (a ∷ [], rest)
       | none ↦ behindMark Mark.comma (u ∷ ts) >>= λ rest. readItems ts >>= λ (l, rest′). some (a ∷ l, rest′)
@@ -119,12 +100,10 @@ readSet ts = readItems ts >>= λ (l, rest). onlyIf (oneType l) (constants l, res
 -- a var at the front
 abbrev pub readVar : List Token → Option (Var × List Token)
 readVar [] = none
-readVar (Token.name s n ∷ ts) = some (attribute s n, ts)
-readVar (Token.int n ∷ ts) = some (constants (Atom.int n ∷ []), ts)
-readVar (Token.str s ∷ ts) = some (constants (Atom.str s ∷ []), ts)
-readVar (Token.truth t ∷ ts) = none
-readVar (Token.operator o ∷ ts) = none
-readVar (Token.mark m ∷ ts) = behindMark Mark.lbrace (Token.mark m ∷ ts) >>= readSet
+readVar (t ∷ ts) =
+    (asName t >>= λ (s, n). some (attribute s n, ts))
+    or-else (asConstant t >>= λ a. some (constants (a ∷ []), ts))
+    or-else (behindMark Mark.lbrace (t ∷ ts) >>= readSet)
 
 -- a policy read at the front, and the tokens behind it
 abbrev pub Reading : Type 0
@@ -145,12 +124,10 @@ closed (p, ts) = behindMark Mark.rparen ts >>= λ rest. some (parenthesised p, r
 -- "TRUE, FALSE, UNDEF, an attribute or a parenthesised policy"; `inner` reads the policy in parentheses
 abbrev pub readSimple : (List Token → Reading) → List Token → Reading
 readSimple inner [] = none
-readSimple inner (Token.name s n ∷ ts) = some (lone s n, ts)
-readSimple inner (Token.int n ∷ ts) = none
-readSimple inner (Token.str s ∷ ts) = none
-readSimple inner (Token.truth t ∷ ts) = some (constant t, ts)
-readSimple inner (Token.operator o ∷ ts) = none
-readSimple inner (Token.mark m ∷ ts) = elim (isMark Mark.lparen m) [ true ↦ inner ts >>= closed | false ↦ none ]
+readSimple inner (t ∷ ts) =
+    (asTruth t >>= λ v. some (constant v, ts))
+    or-else (asName t >>= λ (s, n). some (lone s n, ts))
+    or-else (behindMark Mark.lparen (t ∷ ts) >>= inner >>= closed)
 
 -- "A term is `var op var` …, or an optional NOT before" a simple one
 unfoldable pub readTerm : (List Token → Reading) → List Token → Reading

@@ -1,8 +1,11 @@
 -- The eleven keys of lines.
 use Prim.Native.Nat.{ℕ}
+use mathlib.Core.Bool.{Bool}
 use mathlib.Core.List.{List, [], _∷_}
 use mathlib.Core.Option.{Option}
-use Rattle.model.specs.Bytes.{Bytes, bytes, oneOf}
+use lib.ListN.{length}
+use Rattle.model.specs.Notation.{before, any}
+use Rattle.model.specs.Bytes.{Bytes, bytes, same, oneOf}
 
 pub data Key : Type 0 where
   attr op atom ugroup ogroup user object parent member value rule : Key
@@ -27,16 +30,16 @@ keyWord rule = bytes "rule"
 abbrev pub readKey : Bytes → Option Key
 readKey s = oneOf keyWord keys s
 
--- the place of a key in the order
+abbrev pub sameKey : Key → Key → Bool
+sameKey a b = same (keyWord a) (keyWord b)
+
+-- the place of a key in the order: how many keys stand before it
 abbrev pub rank : Key → ℕ
-rank attr = 1
-rank op = 2
-rank atom = 3
-rank ugroup = 4
-rank ogroup = 5
-rank user = 6
-rank object = 7
-rank parent = 8
-rank member = 9
-rank value = 10
-rank rule = 11
+rank k = length (before (sameKey k) keys)
+
+-- "parent, member and value lines are ties"
+abbrev pub tieKeys : List Key
+tieKeys = parent ∷ member ∷ value ∷ []
+
+abbrev pub isTieKey : Key → Bool
+isTieKey k = any (sameKey k) tieKeys

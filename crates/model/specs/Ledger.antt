@@ -45,19 +45,21 @@ step words S c = if wrongTable words then withoutTable S c else withTable S c
 unfoldable pub tableAfter : List ℕ → State → List ℕ
 tableAfter words S = if wrongTable (length words) then words else table (S .declared) (S .ties)
 
--- what is compared after a call
-pub record Compared : Type 0 where
+-- what stands after a call. Compared are the answer and the words
+pub record Outcome : Type 0 where
   pub answer : Answer
   pub words : List ℕ
+  pub state : State
 
--- the calls of a list, from a state and a table on
-abbrev pub ledgerFrom : State → List ℕ → List Call → List Compared
+-- a call in a state, on a table with these words
+abbrev pub outcome : State → List ℕ → Call → Outcome
+outcome S words c = let s = step (length words) S c in record { answer = s .answer; words = tableAfter words (s .state); state = s .state }
+
+-- the calls of a list, each in the state and on the table that the one before it left
+abbrev pub ledgerFrom : State → List ℕ → List Call → List Outcome
 ledgerFrom S words [] = []
-ledgerFrom S words (c ∷ calls) =
-    let s = step (length words) S c in
-    let after = tableAfter words (s .state) in
-    record { answer = s .answer; words = after } ∷ ledgerFrom (s .state) after calls
+ledgerFrom S words (c ∷ calls) = let o = outcome S words c in o ∷ ledgerFrom (o .state) (o .words) calls
 
--- "The list starts without a book, on a table of any length and content": a list begins with a load, which reads no state
-unfoldable pub ledger : List ℕ → List Call → List Compared
-ledger words calls = ledgerFrom empty words calls
+-- "The list starts without a book, on a table of any length and content": its first call loads a file, which reads no state
+unfoldable pub ledger : List ℕ → Bytes → List Call → List Outcome
+ledger words file calls = ledgerFrom empty words (Call.load file ∷ calls)

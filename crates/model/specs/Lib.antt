@@ -12,6 +12,7 @@ pub mod Names
 pub mod Atoms
 pub mod Lines
 pub mod State
+-- a load; what it is refused for stands in Refusals, as what an edit and a request are refused for
 pub mod Load
 -- "Sets"
 pub mod Ties
@@ -33,6 +34,8 @@ pub mod Decision
 pub mod Ledger
 -- "Numbers a caller may meet"
 pub mod Refusals
+-- What holds of every state in a ledger
+pub mod Standing
 -- "For C builds"
 pub mod Host
 -- "Office program"

@@ -2,13 +2,16 @@
 use mathlib.Core.Bool.{Bool, _&&_, not}
 use mathlib.Core.List.{List, _++_}
 use mathlib.Core.Option.{Option, some}
-use Rattle.model.specs.Notation.{_>>=_, isNone, each}
-use Rattle.model.specs.Bytes.{Bytes, bytes, cutAt}
+use lib.ListN.{length}
+use lib.Dec.{leb}
+use Rattle.model.specs.Notation.{_>>=_, isNone, onlyIf, all, each}
+use Rattle.model.specs.Limits.{lineBytes}
+use Rattle.model.specs.Bytes.{Bytes, bytes, cutAt, content}
 use Rattle.model.specs.Names.{isName, readName}
 use Rattle.model.specs.Attributes.{Source, AtomType, sourceWord, typeWord, readSource, readType}
 use Rattle.model.specs.Atoms.{Atom, readAtom, writeAtom, isAtom}
 use Rattle.model.specs.Keys.{Key, readKey}
-use Rattle.model.specs.Tokens.{Token, spelling, tokensOf}
+use Rattle.model.specs.Tokens.{Token, spelling, isToken, tokensOf}
 use Rattle.model.specs.Grammar.{readPolicy}
 use Rattle.model.specs.Declarations.{Sort, sortWord, isSort}
 
@@ -99,9 +102,13 @@ readKeyed s = do
   key ← readKey k
   some (key, fields)
 
--- a line, without its byte 10
+-- "Lines end with byte 10 and have at most 255 bytes before it": the key and the fields of a line that is so framed and has a known key
+unfoldable pub framed : Bytes → Option (Key × Bytes)
+framed line = content line >>= λ l. onlyIf (leb (length l) lineBytes) l >>= readKeyed
+
+-- a line, given with its byte 10
 unfoldable pub readLine : Bytes → Option Line
-readLine s = readKeyed s >>= λ (key, fields). readFields key fields
+readLine line = framed line >>= λ (key, fields). readFields key fields
 
 -- how a line is written, without its byte 10; a rule with a space before each token
 abbrev pub writeLine : Line → Bytes
@@ -123,4 +130,4 @@ isLine (holder s n) = not (isSort s Sort.admin) && isName n
 isLine (parent c g) = isName c && isName g
 isLine (member p g) = isName p && isName g
 isLine (value h n a) = isName h && isName n && isAtom a
-isLine (rule o ts) = isName o && not (isNone (readPolicy ts))
+isLine (rule o ts) = isName o && all isToken ts && not (isNone (readPolicy ts))

@@ -6,8 +6,7 @@ use mathlib.Core.Option.{Option, none, some}
 
 infix 0 if_then_else_
 abbrev pub if_then_else_ : {A : Type 0} → Bool → A → A → A
-if true then a else b = a
-if false then a else b = b
+if c then a else b = elim c [ true ↦ a | false ↦ b ]
 
 -- a step that needs the result of the one before; none where that has none
 infixl 1 _>>=_
@@ -44,27 +43,32 @@ module _ {A : Type 0} where
   -- some element passes
   abbrev pub any : (A → Bool) → List A → Bool
   any p [] = false
-  any p (x ∷ xs) = elim (p x) [ true ↦ true | false ↦ any p xs ]
+  any p (x ∷ xs) = if p x then true else any p xs
 
   -- each element passes
   abbrev pub all : (A → Bool) → List A → Bool
   all p [] = true
-  all p (x ∷ xs) = elim (p x) [ true ↦ all p xs | false ↦ false ]
+  all p (x ∷ xs) = if p x then all p xs else false
 
   -- the elements that pass, in their order
   abbrev pub filter : (A → Bool) → List A → List A
   filter p [] = []
-  filter p (x ∷ xs) = elim (p x) [ true ↦ x ∷ filter p xs | false ↦ filter p xs ]
+  filter p (x ∷ xs) = if p x then x ∷ filter p xs else filter p xs
 
   -- how many elements pass
   abbrev pub count : (A → Bool) → List A → ℕ
   count p [] = 0
-  count p (x ∷ xs) = elim (p x) [ true ↦ suc (count p xs) | false ↦ count p xs ]
+  count p (x ∷ xs) = if p x then suc (count p xs) else count p xs
+
+  -- the elements before the first that passes
+  abbrev pub before : (A → Bool) → List A → List A
+  before p [] = []
+  before p (x ∷ xs) = if p x then [] else x ∷ before p xs
 
   -- the number of the first element that passes; numbers start at 0
   abbrev pub place : (A → Bool) → List A → Option ℕ
   place p [] = none
-  place p (x ∷ xs) = elim (p x) [ true ↦ some 0 | false ↦ place p xs >>= λ n. some (suc n) ]
+  place p (x ∷ xs) = if p x then some 0 else (place p xs >>= λ n. some (suc n))
 
   -- the element of a number
   abbrev pub nth : List A → ℕ → Option A

@@ -5,14 +5,14 @@ use mathlib.Core.List.{List, [], _∷_}
 use mathlib.Core.Option.{Option}
 use lib.ListN.{length}
 use lib.Dec.{eqb, leb, ltb}
-use Rattle.model.specs.Notation.{_>>=_, _or-else_, _is_, isNone, onlyIf, any, all, nth, below}
-use Rattle.model.specs.Limits.{fileBytes, lineBytes, attributeLimit, operationLimit, pairLimit, ruleLimit, holderNumbers, groupLimit, tableWords, maskBits}
-use Rattle.model.specs.Bytes.{Bytes, bytes, content, behind}
+use Rattle.model.specs.Notation.{_>>=_, _or-else_, _is_, isNone, any, all, nth, below}
+use Rattle.model.specs.Limits.{fileBytes, attributeLimit, operationLimit, pairLimit, ruleLimit, holderNumbers, groupLimit, tableWords, maskBits}
+use Rattle.model.specs.Bytes.{Bytes, bytes, behind}
 use Rattle.model.specs.Attributes.{Source, AtomType, fromBlock, sameType, sameSource}
 use Rattle.model.specs.Atoms.{typeOf}
-use Rattle.model.specs.Keys.{Key, rank}
-use Rattle.model.specs.Lines.{Line, attr, op, atom, holder, parent, member, value, rule, readKeyed, readFields}
-use Rattle.model.specs.Tokens.{Token}
+use Rattle.model.specs.Keys.{Key, rank, isTieKey}
+use Rattle.model.specs.Lines.{Line, attr, op, atom, holder, parent, member, value, rule, framed, readFields, readLine}
+use Rattle.model.specs.Tokens.{Token, asName}
 use Rattle.model.specs.Grammar.{readPolicy, tooLarge}
 use Rattle.model.specs.Declarations.{Declarations, Sort, isSort, isGroup, groups, parentSort, groupSort, sortOf, attributeNumber, attributeOf, operationNumber, pairNumber, holderNumber, holderNumbersOf}
 use Rattle.model.specs.Ties.{Tie, Ties, closesCircle}
@@ -49,20 +49,13 @@ wrongFirstLine file = isNone (behind (bytes "rights=1\n") file)
 
 -- ---- Ticket office, file or edit. A line is given with its byte 10
 
--- "line too long, no byte 10 or bytes after it, no `=`, unknown key (a later `rights` too)": its key and fields, if it is none of these
-unfoldable pub framed : Bytes → Option (Key × Bytes)
-framed line = content line >>= λ l. onlyIf (leb (length l) lineBytes) l >>= readKeyed
-
-unfoldable pub lineOf : Bytes → Option Line
-lineOf line = framed line >>= λ (key, fields). readFields key fields
-
--- "4"
+-- "4: line too long, no byte 10 or bytes after it, no `=`, unknown key (a later `rights` too)"
 unfoldable pub unframed : Bytes → Bool
 unframed line = isNone (framed line)
 
--- "5: key before its predecessor's", which is given by its rank
-unfoldable pub outOfOrder : ℕ → Bytes → Bool
-outOfOrder before line = framed line is λ (key, fields). ltb (rank key) before
+-- "5: key before its predecessor's": that of the line before, if it has one
+unfoldable pub outOfOrder : Option Key → Bytes → Bool
+outOfOrder previous line = framed line is λ (key, fields). previous is λ p. ltb (rank key) (rank p)
 
 -- "6: field count, SRC, TYPE, name, atom or policy malformed, the policy judged without the limits of 7"
 unfoldable pub malformed : Bytes → Bool
@@ -80,12 +73,7 @@ overLimits (value h n a) = false
 overLimits (rule o ts) = readPolicy ts is tooLarge
 
 abbrev pub unknownName : Declarations → Token → Bool
-unknownName D (Token.name s n) = isNone (attributeNumber D s n)
-unknownName D (Token.int n) = false
-unknownName D (Token.str s) = false
-unknownName D (Token.truth t) = false
-unknownName D (Token.operator o) = false
-unknownName D (Token.mark m) = false
+unknownName D t = asName t is λ (s, n). isNone (attributeNumber D s n)
 
 -- "8: undeclared name or pair (for value: no such pair of the attribute source that the holder's sort fixes)"
 abbrev pub undeclared : Declarations → Line → Bool
@@ -134,7 +122,7 @@ abbrev pub full : Declarations → Line → Bool
 full D (attr s n t) = leb attributeLimit (length (D .attributes))
 full D (op n) = leb operationLimit (length (D .operations))
 full D (atom s n a) = leb pairLimit (length (D .pairs))
-full D (holder s n) = leb holderNumbers (length (D .holders)) || isGroup s && leb groupLimit (groups D)
+full D (holder s n) = leb holderNumbers (length (holderNumbersOf D)) || isGroup s && leb groupLimit (groups D)
 full D (parent c g) = false
 full D (member p g) = false
 full D (value h n a) = false
@@ -149,12 +137,12 @@ tieCloses hs T (Tie.value h p) = false
 unfoldable pub circular : State → Line → Bool
 circular S l = tieOf (S .declared) l is tieCloses (holderNumbersOf (S .declared)) (S .ties)
 
--- the tests of a file's line, behind one whose key has the rank `before`
-abbrev pub lineTests : State → ℕ → Bytes → List Test
-lineTests S before line =
-    let l = lineOf line in
+-- the tests of a file's line, behind one whose key is `previous`
+abbrev pub lineTests : State → Option Key → Bytes → List Test
+lineTests S previous line =
+    let l = readLine line in
     (4 if unframed line
-    ∷ 5 if outOfOrder before line
+    ∷ 5 if outOfOrder previous line
     ∷ 6 if malformed line
     ∷ 7 if (l is overLimits)
     ∷ 8 if (l is undeclared (S .declared))
@@ -164,8 +152,8 @@ lineTests S before line =
     ∷ 12 if (l is circular S)
     ∷ [])
 
-unfoldable pub lineRefusal : State → ℕ → Bytes → ℕ
-lineRefusal S before line = first (lineTests S before line)
+unfoldable pub lineRefusal : State → Option Key → Bytes → ℕ
+lineRefusal S previous line = first (lineTests S previous line)
 
 -- ---- Office, edits only
 
@@ -179,20 +167,6 @@ minusLine edit = behind (bytes "-") edit
 abbrev pub signedLine : Bytes → Option Bytes
 signedLine edit = plusLine edit or-else minusLine edit
 
--- the keys of ties
-abbrev pub isTieKey : Key → Bool
-isTieKey Key.attr = false
-isTieKey Key.op = false
-isTieKey Key.atom = false
-isTieKey Key.ugroup = false
-isTieKey Key.ogroup = false
-isTieKey Key.user = false
-isTieKey Key.object = false
-isTieKey Key.parent = true
-isTieKey Key.member = true
-isTieKey Key.value = true
-isTieKey Key.rule = false
-
 -- "13: another known key"
 unfoldable pub otherKey : Bytes → Bool
 otherKey line = framed line is λ (key, fields). not (isTieKey key)
@@ -205,15 +179,15 @@ notStanding S l = not (stands S l)
 abbrev pub editTests : State → Bytes → List Test
 editTests S edit =
     let line = signedLine edit in
-    let l = line >>= lineOf in
+    let l = line >>= readLine in
     (4 if (isNone line || (line is unframed))
     ∷ 13 if (line is otherKey)
     ∷ 6 if (line is malformed)
     ∷ 8 if (l is undeclared (S .declared))
     ∷ 9 if (l is wrongSort (S .declared))
-    ∷ 10 if ((plusLine edit >>= lineOf) is repeated S)
-    ∷ 12 if ((plusLine edit >>= lineOf) is circular S)
-    ∷ 14 if ((minusLine edit >>= lineOf) is notStanding S)
+    ∷ 10 if ((plusLine edit >>= readLine) is repeated S)
+    ∷ 12 if ((plusLine edit >>= readLine) is circular S)
+    ∷ 14 if ((minusLine edit >>= readLine) is notStanding S)
     ∷ [])
 
 unfoldable pub editRefusal : State → Bytes → ℕ

@@ -2,6 +2,7 @@
 use mathlib.Core.List.{[], _∷_, _++_}
 use mathlib.Core.Option.{Option, none, some}
 use Rattle.model.specs.Notation.{_>>=_}
+use Rattle.model.specs.Bytes.{Bytes}
 use Rattle.model.specs.Lines.{Line, attr, op, atom, holder, parent, member, value, rule}
 use Rattle.model.specs.Declarations.{Declarations, Attribute, Pair, Holder, Rule, nothingDeclared, holderNumber, sortOf, sourceFor, pairNumber}
 use Rattle.model.specs.Ties.{Tie, Ties, noTies, added}
@@ -34,6 +35,9 @@ tieOf D (rule o ts) = none
 abbrev pub withAttribute : Attribute → Declarations → Declarations
 withAttribute a D = record { attributes = D .attributes ++ a ∷ []; operations = D .operations; pairs = D .pairs; holders = D .holders; rules = D .rules }
 
+abbrev pub withOperation : Bytes → Declarations → Declarations
+withOperation n D = record { attributes = D .attributes; operations = D .operations ++ n ∷ []; pairs = D .pairs; holders = D .holders; rules = D .rules }
+
 abbrev pub withPair : Pair → Declarations → Declarations
 withPair p D = record { attributes = D .attributes; operations = D .operations; pairs = D .pairs ++ p ∷ []; holders = D .holders; rules = D .rules }
 
@@ -46,7 +50,7 @@ withRule r D = record { attributes = D .attributes; operations = D .operations; 
 -- what an accepted line declares
 abbrev pub declare : Line → Declarations → Declarations
 declare (attr s n t) D = withAttribute (record { source = s; name = n; type = t }) D
-declare (op n) D = record { attributes = D .attributes; operations = D .operations ++ n ∷ []; pairs = D .pairs; holders = D .holders; rules = D .rules }
+declare (op n) D = withOperation n D
 declare (atom s n a) D = withPair (record { source = s; name = n; atom = a }) D
 declare (holder s n) D = withHolder (record { sort = s; name = n }) D
 declare (parent c g) D = D

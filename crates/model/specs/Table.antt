@@ -1,12 +1,11 @@
 -- The lent table: every holder's effective set in 64-bit words.
 use Prim.Native.Nat.{ℕ, zero, suc, _+_, _*_, _^_}
-use mathlib.Core.Bool.{Bool, true, false}
+use mathlib.Core.Bool.{Bool}
 use mathlib.Core.List.{List}
-use lib.ListN.{length, replicate}
-use lib.Dec.{ltb}
+use lib.ListN.{replicate}
 use Rattle.model.specs.Notation.{if_then_else_, map, each, below}
 use Rattle.model.specs.Limits.{holderNumbers, wordBits, setWords}
-use Rattle.model.specs.Declarations.{Declarations, holderNumbersOf}
+use Rattle.model.specs.Declarations.{Declarations, isHolder, holderNumbersOf}
 use Rattle.model.specs.Ties.{Ties}
 use Rattle.model.specs.Effective.{effective}
 
@@ -25,7 +24,7 @@ effectiveSet D T k p = effective (holderNumbersOf D) T k p
 
 -- "Holder k's stored set is the four words from word 4k", "equal to effective(k). Unused words are 0"
 unfoldable pub storedSet : Declarations → Ties → ℕ → List ℕ
-storedSet D T k = elim (ltb k (length (D .holders))) [ true ↦ wordsOf (effectiveSet D T k) | false ↦ replicate setWords 0 ]
+storedSet D T k = if isHolder D k then wordsOf (effectiveSet D T k) else replicate setWords 0
 
 -- "The lent table has exactly 1,024 words of 64 bits"
 unfoldable pub table : Declarations → Ties → List ℕ

@@ -49,30 +49,27 @@ abbrev pub up : Ties → ℕ → ℕ → Bool
 up T h g = T (parent h g) || T (member h g)
 
 -- "Holder g is above h when a chain of ties leads from h up to g; h is then below g"
-pub data Above (T : Ties) : ℕ → ℕ → Type 0 where
-  one : {g h : ℕ} → up T h g ≡ true → Above T g h
-  more : {g m h : ℕ} → up T h m ≡ true → Above T g m → Above T g h
+pub data Below (T : Ties) : ℕ → ℕ → Type 0 where
+  one : {h g : ℕ} → up T h g ≡ true → Below T h g
+  more : {h m g : ℕ} → up T h m ≡ true → Below T m g → Below T h g
 
-abbrev pub Below : Ties → ℕ → ℕ → Type 0
-Below T h g = Above T g h
-
--- no holder is above itself
+-- no holder is below itself
 abbrev pub Acyclic : Ties → Type 0
-Acyclic T = (h : ℕ) → Above T h h → ⊥
+Acyclic T = (h : ℕ) → Below T h h → ⊥
 
 -- the holders among hs one tie up from h
 abbrev pub ups : List ℕ → Ties → ℕ → List ℕ
 ups hs T h = filter (up T h) hs
 
 -- whether a chain of at most n ties leads from h up to g
-abbrev pub aboveWithin : ℕ → List ℕ → Ties → ℕ → ℕ → Bool
-aboveWithin zero hs T g h = false
-aboveWithin (suc n) hs T g h = any (λ m. eqb m g || aboveWithin n hs T g m) (ups hs T h)
+abbrev pub belowWithin : ℕ → List ℕ → Ties → ℕ → ℕ → Bool
+belowWithin zero hs T h g = false
+belowWithin (suc n) hs T h g = any (λ m. eqb m g || belowWithin n hs T m g) (ups hs T h)
 
--- whether g is above h, among the holders hs
-unfoldable pub isAbove : List ℕ → Ties → ℕ → ℕ → Bool
-isAbove hs T g h = aboveWithin (length hs) hs T g h
+-- whether h is below g, among the holders hs
+unfoldable pub isBelow : List ℕ → Ties → ℕ → ℕ → Bool
+isBelow hs T h g = belowWithin (length hs) hs T h g
 
--- "parent tie that closes a circle, itself included"
+-- "parent tie that closes a circle, itself included": the parent is the child, or below it
 unfoldable pub closesCircle : List ℕ → Ties → ℕ → ℕ → Bool
-closesCircle hs T child g = eqb child g || isAbove hs T child g
+closesCircle hs T child parent′ = eqb child parent′ || isBelow hs T parent′ child

@@ -1,14 +1,17 @@
 -- The tokens of a policy.
 use Prim.Native.Nat.{ℕ, zero, suc}
-use mathlib.Core.Bool.{Bool, true, false, _||_}
+use mathlib.Core.Path.{_≡_}
+use mathlib.Core.Bool.{Bool, true, false, _&&_, _||_, not}
 use mathlib.Core.List.{List, [], _∷_, _++_}
 use mathlib.Core.Option.{Option, none, some}
 use lib.ListN.{length}
-use Rattle.model.specs.Notation.{_>>=_, _or-else_, onlyIf, isEmpty}
-use Rattle.model.specs.Bytes.{Bytes, bytes, isByte, inRange, cutAt, behind, oneOf}
-use Rattle.model.specs.Names.{readName}
+use lib.Dec.{leb}
+use Rattle.model.specs.Notation.{if_then_else_, _>>=_, _or-else_, _is_, onlyIf, isEmpty, all}
+use Rattle.model.specs.Bytes.{Bytes, bytes, same, isByte, inRange, cutAt, behind, oneOf}
+use Rattle.model.specs.Limits.{largestInt}
+use Rattle.model.specs.Names.{isName, readName}
 use Rattle.model.specs.Attributes.{Source, sourceWord, readSource}
-use Rattle.model.specs.Atoms.{decimal, readInt, quoted, isText}
+use Rattle.model.specs.Atoms.{Atom, decimal, readInt, quoted, isText}
 use Rattle.model.specs.Truth.{Truth, truthWord}
 
 -- "operators `= != < <= > >= IN SUBSET`"
@@ -27,6 +30,57 @@ pub data Token : Type 0 where
   truth : Truth → Token
   operator : Operator → Token
   mark : Mark → Token
+
+-- what a token is, if it is such a one
+abbrev pub asName : Token → Option (Source × Bytes)
+asName (name s n) = some (s, n)
+asName (int n) = none
+asName (str s) = none
+asName (truth t) = none
+asName (operator o) = none
+asName (mark m) = none
+
+-- "int or str constant"
+abbrev pub asConstant : Token → Option Atom
+asConstant (name s n) = none
+asConstant (int n) = some (Atom.int n)
+asConstant (str s) = some (Atom.str s)
+asConstant (truth t) = none
+asConstant (operator o) = none
+asConstant (mark m) = none
+
+abbrev pub asTruth : Token → Option Truth
+asTruth (name s n) = none
+asTruth (int n) = none
+asTruth (str s) = none
+asTruth (truth t) = some t
+asTruth (operator o) = none
+asTruth (mark m) = none
+
+abbrev pub asOperator : Token → Option Operator
+asOperator (name s n) = none
+asOperator (int n) = none
+asOperator (str s) = none
+asOperator (truth t) = none
+asOperator (operator o) = some o
+asOperator (mark m) = none
+
+abbrev pub asMark : Token → Option Mark
+asMark (name s n) = none
+asMark (int n) = none
+asMark (str s) = none
+asMark (truth t) = none
+asMark (operator o) = none
+asMark (mark m) = some m
+
+-- the tokens that can be written: names, ints and strs are well formed
+abbrev pub isToken : Token → Bool
+isToken (name s n) = isName n
+isToken (int n) = leb n largestInt
+isToken (str s) = isText s
+isToken (truth t) = true
+isToken (operator o) = true
+isToken (mark m) = true
 
 abbrev pub operatorWord : Operator → Bytes
 operatorWord equal = bytes "="
@@ -79,7 +133,7 @@ wordByte b = inRange "a" "z" b || inRange "A" "Z" b || inRange "0" "9" b || isBy
 -- "A run of letters, digits, `_` and `.` is one word": the run at the front, and what stands behind it
 abbrev pub run : Bytes → Bytes × Bytes
 run [] = ([], [])
-run (x ∷ xs) = elim (wordByte x) [ true ↦ (let (w, r) = run xs in (x ∷ w, r)) | false ↦ ([], x ∷ xs) ]
+run (x ∷ xs) = if wordByte x then (let (w, r) = run xs in (x ∷ w, r)) else ([], x ∷ xs)
 
 -- "names `SRC.NAME`"
 unfoldable pub readAttributeName : Bytes → Option Token
@@ -108,20 +162,40 @@ readSign (t ∷ ts) s = (behind (spelling t) s >>= λ rest. some (t, rest)) or-e
 unfoldable pub readToken : Bytes → Read
 readToken s =
     let (w, rest) = run s in
-    elim (isEmpty w) [
-      | true ↦ (behind (bytes "\"") s >>= readText) or-else readSign signs s
-      | false ↦ readWord w >>= λ t. some (t, rest)
-    ]
+    if isEmpty w then ((behind (bytes "\"") s >>= readText) or-else readSign signs s) else (readWord w >>= λ t. some (t, rest))
 
 -- "Byte 32 may stand, any number of times, before, between and after tokens". Each token has a byte, so there are at most n in n bytes
 abbrev pub tokensWithin : ℕ → Bytes → Option (List Token)
 tokensWithin zero s = onlyIf (isEmpty s) []
 tokensWithin (suc n) [] = some []
 tokensWithin (suc n) (x ∷ xs) =
-    elim (isByte " " x) [
-      | true ↦ tokensWithin n xs
-      | false ↦ readToken (x ∷ xs) >>= λ (t, rest). tokensWithin n rest >>= λ ts. some (t ∷ ts)
-    ]
+    if isByte " " x then tokensWithin n xs else (readToken (x ∷ xs) >>= λ (t, rest). tokensWithin n rest >>= λ ts. some (t ∷ ts))
 
 unfoldable pub tokensOf : Bytes → Option (List Token)
 tokensOf s = tokensWithin (length s) s
+
+-- "A run of letters, digits, `_` and `.` is one word"
+abbrev pub isWord : Token → Bool
+isWord t = all wordByte (spelling t)
+
+abbrev pub isOperator : Operator → Token → Bool
+isOperator o t = asOperator t is λ p. same (operatorWord o) (operatorWord p)
+
+-- two tokens that may stand side by side: two words would be one word, and `<` or `>` before `=` one operator, as "operators are read longest first"
+abbrev pub mayTouch : Token → Token → Bool
+mayTouch t u = not (isWord t && isWord u) && not ((isOperator less t || isOperator greater t) && isOperator equal u)
+
+abbrev pub beginsWithSpace : Bytes → Bool
+beginsWithSpace [] = false
+beginsWithSpace (x ∷ s) = isByte " " x
+
+-- what may stand behind a token: the bytes s, which spell the tokens given
+abbrev pub mayFollow : Token → List Token → Bytes → Bool
+mayFollow t [] s = true
+mayFollow t (u ∷ ts) s = mayTouch t u || beginsWithSpace s
+
+-- Spells ts s: the bytes s spell the tokens ts. "Byte 32 may stand, any number of times, before, between and after tokens"
+pub data Spells : List Token → Bytes → Type 0 where
+  no-token : Spells [] []
+  a-space : {ts : List Token} {s : Bytes} → Spells ts s → Spells ts (bytes " " ++ s)
+  a-token : (t : Token) {ts : List Token} {s : Bytes} → Spells ts s → mayFollow t ts s ≡ true → Spells (t ∷ ts) (spelling t ++ s)

@@ -3,7 +3,7 @@ use Prim.Native.Nat.{ℕ, _*_, _/_}
 use Prim.Native.String.{String}
 use mathlib.Core.Path.{_≡_}
 use mathlib.Core.List.{List, [], _∷_, _++_}
-use mathlib.Core.Option.{Option, some}
+use mathlib.Core.Option.{Option, none, some}
 use lib.ListN.{length, getD}
 use Rattle.model.specs.Notation.{_>>=_, each, map, below}
 use Rattle.model.specs.Bytes.{Bytes, bytes}
@@ -53,7 +53,7 @@ pub data Case : Type 1 where
 -- each case of a list holds
 infixr 5 _also_
 pub data Holds : List Case → Type 1 where
-  none : Holds []
+  end : Holds []
   _also_ : {A : Type 0} {x y : A} {rest : List Case} → x ≡ y → Holds rest → Holds ((x gives y) ∷ rest)
 
 -- the state that the valley file leaves
@@ -94,5 +94,5 @@ cases =
     ∷ answerTo valley "-member=p17,day" gives (14, 0)
     ∷ alone "FALSE AND TRUE OR TRUE" gives some TRUE
     ∷ alone "\"b\" < \"c\"" gives some UNDEF
-    ∷ lineRefusal valley 11 (lines ("rule=pass,NOT user.kind = \"day\"" ∷ [])) gives 6
+    ∷ lineRefusal valley none (lines ("rule=pass,NOT user.kind = \"day\"" ∷ [])) gives 6
     ∷ []

@@ -6,7 +6,7 @@ use mathlib.Core.List.{List, [], _∷_}
 use mathlib.Core.Option.{Option, none, some}
 use native.Mathlib.Omega.{arith}
 use lib.ListN.{length}
-use Rattle.model.specs.Notation.{_>>=_, _or-else_}
+use Rattle.model.specs.Notation.{_>>=_, _or-else_, onlyIf}
 use Rattle.model.specs.Bytes.{Bytes}
 use Rattle.model.specs.Truth as truth
 use Rattle.model.specs.Tokens as model
@@ -269,7 +269,7 @@ module _ (inner : List model.Token → grammar.Reading) where
   simple-finished (model.Token.operator o ∷ ts) = refl
   simple-finished (model.Token.mark m ∷ ts) = go (isMark Mark.lparen m)
     where
-      go : (b : Bool) → elim b as (λ _. grammar.Reading) [ true ↦ inner ts >>= closed | false ↦ none ]
+      go : (b : Bool) → (onlyIf b ts >>= inner >>= closed)
           ≡ finished inner (elim b as (λ _. Start) [ true ↦ opened false ts | false ↦ neither ])
       go true = sym (same-reading (inner ts >>= closed))
       go false = refl
@@ -283,7 +283,7 @@ module _ (inner : List model.Token → grammar.Reading) where
   negated-finished (model.Token.operator o ∷ ts) = refl
   negated-finished (model.Token.mark m ∷ ts) = go (isMark Mark.lparen m)
     where
-      go : (b : Bool) → (elim b as (λ _. grammar.Reading) [ true ↦ inner ts >>= closed | false ↦ none ] >>= λ (p, rest). some (grammar.not p, rest))
+      go : (b : Bool) → (onlyIf b ts >>= inner >>= closed >>= λ (p, rest). some (grammar.not p, rest))
           ≡ finished inner (negatedStart (elim b as (λ _. Start) [ true ↦ opened false ts | false ↦ neither ]))
       go true = refl
       go false = refl

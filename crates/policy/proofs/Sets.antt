@@ -13,9 +13,9 @@ use Rattle.model.specs.Bytes.{Bytes}
 use Rattle.model.specs.Attributes.{AtomType, sameType}
 use Rattle.model.specs.Atoms.{Atom, isAtom, typeOf}
 use Rattle.model.specs.Tokens as model
-use Rattle.model.specs.Tokens.{Mark}
+use Rattle.model.specs.Tokens.{Mark, asConstant}
 use Rattle.model.specs.Grammar as grammar
-use Rattle.model.specs.Grammar.{constants, attribute, constantOf, oneType, behindMark, readItems, readSet, readVar}
+use Rattle.model.specs.Grammar.{constants, attribute, oneType, behindMark, readItems, readSet, readVar}
 use Rattle.model.proofs.Words.{false-is-true, none-is-some}
 use Rattle.model.proofs.Lists.{all-append}
 use Rattle.text.specs.Codes.{typeCode}
@@ -98,12 +98,12 @@ after a (k, left) = some (a ∷ k, left)
 
 -- the steps of the reading, behind the constants of l
 module _ (l : List Atom) where
-  set-none : (u : model.Token) (ts : List model.Token) → constantOf u ≡ none → readSetAfter l (u ∷ ts) ≡ none
+  set-none : (u : model.Token) (ts : List model.Token) → asConstant u ≡ none → readSetAfter l (u ∷ ts) ≡ none
   unfolding readSetAfter
   set-none u [] e = refl
   set-none u (v ∷ ts) e = rw e
 
-  module _ (u : model.Token) (a : Atom) (e : constantOf u ≡ some a) where
+  module _ (u : model.Token) (a : Atom) (e : asConstant u ≡ some a) where
     set-last : (rest : List model.Token) → readSetAfter l (u ∷ model.Token.mark Mark.rbrace ∷ rest) ≡ onlyIf (oneType (l ++ a ∷ [])) (constants (l ++ a ∷ []), rest)
     unfolding readSetAfter
     set-last rest = rw e
@@ -253,7 +253,7 @@ module _ (s : Bytes) (L : Lending) (t : Token) where
   other-var v e a b d (model.Token.mark m ∷ ts) f =
       subst (λ w. VarAnswers s L v (w >>= readSet)) (sym (mark-off Mark.lbrace s t (model.Token.mark m ∷ ts) f a)) e
 
-constant-var : (s : Bytes) (L : Lending) (v : Var) (u : model.Token) (a : Atom) (rest : List model.Token) → constantOf u ≡ some a → v .ok ≡ true
+constant-var : (s : Bytes) (L : Lending) (v : Var) (u : model.Token) (a : Atom) (rest : List model.Token) → asConstant u ≡ some a → v .ok ≡ true
     → VarReads s L v (constants (a ∷ [])) rest → VarAnswers s L v (readVar (u ∷ rest))
 constant-var s L v (model.Token.name x n) a rest e o r = none-is-some e
 constant-var s L v (model.Token.int n) a rest e o r = (o, subst (λ (b : Atom). VarReads s L v (constants (b ∷ [])) rest) (sym (Option·some-injective _ _ e)) r)

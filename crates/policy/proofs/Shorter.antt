@@ -5,9 +5,9 @@ use mathlib.Core.Option.{Option, none, some}
 use native.Mathlib.Omega.{arith}
 use lib.ListN.{length}
 use Rattle.model.specs.Notation.{_>>=_}
-use Rattle.model.specs.Tokens.{Token, Mark}
-use Rattle.model.specs.Grammar.{Policy, and, or, constantOf, oneType, isMark, behindMark, readOperator, readItems, readSet, readVar, Reading, readComparison, readSimple, readTerm, joinedBy, policyWithin, conjunctionWithin, termWithin}
-use Rattle.model.proofs.Results.{Whenever, result, bind-so, case-so, map-so, if-so, only-so, else-so}
+use Rattle.model.specs.Tokens.{Token, Mark, asConstant}
+use Rattle.model.specs.Grammar.{Policy, and, or, oneType, isMark, behindMark, readOperator, readItems, readSet, readVar, Reading, readComparison, readSimple, readTerm, joinedBy, policyWithin, conjunctionWithin, termWithin}
+use Rattle.model.proofs.Results.{Whenever, result, bind-so, case-so, map-so, only-so, else-so}
 
 abbrev pub Fewer : {A : Type 0} → List Token → A × List Token → Type 0
 Fewer ts x = length (x .1) < length ts
@@ -36,7 +36,7 @@ items-fewer (t ∷ []) = tt
 items-fewer (t ∷ u ∷ ts) =
     let Q = Fewer (t ∷ u ∷ ts) in
     let more = items-fewer ts in
-    bind-so (λ _. Unit {0}) Q _ (constantOf t) (unit (constantOf t)) λ a _.
+    bind-so (λ _. Unit {0}) Q _ (asConstant t) (unit (asConstant t)) λ a _.
     case-so (λ rest. length rest < length (u ∷ ts)) (Whenever Q) _ _ (behindMark Mark.rbrace (u ∷ ts)) (mark-fewer Mark.rbrace (u ∷ ts))
     (λ rest f. omega arith)
     (bind-so (λ rest. length rest < length (u ∷ ts)) Q _ (behindMark Mark.comma (u ∷ ts)) (mark-fewer Mark.comma (u ∷ ts)) λ rest f.
@@ -77,8 +77,9 @@ module _ (inner : List Token → Reading) (inner-fewer : (ts : List Token) → W
   simple-fewer (Token.operator o ∷ ts) = tt
   simple-fewer (Token.mark m ∷ ts) =
       let Q = Fewer (Token.mark m ∷ ts) in
-      if-so Q (isMark Mark.lparen m) _ λ e.
-      bind-so (Fewer ts) Q _ (inner ts) (inner-fewer ts) λ x f.
+      bind-so Q Q _ (behindMark Mark.lparen (Token.mark m ∷ ts) >>= inner)
+      (bind-so (λ rest. length rest < length (Token.mark m ∷ ts)) Q _ (behindMark Mark.lparen (Token.mark m ∷ ts)) (mark-fewer Mark.lparen (Token.mark m ∷ ts)) λ rest e.
+      map-so (Fewer rest) Q (inner rest) (inner-fewer rest) λ x f. omega arith) λ x f.
       bind-so (λ rest. length rest < length (x .1)) Q _ (behindMark Mark.rparen (x .1)) (mark-fewer Mark.rparen (x .1)) λ rest g. omega arith
 
   term-fewer : (ts : List Token) → Whenever (Fewer ts) (readTerm inner ts)

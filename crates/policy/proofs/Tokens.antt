@@ -13,8 +13,8 @@ use Rattle.model.specs.Attributes.{Source}
 use Rattle.model.specs.Atoms.{Atom, isAtom, typeOf}
 use Rattle.model.specs.Truth as truth
 use Rattle.model.specs.Tokens as model
-use Rattle.model.specs.Tokens.{Mark, Operator, markWord}
-use Rattle.model.specs.Grammar.{constantOf, isMark, behindMark, readOperator}
+use Rattle.model.specs.Tokens.{Mark, Operator, markWord, asConstant}
+use Rattle.model.specs.Grammar.{isMark, behindMark, readOperator}
 use Rattle.model.proofs.Lists.{all-parts}
 use Rattle.model.proofs.Words.{same-word, marks, reads-mark, same-refl}
 use Rattle.text.specs.Codes.{sourceCode, typeCode}
@@ -188,7 +188,7 @@ pub record Constant (s : Bytes) (t : Token) (ts : List model.Token) : Type 0 whe
   pub atom : Atom
   pub rest : List model.Token
   pub split : ts ≡ token ∷ rest
-  pub is : constantOf token ≡ some atom
+  pub is : asConstant token ≡ some atom
   pub coded : atomValue atom ≡ value (t .kind - 12) (t .low) (t .high)
   pub written : isAtom atom ≡ true
   pub kind-is : t .kind ≡ 12 + typeCode (typeOf atom)
@@ -226,7 +226,7 @@ constant-on s t (model.Token.operator o ∷ ts) f a b = absurd (omega (arith, f 
 constant-on s t (model.Token.mark m ∷ ts) f a b = absurd (omega (arith, f .kind-is, mark-range m))
 
 pub constant-off : (s : Bytes) (t : Token) (u : model.Token) (ts : List model.Token) → Told s t u ts → (13 ≤ t .kind → t .kind ≤ 14 → ⊥)
-    → constantOf u ≡ none
+    → asConstant u ≡ none
 constant-off s t (model.Token.name x n) ts f k = refl
 constant-off s t (model.Token.int n) ts f k = absurd (k (omega (arith, f .kind-is)) (omega (arith, f .kind-is)))
 constant-off s t (model.Token.str n) ts f k = absurd (k (omega (arith, f .kind-is)) (omega (arith, f .kind-is)))

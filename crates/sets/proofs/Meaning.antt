@@ -17,7 +17,8 @@ use Rattle.model.proofs.Lists.{same-truth, any-in, in-any, in-filter, filter-in
 use Rattle.model.proofs.Chains
 use Rattle.model.proofs.Chains.{acyclic-depth}
 use Rattle.model.proofs.Effective.{effective-equation}
-use Rattle.model.proofs.Standing.{Standing, among}
+use Rattle.model.specs.Standing.{Standing}
+use Rattle.model.proofs.Standing.{among, holders-fit}
 use Rattle.bits.specs.Bits.{bit, member, holds, anyBelow}
 use Rattle.bits.proofs.Bits.{bit-none, bit-not}
 use Rattle.bits.proofs.Sets.{four}
@@ -55,7 +56,7 @@ module _ (ups own slots : List ℕ) (D : Declarations) (T : Ties) (standing : St
 
       go : Dec (getD slots q 0 < length (D .holders)) → Depth ups slots (length ups) q
       go (yes h) =
-          depth-kept kept (length (below (length (D .holders)))) (length ups) q (omega (arith, length-below (length (D .holders)), standing .holders-fit)) few
+          depth-kept kept (length (below (length (D .holders)))) (length ups) q (omega (arith, length-below (length (D .holders)), holders-fit standing)) few
           (acyclic-depth (below (length (D .holders))) T (among standing) (standing .acyclic) (getD slots q 0) (below-in (length (D .holders)) (getD slots q 0) h))
       go (no n) = no-ties kept (length ups) q (omega arith) few (λ g e. n (in-below (length (D .holders)) (among standing .lower (getD slots q 0) g e)))
 

@@ -12,13 +12,14 @@ use lib.ListN.{length, getD, replicate, length-append, List·getD-append}
 use lib.Seq.{ext-getD, getD-append-add}
 use borrow.Author.Tests.{lt-ltb, le-ltb}
 use Rattle.model.specs.Notation.{each, below}
-use Rattle.model.specs.Declarations.{Declarations, holderNumbersOf}
+use Rattle.model.specs.Declarations.{Declarations, isHolder, holderNumbersOf}
 use Rattle.model.specs.Ties.{Ties, value}
 use Rattle.model.specs.Effective.{Has, own, inherited}
 use Rattle.model.specs.Table.{word, wordsOf, effectiveSet, storedSet, table}
 use Rattle.model.proofs.Lists.{_∈_, in-below, true-or-false, nth-lt}
 use Rattle.model.proofs.Effective.{effective-has}
-use Rattle.model.proofs.Standing.{Standing, among}
+use Rattle.model.specs.Standing.{Standing}
+use Rattle.model.proofs.Standing.{among, holder-lt, holder-none}
 use Rattle.bits.specs.Bits.{bit, holds}
 use Rattle.bits.proofs.Sets.{member-none}
 use Rattle.bits.proofs.Words.{length-words, getD-words, bit-word, word-is, words-are}
@@ -87,10 +88,10 @@ module _ (D : Declarations) (T : Ties) (standing : Standing (record { declared =
       pick : Bool → List ℕ
       pick b = elim b as (λ _. List ℕ) [ true ↦ wordsOf (effectiveSet D T k) | false ↦ replicate 4 0 ]
 
-      go : Dec (k < length (D .holders)) → pick (ltb k (length (D .holders))) ≡ wordsOf (effectiveSet D T k)
-      go (yes h) = ap pick (lt-ltb k (length (D .holders)) h)
+      go : Dec (k < length (D .holders)) → pick (isHolder D k) ≡ wordsOf (effectiveSet D T k)
+      go (yes h) = ap pick (holder-lt D k h)
       go (no h) =
-          ap pick (le-ltb k (length (D .holders)) (omega arith))
+          ap pick (holder-none D k (omega arith))
           ∙ words-are (effectiveSet D T k) (replicate 4 0) refl (λ j. empty j) (λ p l. member-none p l ∙ sym (no-holder k p (omega arith)))
         where
           empty : (j : ℕ) → getD (replicate 4 0) j 0 < 2 ^ 64

@@ -5,7 +5,7 @@ use Prim.Native.Nat.{ℕ}
 use Rattle.model.specs.Declarations.{Declarations}
 use Rattle.model.specs.Ties.{Ties}
 use Rattle.model.specs.Table.{table}
-use Rattle.model.proofs.Standing.{Standing}
+use Rattle.model.specs.Standing.{Standing}
 use Rattle.ties.specs.Ties.{Kept}
 
 -- "Load and edits keep it equal to effective(k). Unused words are 0": the table is that of every standing state that the arrays keep

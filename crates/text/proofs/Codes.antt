@@ -8,8 +8,8 @@ use lib.Dec.{eqb}
 use Rattle.model.specs.Notation.{if_then_else_}
 use Rattle.model.specs.Bytes.{Bytes, same, oneOf}
 use Rattle.model.specs.Attributes.{Source, user, object, admin, env, connect, sources, AtomType, types}
-use Rattle.model.specs.Keys.{Key, keys, rank}
-use Rattle.text.specs.Codes.{coded, sourceCode, typeCode}
+use Rattle.model.specs.Keys.{Key, keys}
+use Rattle.text.specs.Codes.{keyCode, coded, sourceCode, typeCode}
 
 module _ {A : Type 0} (word : A → Bytes) (code : A → ℕ) where
   -- the number of the first word that is s, else 0
@@ -53,10 +53,10 @@ type-injective = code-injective typeCode types reads
     reads AtomType.str = refl
     reads AtomType.bool = refl
 
-pub rank-injective : (a b : Key) → rank a ≡ rank b → a ≡ b
-rank-injective = code-injective rank keys reads
+pub key-injective : (a b : Key) → keyCode a ≡ keyCode b → a ≡ b
+key-injective = code-injective keyCode keys reads
   where
-    reads : (a : Key) → withCode rank keys (rank a) ≡ some a
+    reads : (a : Key) → withCode keyCode keys (keyCode a) ≡ some a
     reads Key.attr = refl
     reads Key.op = refl
     reads Key.atom = refl

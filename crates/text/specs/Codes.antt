@@ -1,5 +1,5 @@
 -- The numbers of sources, types, keys and truth values; 0 stands for none.
-use Prim.Native.Nat.{ℕ, zero}
+use Prim.Native.Nat.{ℕ, suc}
 use mathlib.Core.Bool.{Bool, true, false, _&&_}
 use mathlib.Core.Option.{Option, none, some}
 use lib.ListN.{length}
@@ -34,6 +34,10 @@ abbrev pub boolCode : Bool → ℕ
 boolCode false = 1
 boolCode true = 2
 
+-- a key's place in their order, from 1
+abbrev pub keyCode : Key → ℕ
+keyCode k = suc (rank k)
+
 unfoldable pub sourceNumber : Bytes → ℕ
 sourceNumber s = coded sourceCode (readSource s)
 
@@ -41,7 +45,7 @@ unfoldable pub typeNumber : Bytes → ℕ
 typeNumber s = coded typeCode (readType s)
 
 unfoldable pub keyNumber : Bytes → ℕ
-keyNumber s = coded rank (readKey s)
+keyNumber s = coded keyCode (readKey s)
 
 unfoldable pub boolNumber : Bytes → ℕ
 boolNumber s = coded boolCode (readBool s)

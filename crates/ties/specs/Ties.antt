@@ -9,7 +9,7 @@ use lib.ListN.{getD, length}
 use Rattle.model.specs.Limits.{groupLimit, pairLimit}
 use Rattle.model.specs.Declarations.{Declarations, holderNumbersOf}
 use Rattle.model.specs.Ties.{Ties, value, up, closesCircle}
-use Rattle.model.proofs.Standing.{Standing}
+use Rattle.model.specs.Standing.{Standing}
 use Rattle.bits.specs.Bits.{bit, holds, anyBelow}
 
 -- slot q is in use: it has the number of a holder. Number 0 is the admin's, who is no group, so a slot of 0 is free

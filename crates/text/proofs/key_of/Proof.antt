@@ -3,8 +3,8 @@ use Prim.Native.Nat.{ℕ}
 use mathlib.Core.Path.{_≡_, refl, sym, ap, _∙_}
 use Rattle.model.specs.Notation.{if_then_else_}
 use Rattle.model.specs.Bytes.{Bytes, same}
-use Rattle.model.specs.Keys.{Key, keyWord, keys, rank}
-use Rattle.text.specs.Codes.{keyNumber}
+use Rattle.model.specs.Keys.{Key, keyWord, keys}
+use Rattle.text.specs.Codes.{keyCode, keyNumber}
 use Rattle.text.proofs.Codes.{selected, coded-one-of}
 use Rattle.text.proofs.key_of.Statement.{statement}
 use Rattle.text.proofs.key_of.Tie as tie
@@ -80,7 +80,7 @@ unfolding keyNumber
 returns c =
     let s = c .before .before .before .before .before .before .before .before .before .before .before .before .before .before .before .before .before .before .before .before .before .before .before .args .s .now in
     let when : Bytes → ℕ → ℕ → ℕ = λ w n k. if same w s then n else k in
-    let e : c .choose11 .result ≡ selected keyWord rank keys s =
+    let e : c .choose11 .result ≡ selected keyWord keyCode keys s =
     c .choose11 .ensures ∙ ap (when (keyWord Key.attr) 1) (
     c .before .before .choose10 .ensures ∙ ap (when (keyWord Key.op) 2) (
     c .before .before .before .before .choose9 .ensures ∙ ap (when (keyWord Key.atom) 3) (
@@ -92,7 +92,7 @@ returns c =
     c .before .before .before .before .before .before .before .before .before .before .before .before .before .before .before .before .choose3 .ensures ∙ ap (when (keyWord Key.member) 9) (
     c .before .before .before .before .before .before .before .before .before .before .before .before .before .before .before .before .before .before .choose2 .ensures ∙ ap (when (keyWord Key.value) 10) (
     c .before .before .before .before .before .before .before .before .before .before .before .before .before .before .before .before .before .before .before .before .choose .ensures)))))))))) in
-    e ∙ sym (coded-one-of keyWord rank keys s)
+    e ∙ sym (coded-one-of keyWord keyCode keys s)
 
 pub key-of-spec : {M : Type 1} → statement M
 key-of-spec =
