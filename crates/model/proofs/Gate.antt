@@ -1,19 +1,43 @@
--- The office program prints the ledger's answers: those of its calls, on a table of 1,024 words. Assumes nothing.
-use Prim.Native.Nat.{ℕ}
+-- The office program prints the ledger's answers to its calls, in their order, on a table of 1,024 words with any content, and `bad=` for each
+-- command that is no call. Assumes nothing.
+use Prim.Native.Nat.{ℕ, suc, _≤_, _<_}
 use mathlib.Core.Path.{_≡_, refl, sym, ap, _∙_}
 use mathlib.Core.Bool.{Bool, true, false}
 use mathlib.Core.List.{List, [], _∷_, _++_}
-use mathlib.Core.Option.{some}
+use mathlib.Core.Option.{Option, none, some}
 use lib.ListN.{length}
-use Rattle.model.specs.Notation.{if_then_else_, map, each}
-use Rattle.model.specs.Limits.{tableWords}
-use Rattle.model.specs.Bytes.{Bytes}
+use borrow.Author.Tests.{lt-ltb, le-ltb}
+use Rattle.model.specs.Notation.{if_then_else_, map}
+use Rattle.model.specs.Limits.{inputBytes, tableWords}
+use Rattle.model.specs.Bytes.{Bytes, bytes, linesOf}
 use Rattle.model.specs.Table.{table}
-use Rattle.model.specs.State.{State}
+use Rattle.model.specs.State.{State, empty}
 use Rattle.model.specs.Refusals.{wrongTable}
-use Rattle.model.specs.Ledger.{Call, step, tableAfter, ledgerFrom}
-use Rattle.model.specs.Gate.{printed, output}
+use Rattle.model.specs.Ledger.{Call, Answer, loaded, Outcome, step, tableAfter, outcome, ledgerFrom, ledger}
+use Rattle.model.specs.Gate.{fileOf, commandsOf, callOf, printed, output, gate}
 use Rattle.model.proofs.Table.{table-length}
+
+-- the file of an input, and the commands behind it: calls, or lines that are none
+abbrev pub fileIn : Bytes → Bytes
+fileIn input = fileOf (linesOf input)
+
+abbrev pub commandsIn : Bytes → List (Option Call)
+commandsIn input = map callOf (commandsOf (linesOf input))
+
+abbrev pub callsAmong : List (Option Call) → List Call
+callsAmong [] = []
+callsAmong (none ∷ commands) = callsAmong commands
+callsAmong (some c ∷ commands) = c ∷ callsAmong commands
+
+-- for each command one line: the next answer for a call, `bad=` for what is none
+abbrev pub interleaved : List (Option Call) → List Answer → Bytes
+interleaved [] answers = []
+interleaved (none ∷ commands) answers = bytes "bad=\n" ++ interleaved commands answers
+interleaved (some c ∷ commands) [] = []
+interleaved (some c ∷ commands) (a ∷ answers) = printed a ++ interleaved commands answers
+
+abbrev pub answersOf : List Outcome → List Answer
+answersOf outcomes = map (λ o. o .answer) outcomes
 
 -- a table of 1,024 words has as many after a call
 pub words-after : (words : List ℕ) (S : State) → length words ≡ tableWords → length (tableAfter words S) ≡ tableWords
@@ -24,11 +48,38 @@ words-after words S e = go (wrongTable (length words))
     go true = e
     go false = table-length (S .declared) (S .ties)
 
-pub prints-ledger : (S : State) (words : List ℕ) (calls : List Call) → length words ≡ tableWords
-    → output S (map some calls) ≡ each (λ c. printed (c .answer)) (ledgerFrom S words calls)
+pub prints-ledger : (S : State) (words : List ℕ) (commands : List (Option Call)) → length words ≡ tableWords
+    → output S commands ≡ interleaved commands (answersOf (ledgerFrom S words (callsAmong commands)))
 unfolding output
 prints-ledger S words [] e = refl
-prints-ledger S words (c ∷ calls) e =
-    ap (λ (n : ℕ). printed (step n S c .answer) ++ output (step n S c .state) (map some calls)) (sym e)
-    ∙ ap (λ (rest : Bytes). printed (step (length words) S c .answer) ++ rest)
-    (prints-ledger (step (length words) S c .state) (tableAfter words (step (length words) S c .state)) calls (words-after words (step (length words) S c .state) e))
+prints-ledger S words (none ∷ commands) e = ap (λ (rest : Bytes). bytes "bad=\n" ++ rest) (prints-ledger S words commands e)
+prints-ledger S words (some c ∷ commands) e =
+    let o = outcome S words c in
+    ap (λ (n : ℕ). printed (step n S c .answer) ++ output (step n S c .state) commands) (sym e)
+    ∙ ap (λ (rest : Bytes). printed (o .answer) ++ rest) (prints-ledger (o .state) (o .words) commands (words-after words (o .state) e))
+
+-- an input of at most 65,536 bytes
+pub gate-prints : (input : Bytes) (words : List ℕ) → length input ≤ inputBytes → length words ≡ tableWords
+    → gate input
+    ≡ interleaved (some (Call.load (fileIn input)) ∷ commandsIn input) (answersOf (ledger words (fileIn input) (callsAmong (commandsIn input))))
+unfolding gate ledger
+gate-prints input words short e =
+    ap (λ (b : Bool). if b then printed (loaded 2 0) else output empty (some (Call.load (fileIn input)) ∷ commandsIn input))
+    (le-ltb inputBytes (length input) short)
+    ∙ prints-ledger empty words (some (Call.load (fileIn input)) ∷ commandsIn input) e
+
+-- "Over 65,536 bytes: `load=2,0` alone"
+pub gate-too-long : (input : Bytes) → inputBytes < length input → gate input ≡ printed (loaded 2 0)
+unfolding gate
+gate-too-long input long =
+    ap (λ (b : Bool). if b then printed (loaded 2 0) else output empty (some (Call.load (fileIn input)) ∷ commandsIn input))
+    (lt-ltb inputBytes (length input) long)
+
+-- each call has its answer: none of the commands is left without a line
+pub answers-all : (words : List ℕ) (file : Bytes) (calls : List Call) → length (answersOf (ledger words file calls)) ≡ suc (length calls)
+unfolding ledger
+answers-all words file calls = each-answered empty words (Call.load file ∷ calls)
+  where
+    each-answered : (S : State) (words : List ℕ) (calls : List Call) → length (answersOf (ledgerFrom S words calls)) ≡ length calls
+    each-answered S words [] = refl
+    each-answered S words (c ∷ calls) = let o = outcome S words c in ap suc (each-answered (o .state) (o .words) calls)

@@ -32,10 +32,16 @@ pub mod Ties
 pub mod Chains
 pub mod Effective
 pub mod Table
+pub mod Bits
+pub mod TableLayout
+pub mod Changes
+-- Requests: the decision and the rules.
+pub mod Decision
 -- The ledger: what holds of every state.
 pub mod Tests
 pub mod Growing
 pub mod Declared
 pub mod Standing
 pub mod Ledger
+pub mod Reached
 pub mod Gate

@@ -1,15 +1,15 @@
--- Laws of the words on lists: what `any`, `filter`, `count`, `place`, `nth` and `below` say of the elements. Assumes nothing.
-use Prim.Native.Nat.{ℕ, zero, suc, _≤_, _<_}
+-- Laws of the words on lists: what `any`, `filter`, `count`, `place`, `nth`, `numbered`, `map` and `below` say of the elements. Assumes nothing.
+use Prim.Native.Nat.{ℕ, zero, suc, _+_, _≤_, _<_}
 use mathlib.Core.Path.{_≡_, refl, sym, ap, ap₂, subst, _∙_}
 use mathlib.Core.Logic.{_⊎_, inl, inr, ⊎-elim}
 use mathlib.Core.Bool.{Bool, true, false, _||_, true≢false}
 use mathlib.Core.List.{List, [], _∷_, _++_, List·Memᴰ, List·Memᴰ·head as here, List·Memᴰ·tail as there, List·Memᴰ·append-cases, List·Memᴰ·eq-of-singleton, Memᴰ·append-left, Memᴰ·append-right}
-use mathlib.Core.Option.{Option, none, some}
+use mathlib.Core.Option.{Option, none, some, Option·some-injective}
 use native.Mathlib.Omega.{arith}
-use native.Mathlib.Nat.{eq-or-lt-of-le}
+use native.Mathlib.Nat.{add-zero, add-suc, suc-add, eq-or-lt-of-le}
 use lib.ListN.{length, length-append}
-use Rattle.model.specs.Notation.{_>>=_, isEmpty, any, all, filter, count, place, nth, below}
-use Rattle.model.proofs.Words.{false-is-true}
+use Rattle.model.specs.Notation.{_>>=_, isEmpty, any, all, filter, count, place, nth, numberedFrom, map, below}
+use Rattle.model.proofs.Words.{false-is-true, none-is-some}
 
 -- membership
 infix 40 _∈_
@@ -135,6 +135,15 @@ module _ {A : Type 0} where
       go false a true b h = omega arith
       go false a false b h = h
 
+  pub count-ext : (p q : A → Bool) (xs : List A) → ((x : A) → x ∈ xs → p x ≡ q x) → count p xs ≡ count q xs
+  count-ext p q [] f = refl
+  count-ext p q (x ∷ xs) f =
+      ap₂ (λ (a : Bool) (n : ℕ). elim a as (λ _. ℕ) [ true ↦ suc n | false ↦ n ]) (f x (here refl)) (count-ext p q xs (λ y m. f y (there m)))
+
+  pub count-append-none : (p : A → Bool) (xs : List A) (x : A) → p x ≡ false → count p (xs ++ x ∷ []) ≡ count p xs
+  count-append-none p [] x e = ap (λ (a : Bool). elim a as (λ _. ℕ) [ true ↦ 1 | false ↦ 0 ]) e
+  count-append-none p (y ∷ xs) x e = ap (λ (n : ℕ). elim (p y) as (λ _. ℕ) [ true ↦ suc n | false ↦ n ]) (count-append-none p xs x e)
+
   -- the element of a number
   pub nth-lt : (xs : List A) (k : ℕ) {x : A} → nth xs k ≡ some x → k < length xs
   nth-lt [] k {x} e = let z : _≡_ {A = ℕ} 0 1 = cc in absurd (omega (arith, z))
@@ -170,6 +179,29 @@ module _ {A : Type 0} where
       go false q none f g = let z : _≡_ {A = ℕ} 0 1 = cc in absurd (omega (arith, z))
       go false q (some i) f g = at-suc i k g (f i refl)
 
+  -- the elements with their numbers
+  pub in-numbered : (k : ℕ) (xs : List A) {v : ℕ × A} → v ∈ numberedFrom k xs → (j : ℕ) × (v .0 ≡ k + j) × (nth xs j ≡ some (v .1))
+  in-numbered k [] m = elim m [ ]
+  in-numbered k (x ∷ xs) {v} (here e) = (0, ap (λ (w : ℕ × A). w .0) e ∙ sym (add-zero k), ap (λ (w : ℕ × A). some (w .1)) (sym e))
+  in-numbered k (x ∷ xs) {v} (there m) = let r = in-numbered (suc k) xs m in (suc (r .0), r .1 ∙ suc-add k (r .0) ∙ sym (add-suc k (r .0)), r .2)
+
+  pub numbered-in : (k : ℕ) (xs : List A) (j : ℕ) {x : A} → nth xs j ≡ some x → (k + j, x) ∈ numberedFrom k xs
+  numbered-in k [] j e = none-is-some e
+  numbered-in k (y ∷ xs) zero {x} e = here (ap₂ (λ (n : ℕ) (z : A). (n, z)) (add-zero k) (sym (Option·some-injective y x e)))
+  numbered-in k (y ∷ xs) (suc j) {x} e =
+      there (subst (λ (n : ℕ). (n, x) ∈ numberedFrom (suc k) xs) (suc-add k j ∙ sym (add-suc k j)) (numbered-in (suc k) xs j e))
+
+-- what f gives for the elements
+module _ {A B : Type 0} (f : A → B) where
+  pub in-map : (xs : List A) {y : B} → y ∈ map f xs → (x : A) × (x ∈ xs) × (y ≡ f x)
+  in-map [] m = elim m [ ]
+  in-map (x ∷ xs) (here e) = (x, here refl, e)
+  in-map (x ∷ xs) (there m) = let r = in-map xs m in (r .0, there (r .1), r .2)
+
+  pub map-in : {xs : List A} {x : A} → x ∈ xs → f x ∈ map f xs
+  map-in (here e) = here (ap f e)
+  map-in (there m) = there (map-in m)
+
 -- the numbers below n
 pub in-below : (n : ℕ) {k : ℕ} → k ∈ below n → k < n
 in-below zero m = elim m [ ]
@@ -186,6 +218,17 @@ below-in (suc n) k h =
 pub length-below : (n : ℕ) → length (below n) ≡ n
 length-below zero = refl
 length-below (suc n) = length-append (below n) (n ∷ []) ∙ rw (length-below n) (omega arith)
+
+-- numbers from m up that do not pass do not count
+pub count-below : (p : ℕ → Bool) (m n : ℕ) → m ≤ n → ((k : ℕ) → m ≤ k → k < n → p k ≡ false) → count p (below n) ≡ count p (below m)
+count-below p m zero h e = let z : zero ≡ m = omega arith in ap (λ (k : ℕ). count p (below k)) z
+count-below p m (suc n) h e =
+    ⊎-elim (λ q. ap (λ (k : ℕ). count p (below k)) (sym q))
+    (λ l. count-append-none p (below n) n (e n (under m n l) (omega arith)) ∙ count-below p m n (under m n l) (λ k a b. e k a (omega arith)))
+    (eq-or-lt-of-le h)
+  where
+    under : (m n : ℕ) → m < suc n → m ≤ n
+    under m n h = omega arith
 
 -- each element passes
 module _ {A : Type 0} (p : A → Bool) where

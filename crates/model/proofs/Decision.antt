@@ -1,0 +1,281 @@
+-- The decision: permit is given with the lowest TRUE rule of the operation, undefined where none is TRUE and some is UNDEF, deny where none is
+-- either. A rule's number is its place in the file. Assumes nothing.
+use Prim.Native.Nat.{ℕ, suc, _≤_, _<_}
+use mathlib.Core.Path.{_≡_, refl, sym, ap, subst, _∙_}
+use mathlib.Core.Logic.{_↔_}
+use mathlib.Core.Bool.{Bool, true, false}
+use mathlib.Core.List.{List, [], _∷_, List·Memᴰ·head as here, List·Memᴰ·tail as there}
+use mathlib.Core.Option.{Option, none, some, Option·some-injective}
+use native.Mathlib.Nat.{zero-add}
+use native.Mathlib.Omega.{arith}
+use lib.Dec.{eqb}
+use borrow.Author.Tests.{eqb-true, eqb-false}
+use Rattle.model.specs.Notation.{if_then_else_, _is_, isNone, any, map, filter, nth, numbered, numberedFrom}
+use Rattle.model.specs.Truth.{Truth, TRUE, UNDEF}
+use Rattle.model.specs.Bytes.{Bytes, same}
+use Rattle.model.specs.Declarations.{Rule}
+use Rattle.model.specs.State.{State}
+use Rattle.model.specs.Meaning.{meaningOf}
+use Rattle.model.specs.Block.{Block, readBlock}
+use Rattle.model.specs.Session.{readBy}
+use Rattle.model.specs.Refusals.{badBlock, requestTests, requestRefusal}
+use Rattle.model.specs.Decision.{Decision, permit, deny, undefined, refused, verdicts, isTrue, isUndef, withoutPermit, decided, judged, decide}
+use Rattle.model.proofs.Words.{false-is-true, same-eq, same-refl}
+use Rattle.model.proofs.Options.{is-some}
+use Rattle.model.proofs.Lists.{_∈_, any-in, in-any, in-filter, filter-in, in-map, map-in, in-numbered, numbered-in}
+use Rattle.model.proofs.Tests.{none-holds}
+
+-- the numbers rise: each is below those behind it
+abbrev pub Rising : {A : Type 0} → List (ℕ × A) → Type 0
+Rising [] = Unit {0}
+Rising {A} (v ∷ vs) = ((w : ℕ × A) → w ∈ vs → v .0 < w .0) × Rising vs
+
+-- some rule has a value, and none has
+abbrev pub SomeIs : Truth → List (ℕ × Truth) → Type 0
+SomeIs t vs = (j : ℕ) × ((j, t) ∈ vs)
+
+abbrev pub NoneIs : Truth → List (ℕ × Truth) → Type 0
+NoneIs t vs = (j : ℕ) → (j, t) ∈ vs → ⊥
+
+apart : {C : Type 0} → _≡_ {A = ℕ} 0 1 → C
+apart e = absurd (omega (arith, e))
+
+is-true : (t : Truth) → isTrue t ≡ true → t ≡ TRUE
+is-true Truth.TRUE e = refl
+is-true Truth.UNDEF e = false-is-true e
+is-true Truth.FALSE e = false-is-true e
+
+is-undef : (t : Truth) → isUndef t ≡ true → t ≡ UNDEF
+is-undef Truth.TRUE e = false-is-true e
+is-undef Truth.UNDEF e = refl
+is-undef Truth.FALSE e = false-is-true e
+
+rising-filter : {A : Type 0} (p : ℕ × A → Bool) (vs : List (ℕ × A)) → Rising vs → Rising (filter p vs)
+rising-filter p [] r = tt
+rising-filter {A} p (v ∷ vs) r = go (p v) (rising-filter p vs (r .1))
+  where
+    go : (b : Bool) → Rising (filter p vs) → Rising {A = A} (elim b as (λ _. List (ℕ × A)) [ true ↦ v ∷ filter p vs | false ↦ filter p vs ])
+    go true s = ((λ w m. r .0 w (in-filter p vs m .0)), s)
+    go false s = s
+
+rising-map : {A B : Type 0} (f : ℕ × A → ℕ × B) → ((v : ℕ × A) → f v .0 ≡ v .0) → (vs : List (ℕ × A)) → Rising vs → Rising (map f vs)
+rising-map f keeps [] r = tt
+rising-map {A} {B} f keeps (v ∷ vs) r =
+    ((λ w m. let x = in-map f vs m in omega (arith, r .0 (x .0) (x .1), keeps v, keeps (x .0), ap (λ (u : ℕ × B). u .0) (x .2))), rising-map f keeps vs (r .1))
+
+rising-numbered : {A : Type 0} (k : ℕ) (xs : List A) → Rising (numberedFrom k xs)
+rising-numbered k [] = tt
+rising-numbered k (x ∷ xs) = ((λ w m. let r = in-numbered (suc k) xs m in omega (arith, r .1)), rising-numbered (suc k) xs)
+
+-- ---- the decision on rising verdicts
+
+module _ (vs : List (ℕ × Truth)) where
+  abbrev trues : List (ℕ × Truth)
+  trues = filter (λ v. isTrue (v .1)) vs
+
+  true-in : (v : ℕ × Truth) → v ∈ trues → (v .0, TRUE) ∈ vs
+  true-in v m =
+      let r = in-filter (λ v. isTrue (v .1)) vs m in
+      subst (λ (t : Truth). (v .0, t) ∈ vs) (is-true (v .1) (r .1)) (r .0)
+
+  in-true : (j : ℕ) → (j, TRUE) ∈ vs → (j, TRUE) ∈ trues
+  in-true j m = filter-in (λ v. isTrue (v .1)) m refl
+
+  -- the first that is TRUE, if there is one, permits
+  first-permits : (v : ℕ × Truth) (rest : List (ℕ × Truth)) → trues ≡ v ∷ rest → decided vs ≡ permit (v .0)
+  unfolding decided
+  first-permits v rest e = rw (e, decided)
+
+  none-permits : trues ≡ [] → decided vs ≡ withoutPermit vs
+  unfolding decided
+  none-permits e = rw (e, decided)
+
+  decided-cases : (P : Decision → Type 0)
+      → (NoneIs TRUE vs → SomeIs UNDEF vs → P undefined)
+      → (NoneIs TRUE vs → NoneIs UNDEF vs → P deny)
+      → ((v : ℕ × Truth) (rest : List (ℕ × Truth)) → trues ≡ v ∷ rest → P (permit (v .0)))
+      → P (decided vs)
+  decided-cases P on-undef on-deny on-permit = go trues refl
+    where
+      without : NoneIs TRUE vs → (b : Bool) → any (λ v. isUndef (v .1)) vs ≡ b → P (if b then undefined else deny)
+      without n true e =
+          let r = any-in (λ v. isUndef (v .1)) vs e in
+          on-undef n (r .0 .0, subst (λ (t : Truth). (r .0 .0, t) ∈ vs) (is-undef (r .0 .1) (r .2)) (r .1))
+      without n false e = on-deny n (λ j m. false-is-true (sym e ∙ in-any (λ v. isUndef (v .1)) m refl))
+
+      go : (l : List (ℕ × Truth)) → trues ≡ l → P (decided vs)
+      go [] e =
+          subst P (sym (none-permits e))
+          (without (λ j m. elim (subst (λ (l : List (ℕ × Truth)). (j, TRUE) ∈ l) e (in-true j m)) [ ]) (any (λ v. isUndef (v .1)) vs) refl)
+      go (v ∷ rest) e = subst P (sym (first-permits v rest e)) (on-permit v rest e)
+
+  first-true : (v : ℕ × Truth) (rest : List (ℕ × Truth)) → trues ≡ v ∷ rest → (v .0, TRUE) ∈ vs
+  first-true v rest e = true-in v (subst (λ (l : List (ℕ × Truth)). v ∈ l) (sym e) (here refl))
+
+  module _ (rise : Rising vs) where
+    -- the first TRUE is the lowest
+    first-least : (v : ℕ × Truth) (rest : List (ℕ × Truth)) → trues ≡ v ∷ rest → (j : ℕ) → (j, TRUE) ∈ vs → v .0 ≤ j
+    first-least v rest e j m = go (subst (λ (l : List (ℕ × Truth)). (j, TRUE) ∈ l) e (in-true j m))
+      where
+        sorted : Rising (v ∷ rest)
+        sorted = subst (λ (l : List (ℕ × Truth)). Rising l) e (rising-filter (λ v. isTrue (v .1)) vs rise)
+
+        go : (j, TRUE) ∈ (v ∷ rest) → v .0 ≤ j
+        go (here q) = omega (arith, ap (λ (u : ℕ × Truth). u .0) q)
+        go (there n) = omega (arith, sorted .0 (j, TRUE) n)
+
+    -- "Permit, with the lowest TRUE rule number"
+    pub decided-permit : (k : ℕ) → (decided vs ≡ permit k) ↔ (((k, TRUE) ∈ vs) × ((j : ℕ) → (j, TRUE) ∈ vs → k ≤ j))
+    decided-permit k = (
+      decided-cases (λ d. d ≡ permit k → ((k, TRUE) ∈ vs) × ((j : ℕ) → (j, TRUE) ∈ vs → k ≤ j)) (λ n s e. apart cc) (λ n m e. apart cc)
+          (λ v rest e q.
+          let z : v .0 ≡ k = cc in
+          subst (λ (i : ℕ). ((i, TRUE) ∈ vs) × ((j : ℕ) → (j, TRUE) ∈ vs → i ≤ j)) z (first-true v rest e, first-least v rest e)),
+      λ h. decided-cases (λ d. d ≡ permit k) (λ n s. absurd (n k (h .0))) (λ n m. absurd (n k (h .0)))
+          (λ v rest e. let z : v .0 ≡ k = omega (arith, first-least v rest e k (h .0), h .1 (v .0) (first-true v rest e)) in ap permit z),
+    )
+
+  -- "else undefined if some is UNDEF"
+  pub decided-undefined : (decided vs ≡ undefined) ↔ (NoneIs TRUE vs × SomeIs UNDEF vs)
+  decided-undefined = (
+    decided-cases (λ d. d ≡ undefined → NoneIs TRUE vs × SomeIs UNDEF vs) (λ n s e. (n, s)) (λ n m e. apart cc) (λ v rest e q. apart cc),
+    λ h. decided-cases (λ d. d ≡ undefined) (λ n s. refl) (λ n m. absurd (m (h .1 .0) (h .1 .1))) (λ v rest e. absurd (h .0 (v .0) (first-true v rest e))),
+  )
+
+  -- "else deny"
+  pub decided-deny : (decided vs ≡ deny) ↔ (NoneIs TRUE vs × NoneIs UNDEF vs)
+  decided-deny = (
+    decided-cases (λ d. d ≡ deny → NoneIs TRUE vs × NoneIs UNDEF vs) (λ n s e. apart cc) (λ n m e. (n, m)) (λ v rest e q. apart cc),
+    λ h. decided-cases (λ d. d ≡ deny) (λ n s. absurd (h .1 (s .0) (s .1))) (λ n m. refl) (λ v rest e. absurd (h .0 (v .0) (first-true v rest e))),
+  )
+
+  never-refused : (n : ℕ) → decided vs ≡ refused n → ⊥
+  never-refused n = decided-cases (λ d. d ≡ refused n → ⊥) (λ m s e. apart cc) (λ m s e. apart cc) (λ v rest e q. apart cc)
+
+-- ---- the rules of a request
+
+-- rule k of the file is one of the block's operation, and its value is t
+pub record Verdict (S : State) (b : Block) (k : ℕ) (t : Truth) : Type 0 where
+  pub rule : Rule
+  pub place-is : nth (S .declared .rules) k ≡ some rule
+  pub operation-is : nth (S .declared .operations) (b .operation) ≡ some (rule .operation)
+  pub value-is : meaningOf (readBy S b) (rule .tokens) ≡ t
+
+module _ (S : State) (b : Block) where
+  abbrev isRule : ℕ × Rule → Bool
+  isRule v = nth (S .declared .operations) (b .operation) is same (v .1 .operation)
+
+  abbrev valued : ℕ × Rule → ℕ × Truth
+  valued v = (v .0, meaningOf (readBy S b) (v .1 .tokens))
+
+  pub verdicts-rise : Rising (verdicts S b)
+  unfolding verdicts
+  verdicts-rise =
+      rising-map valued (λ v. refl) (filter isRule (numbered (S .declared .rules)))
+      (rising-filter isRule (numbered (S .declared .rules)) (rising-numbered 0 (S .declared .rules)))
+
+  verdict-sound : (k : ℕ) (t : Truth) → (k, t) ∈ verdicts S b → Verdict S b k t
+  unfolding verdicts
+  verdict-sound k t m =
+      let r = in-map valued (filter isRule (numbered (S .declared .rules))) m in
+      let f = in-filter isRule (numbered (S .declared .rules)) (r .1) in
+      let n = in-numbered 0 (S .declared .rules) (f .0) in
+      let o = is-some (nth (S .declared .operations) (b .operation)) (same (r .0 .1 .operation)) (f .1) in
+      let at : n .0 ≡ k = omega (arith, n .1, ap (λ (v : ℕ × Truth). v .0) (r .2)) in
+      record {
+        rule = r .0 .1;
+        place-is = subst (λ (i : ℕ). nth (S .declared .rules) i ≡ some (r .0 .1)) at (n .2);
+        operation-is = o .1 ∙ ap some (sym (same-eq (r .0 .1 .operation) (o .0) (o .2)));
+        value-is = sym (ap (λ (v : ℕ × Truth). v .1) (r .2));
+      }
+
+  verdict-complete : (k : ℕ) (t : Truth) → Verdict S b k t → (k, t) ∈ verdicts S b
+  unfolding verdicts
+  verdict-complete k t v =
+      let n = subst (λ (i : ℕ). (i, v .rule) ∈ numbered (S .declared .rules)) (zero-add k) (numbered-in 0 (S .declared .rules) k (v .place-is)) in
+      let o = ap (λ (x : Option Bytes). x is same (v .rule .operation)) (v .operation-is) ∙ same-refl (v .rule .operation) in
+      subst (λ (u : Truth). (k, u) ∈ map valued (filter isRule (numbered (S .declared .rules)))) (v .value-is) (map-in valued (filter-in isRule n o))
+
+  -- "The rules of the operation are evaluated"
+  pub verdict-exact : (k : ℕ) (t : Truth) → ((k, t) ∈ verdicts S b) ↔ Verdict S b k t
+  verdict-exact k t = (verdict-sound k t, verdict-complete k t)
+
+-- ---- a request
+
+-- the request is not refused, and b is its block
+pub record Accepted (S : State) (block : Bytes) (b : Block) : Type 0 where
+  pub not-refused : requestRefusal S block ≡ 0
+  pub block-is : readBlock block ≡ some b
+
+module _ (S : State) (block : Bytes) where
+  -- a request is refused, or its block is read and its rules are evaluated
+  decide-cases : (P : Decision → Type 0)
+      → ((n : ℕ) → requestRefusal S block ≡ n → (n ≡ 0 → ⊥) → P (refused n))
+      → ((b : Block) → Accepted S block b → P (decided (verdicts S b)))
+      → P (decide S block)
+  unfolding decide requestRefusal badBlock
+  decide-cases P on-refused on-block = go (eqb (requestRefusal S block) 0) refl
+    where
+      read : requestRefusal S block ≡ 0 → (o : Option Block) → readBlock block ≡ o → P (judged S o)
+      read e none q = false-is-true (sym (none-holds (requestTests S block) refl e .0) ∙ ap isNone q)
+      read e (some b) q = on-block b (record { not-refused = e; block-is = q })
+
+      go : (t : Bool) → eqb (requestRefusal S block) 0 ≡ t
+          → P (elim t as (λ _. Decision) [ true ↦ judged S (readBlock block) | false ↦ refused (requestRefusal S block) ])
+      go true e = read (eqb-true (requestRefusal S block) 0 e) (readBlock block) refl
+      go false e = on-refused (requestRefusal S block) refl (eqb-false (requestRefusal S block) 0 e)
+
+  decide-accepted : (b : Block) → Accepted S block b → decide S block ≡ decided (verdicts S b)
+  decide-accepted b a =
+      decide-cases (λ d. d ≡ decided (verdicts S b)) (λ n e z. absurd (z (sym e ∙ a .not-refused)))
+      (λ c q. ap (λ (x : Block). decided (verdicts S x)) (Option·some-injective c b (sym (q .block-is) ∙ a .block-is)))
+
+  -- what is answered is a refusal, or comes of the rules
+  decide-judged : (d : Decision) → ((n : ℕ) → refused n ≡ d → ⊥) → decide S block ≡ d
+      → (b : Block) × Accepted S block b × (decided (verdicts S b) ≡ d)
+  decide-judged d other =
+      decide-cases (λ x. x ≡ d → (b : Block) × Accepted S block b × (decided (verdicts S b) ≡ d)) (λ n e z q. absurd (other n q)) (λ b a q. (b, a, q))
+
+  -- "Permit, with the lowest TRUE rule number"
+  pub permit-exact : (k : ℕ)
+      → (decide S block ≡ permit k) ↔ ((b : Block) × Accepted S block b × Verdict S b k TRUE × ((j : ℕ) → Verdict S b j TRUE → k ≤ j))
+  permit-exact k = (
+    λ e.
+        let (b, a, q) = decide-judged (permit k) (λ n e. apart cc) e in
+        let (m, least) = decided-permit (verdicts S b) (verdicts-rise S b) k .0 q in
+        (b, a, verdict-sound S b k TRUE m, λ j v. least j (verdict-complete S b j TRUE v)),
+    λ (b, a, v, least).
+        decide-accepted b a ∙ decided-permit (verdicts S b) (verdicts-rise S b) k .1 (verdict-complete S b k TRUE v, λ j m. least j (verdict-sound S b j TRUE m)),
+  )
+
+  -- "else undefined if some is UNDEF"
+  pub undefined-exact : (decide S block ≡ undefined)
+      ↔ ((b : Block) × Accepted S block b × ((j : ℕ) → Verdict S b j TRUE → ⊥) × ((j : ℕ) × Verdict S b j UNDEF))
+  undefined-exact = (
+    λ e.
+        let (b, a, q) = decide-judged undefined (λ n e. apart cc) e in
+        let (n, s) = decided-undefined (verdicts S b) .0 q in
+        (b, a, (λ j v. n j (verdict-complete S b j TRUE v)), (s .0, verdict-sound S b (s .0) UNDEF (s .1))),
+    λ (b, a, n, s).
+        decide-accepted b a ∙ decided-undefined (verdicts S b) .1 ((λ j m. n j (verdict-sound S b j TRUE m)), (s .0, verdict-complete S b (s .0) UNDEF (s .1))),
+  )
+
+  -- "else deny"
+  pub deny-exact : (decide S block ≡ deny)
+      ↔ ((b : Block) × Accepted S block b × ((j : ℕ) → Verdict S b j TRUE → ⊥) × ((j : ℕ) → Verdict S b j UNDEF → ⊥))
+  deny-exact = (
+    λ e.
+        let (b, a, q) = decide-judged deny (λ n e. apart cc) e in
+        let (n, u) = decided-deny (verdicts S b) .0 q in
+        (b, a, (λ j v. n j (verdict-complete S b j TRUE v)), λ j v. u j (verdict-complete S b j UNDEF v)),
+    λ (b, a, n, u).
+        decide-accepted b a ∙ decided-deny (verdicts S b) .1 ((λ j m. n j (verdict-sound S b j TRUE m)), λ j m. u j (verdict-sound S b j UNDEF m)),
+  )
+
+  -- a number other than 0 is answered exactly where it is the refusal
+  pub refused-exact : (n : ℕ) → (decide S block ≡ refused n) ↔ ((n ≡ 0 → ⊥) × (requestRefusal S block ≡ n))
+  refused-exact n = (
+    decide-cases (λ d. d ≡ refused n → (n ≡ 0 → ⊥) × (requestRefusal S block ≡ n))
+        (λ m e z q. let s : m ≡ n = cc in ((λ r. z (s ∙ r)), e ∙ s)) (λ b a q. absurd (never-refused (verdicts S b) n q)),
+    λ h. decide-cases (λ d. d ≡ refused n) (λ m e z. ap refused (sym e ∙ h .1)) (λ b a. absurd (h .0 (sym (h .1) ∙ a .not-refused))),
+  )
