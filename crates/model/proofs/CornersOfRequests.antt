@@ -39,7 +39,7 @@ pub blocks-agree : Agree (decide valley) blocks
 unfolding computing
 blocks-agree = refl
 
--- B04, B09, B10, P14: two operations and a bool of the block
+-- B04, B08, B09, P14: two operations and a bool of the block
 abbrev pub smallFile : Bytes
 smallFile =
     lines ("rights=1" ∷ "attr=env,snow,bool" ∷ "op=idle" ∷ "op=lift" ∷ "op=shut" ∷ "user=u" ∷ "object=o" ∷ "rule=idle,TRUE" ∷ "rule=lift,env.snow" ∷ "rule=lift,NOT env.snow" ∷ [])

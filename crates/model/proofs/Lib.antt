@@ -45,3 +45,4 @@ pub mod Standing
 pub mod Ledger
 pub mod Reached
 pub mod Gate
+pub mod Fallbacks
