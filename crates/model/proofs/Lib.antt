@@ -20,6 +20,7 @@ pub mod Decimals
 pub mod Atoms
 pub mod Names
 pub mod Fields
+pub mod Spelling
 pub mod Tokens
 pub mod Lines
 -- Policies: the reader and the grammar.

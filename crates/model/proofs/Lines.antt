@@ -1,41 +1,32 @@
--- A line that is not a rule is read exactly from the bytes that write it.
-use Prim.Native.Nat.{ℕ}
+-- A line is read exactly from the bytes that write it.
+use Prim.Native.Nat.{ℕ, _≤_}
 use mathlib.Core.Path.{_≡_, refl, ap, _∙_}
 use mathlib.Core.Logic.{_↔_}
-use mathlib.Core.Bool.{Bool, true, false, _&&_, not}
-use mathlib.Core.List.{[], _∷_, _++_, append-assoc}
-use mathlib.Core.Option.{Option, some, Option·some-injective}
+use mathlib.Core.Bool.{true, _&&_, not}
+use mathlib.Core.List.{List, [], _∷_, _++_, append-assoc}
+use mathlib.Core.Option.{Option, none, some, Option·some-injective}
+use borrow.Author.Tests.{leb-true, le-leb}
 use lib.ListN.{length}
 use lib.Dec.{leb}
-use Rattle.model.specs.Notation.{_>>=_, isNone, onlyIf}
+use Rattle.model.specs.Notation.{_>>=_, isNone, onlyIf, all, each}
 use Rattle.model.specs.Limits.{lineBytes}
 use Rattle.model.specs.Bytes.{Bytes, bytes, newline, content}
 use Rattle.model.specs.Names.{isName, readName}
 use Rattle.model.specs.Attributes.{Source, sourceWord, readSource, typeWord}
 use Rattle.model.specs.Atoms.{Atom, isAtom, writeAtom, readAtom}
 use Rattle.model.specs.Keys.{Key, keyWord, keys, readKey}
-use Rattle.model.specs.Tokens.{tokensOf}
-use Rattle.model.specs.Grammar.{Policy, readPolicy}
+use Rattle.model.specs.Tokens.{Token, isToken, spelling, tokensOf, Spells}
+use Rattle.model.specs.Grammar.{readPolicy}
 use Rattle.model.specs.Declarations.{Sort, sortWord, isSort}
-use Rattle.model.specs.Lines.{Line, readAttr, readOp, readPair, readHolder, readTwo, readValue, readRule, readFields, readKeyed, framed, readLine, writeLine, isLine}
+use Rattle.model.specs.Lines.{Line, readAttr, readOp, readPair, readHolder, readTwo, readValue, readRule, readFields, readKeyed, framed, readLine, writeLine, isLine, Writes}
 use Rattle.model.proofs.Words.{false-is-true, one-of-word, reads-key}
 use Rattle.model.proofs.Options.{parts, both, fields, bound, condition}
-use Rattle.model.proofs.Lists.{all-append, all-cons}
+use Rattle.model.proofs.Lists.{all-parts, all-append, all-cons}
 use Rattle.model.proofs.Cuts.{isnt, lacks, cut-joined, cut-bound, content-exact}
 use Rattle.model.proofs.Names.{name-exact, name-lacks, source-lacks, type-lacks, sort-lacks, key-lacks}
 use Rattle.model.proofs.Atoms.{atom-lacks}
-use Rattle.model.proofs.Tokens.{tokens-formed}
+use Rattle.model.proofs.Tokens.{tokens-exact, spaced-spells, spells-lack}
 use Rattle.model.proofs.Fields.{nameField, atomField, sourceField, typeField, reads, both-fields, reads-both, three-fields, reads-three}
-
-abbrev pub withoutPolicy : Line → Bool
-withoutPolicy (Line.attr s n t) = true
-withoutPolicy (Line.op n) = true
-withoutPolicy (Line.atom s n a) = true
-withoutPolicy (Line.holder s n) = true
-withoutPolicy (Line.parent c g) = true
-withoutPolicy (Line.member p g) = true
-withoutPolicy (Line.value h n a) = true
-withoutPolicy (Line.rule o ts) = false
 
 -- the frame: the key stands before the first equals sign
 pub keyed-exact : (s : Bytes) (k : Key) (f : Bytes) → (readKeyed s ≡ some (k, f)) ↔ (s ≡ keyWord k ++ 61 ∷ f)
@@ -52,13 +43,26 @@ keyed-exact s k f = (sound, λ e. rw e complete)
     complete : readKeyed (keyWord k ++ 61 ∷ f) ≡ some (k, f)
     complete = rw (cut-joined 61 (keyWord k) f (key-lacks 61 refl k), reads-key k)
 
+-- a result that is there
+present : {A : Type 0} (o : Option A) → not (isNone o) ≡ true → (a : A) × (o ≡ some a)
+present none h = false-is-true h
+present (some a) h = (a, refl)
+
+written : (l : Line) {b : Bytes} → b ≡ writeLine l → Writes l b
+written l e = rw e (Writes.as-written l)
+
 -- one name, SRC.NAME,ATOM, and two names
 named : (line : Bytes → Line) (f : Bytes) (l : Line) → (readName f >>= λ n. some (line n)) ≡ some l → (isName f ≡ true) × (line f ≡ l)
 named line f l e = bound {o = readName f} e λ n p q.
     let (m, z) = name-exact f n .0 p in
     (rw z m, ap line z ∙ Option·some-injective _ _ q)
 
-pair-said : (f : Bytes) (l : Line) → readPair f ≡ some l → (isLine l ≡ true) × (bytes "atom=" ++ f ≡ writeLine l)
+holder-said : (s : Sort) → not (isSort s Sort.admin) ≡ true → (f : Bytes) (l : Line) → readHolder s f ≡ some l
+    → (isLine l ≡ true) × Writes l (sortWord s ++ 61 ∷ f)
+unfolding readHolder
+holder-said s h f l e = let (m, z) = named (Line.holder s) f l e in rw (← z) (both h m, written (Line.holder s f) (simp append-assoc))
+
+pair-said : (f : Bytes) (l : Line) → readPair f ≡ some l → (isLine l ≡ true) × Writes l (bytes "atom=" ++ f)
 unfolding readPair
 pair-said f l e =
     cut-bound 44 f e λ c p i e₁.
@@ -70,7 +74,7 @@ pair-said f l e =
     let v = nameField .exact (d .1) n .0 h in
     let w = atomField .exact (c .1) a .0 r in
     let z : Line.atom s n a ≡ l = Option·some-injective _ _ e₅ in
-    rw (← z, i, j, u .1, v .1, w .1) (both (v .0) (w .0), simp append-assoc)
+    rw (← z, i, j, u .1, v .1, w .1) (both (v .0) (w .0), written (Line.atom s n a) (simp append-assoc))
 
 pair-read : (s : Source) (n : Bytes) (a : Atom) → (isName n && isAtom a) ≡ true
     → readPair (sourceWord s ++ 46 ∷ n ++ 44 ∷ writeAtom a) ≡ some (Line.atom s n a)
@@ -86,100 +90,170 @@ two-read line a b e =
     let (h, k) = parts (isName a) (isName b) e in
     reads-both nameField nameField line a b h k (name-lacks 44 refl a h)
 
--- the fields behind a key that are read as a line are those that it is written with
-pub fields-said : (k : Key) (f : Bytes) (l : Line) → readFields k f ≡ some l
-    → (isLine l ≡ true) × (withoutPolicy l ≡ true → keyWord k ++ 61 ∷ f ≡ writeLine l)
-unfolding readAttr readOp readHolder readTwo readValue readRule
-fields-said Key.attr f l e =
-    three-fields sourceField nameField typeField Line.attr f l e λ a b c m n o j z. rw (← z, j) (n, λ w. simp append-assoc)
-fields-said Key.op f l e = let (m, z) = named Line.op f l e in rw (← z) (m, λ w. refl)
-fields-said Key.atom f l e = let (m, z) = pair-said f l e in (m, λ w. z)
-fields-said Key.ugroup f l e = let (m, z) = named (Line.holder Sort.ugroup) f l e in rw (← z) (m, λ w. refl)
-fields-said Key.ogroup f l e = let (m, z) = named (Line.holder Sort.ogroup) f l e in rw (← z) (m, λ w. refl)
-fields-said Key.user f l e = let (m, z) = named (Line.holder Sort.user) f l e in rw (← z) (m, λ w. refl)
-fields-said Key.object f l e = let (m, z) = named (Line.holder Sort.object) f l e in rw (← z) (m, λ w. refl)
-fields-said Key.parent f l e = both-fields nameField nameField Line.parent f l e λ a b m n j z. rw (← z, j) (both m n, λ w. simp append-assoc)
-fields-said Key.member f l e = both-fields nameField nameField Line.member f l e λ a b m n j z. rw (← z, j) (both m n, λ w. simp append-assoc)
-fields-said Key.value f l e =
-    three-fields nameField nameField atomField Line.value f l e λ a b c m n o j z. rw (← z, j) (both (both m n) o, λ w. simp append-assoc)
-fields-said Key.rule f l e =
+-- a policy, in any spelling of its tokens
+rule-said : (f : Bytes) (l : Line) → readRule f ≡ some l → (isLine l ≡ true) × Writes l (bytes "rule=" ++ f)
+unfolding readRule
+rule-said f l e =
     cut-bound 44 f e λ c p j e₁.
     bound {o = readName (c .0)} e₁ λ o q e₂.
     bound {o = tokensOf (c .1)} e₂ λ ts r e₃.
     bound {o = readPolicy ts} e₃ λ y g e₄.
+    let (m, u) = name-exact (c .0) o .0 q in
+    let (t, d) = tokens-exact (c .1) ts .0 r in
     let z : Line.rule o ts ≡ l = Option·some-injective _ _ e₄ in
-    let formed = both (both (name-exact (c .0) o .0 q .0) (tokens-formed (c .1) ts r)) (ap (λ (x : Option Policy). not (isNone x)) g) in
-    (rw (← z) formed, λ w. false-is-true (ap withoutPolicy z ∙ w))
+    let policy : not (isNone (readPolicy ts)) ≡ true = rw g in
+    rw (← z, j, u, ← append-assoc o (44 ∷ []) (c .1)) (both (both m t) policy, Writes.any-spelling o d)
 
--- a line that is written has a key, and the fields behind it are read as that line
-pub fields-read : (l : Line) → withoutPolicy l ≡ true → isLine l ≡ true
-    → (k : Key) × (f : Bytes) × (writeLine l ≡ keyWord k ++ 61 ∷ f) × (readFields k f ≡ some l)
+rule-read : (o : Bytes) (ts : List Token) (p : Bytes) → isLine (Line.rule o ts) ≡ true → Spells ts p → readRule (o ++ 44 ∷ p) ≡ some (Line.rule o ts)
+unfolding readRule
+rule-read o ts p h d =
+    let (ab, c) = parts (isName o && all isToken ts) (not (isNone (readPolicy ts))) h in
+    let (a, b) = parts (isName o) (all isToken ts) ab in
+    let (y, g) = present (readPolicy ts) c in
+    rw (cut-joined 44 o p (name-lacks 44 refl o a), a, tokens-exact p ts .1 (b, d), g)
+
+-- the fields behind a key that are read as a line are those that it is written with
+pub fields-said : (k : Key) (f : Bytes) (l : Line) → readFields k f ≡ some l → (isLine l ≡ true) × Writes l (keyWord k ++ 61 ∷ f)
+unfolding readAttr readOp readTwo readValue
+fields-said Key.attr f l e =
+    three-fields sourceField nameField typeField Line.attr f l e λ a b c m n o j z. rw (← z, j) (n, written (Line.attr a b c) (simp append-assoc))
+fields-said Key.op f l e = let (m, z) = named Line.op f l e in rw (← z) (m, Writes.as-written (Line.op f))
+fields-said Key.atom f l e = pair-said f l e
+fields-said Key.ugroup f l e = holder-said Sort.ugroup refl f l e
+fields-said Key.ogroup f l e = holder-said Sort.ogroup refl f l e
+fields-said Key.user f l e = holder-said Sort.user refl f l e
+fields-said Key.object f l e = holder-said Sort.object refl f l e
+fields-said Key.parent f l e =
+    both-fields nameField nameField Line.parent f l e λ a b m n j z. rw (← z, j) (both m n, written (Line.parent a b) (simp append-assoc))
+fields-said Key.member f l e =
+    both-fields nameField nameField Line.member f l e λ a b m n j z. rw (← z, j) (both m n, written (Line.member a b) (simp append-assoc))
+fields-said Key.value f l e =
+    three-fields nameField nameField atomField Line.value f l e λ a b c m n o j z.
+    rw (← z, j) (both (both m n) o, written (Line.value a b c) (simp append-assoc))
+fields-said Key.rule f l e = rule-said f l e
+
+-- bytes that write a line have a key, and the fields behind it are read as that line
+abbrev pub Keyed : Line → Bytes → Type 0
+Keyed l b = (k : Key) × (f : Bytes) × (b ≡ keyWord k ++ 61 ∷ f) × (readFields k f ≡ some l)
+
+rule-fields : (o : Bytes) (ts : List Token) (p : Bytes) → isLine (Line.rule o ts) ≡ true → Spells ts p
+    → Keyed (Line.rule o ts) (bytes "rule=" ++ o ++ bytes "," ++ p)
+rule-fields o ts p h d = (Key.rule, o ++ 44 ∷ p, simp append-assoc, rule-read o ts p h d)
+
+written-fields : (l : Line) → isLine l ≡ true → Keyed l (writeLine l)
 unfolding readAttr readOp readHolder readTwo readValue
-fields-read (Line.attr s n t) w h =
-    (Key.attr, sourceWord s ++ 44 ∷ (n ++ 44 ∷ typeWord t), simp append-assoc, reads-three sourceField nameField typeField Line.attr s n t refl h refl (source-lacks 44 refl s) (name-lacks 44 refl n h))
-fields-read (Line.op n) w h = (Key.op, n, refl, rw h)
-fields-read (Line.atom s n a) w h =
+written-fields (Line.attr s n t) h =
+    let free = source-lacks 44 refl s in
+    let read = reads-three sourceField nameField typeField Line.attr s n t refl h refl free (name-lacks 44 refl n h) in
+    (Key.attr, sourceWord s ++ 44 ∷ (n ++ 44 ∷ typeWord t), simp append-assoc, read)
+written-fields (Line.op n) h = (Key.op, n, refl, rw h)
+written-fields (Line.atom s n a) h =
     (Key.atom, sourceWord s ++ 46 ∷ n ++ 44 ∷ writeAtom a, simp append-assoc, pair-read s n a h)
-fields-read (Line.holder Sort.admin n) w h = false-is-true h
-fields-read (Line.holder Sort.ugroup n) w h = (Key.ugroup, n, refl, rw h)
-fields-read (Line.holder Sort.ogroup n) w h = (Key.ogroup, n, refl, rw h)
-fields-read (Line.holder Sort.user n) w h = (Key.user, n, refl, rw h)
-fields-read (Line.holder Sort.object n) w h = (Key.object, n, refl, rw h)
-fields-read (Line.parent c g) w h = (Key.parent, c ++ 44 ∷ g, simp append-assoc, two-read Line.parent c g h)
-fields-read (Line.member c g) w h = (Key.member, c ++ 44 ∷ g, simp append-assoc, two-read Line.member c g h)
-fields-read (Line.value o n a) w h =
+written-fields (Line.holder Sort.admin n) h = false-is-true h
+written-fields (Line.holder Sort.ugroup n) h = (Key.ugroup, n, refl, rw h)
+written-fields (Line.holder Sort.ogroup n) h = (Key.ogroup, n, refl, rw h)
+written-fields (Line.holder Sort.user n) h = (Key.user, n, refl, rw h)
+written-fields (Line.holder Sort.object n) h = (Key.object, n, refl, rw h)
+written-fields (Line.parent c g) h = (Key.parent, c ++ 44 ∷ g, simp append-assoc, two-read Line.parent c g h)
+written-fields (Line.member c g) h = (Key.member, c ++ 44 ∷ g, simp append-assoc, two-read Line.member c g h)
+written-fields (Line.value o n a) h =
     let (pq, r) = parts (isName o && isName n) (isAtom a) h in
     let (p, q) = parts (isName o) (isName n) pq in
-    (Key.value, o ++ 44 ∷ (n ++ 44 ∷ writeAtom a), simp append-assoc, reads-three nameField nameField atomField Line.value o n a p q r (name-lacks 44 refl o p) (name-lacks 44 refl n q))
-fields-read (Line.rule o ts) w h = false-is-true w
+    let read = reads-three nameField nameField atomField Line.value o n a p q r (name-lacks 44 refl o p) (name-lacks 44 refl n q) in
+    (Key.value, o ++ 44 ∷ (n ++ 44 ∷ writeAtom a), simp append-assoc, read)
+written-fields (Line.rule o ts) h = rule-fields o ts (each (λ t. bytes " " ++ spelling t) ts) h (spaced-spells ts)
+
+pub fields-read : {l : Line} {b : Bytes} → Writes l b → isLine l ≡ true → Keyed l b
+fields-read (Writes.as-written l) h = written-fields l h
+fields-read (Writes.any-spelling o {ts = ts} {p = p} d) h = rule-fields o ts p h d
 
 -- no line holds byte 10
 joined-lack : (a b : Bytes) (x : ℕ) → isnt newline x ≡ true → lacks newline a ≡ true → lacks newline b ≡ true → lacks newline (a ++ (x ∷ []) ++ b) ≡ true
 joined-lack a b x h p q = all-append (isnt newline) (a ++ x ∷ []) b (all-append (isnt newline) a (x ∷ []) p (all-cons (isnt newline) x [] h refl)) q
 
-pub line-lacks : (l : Line) → withoutPolicy l ≡ true → isLine l ≡ true → lacks newline (writeLine l) ≡ true
-line-lacks (Line.attr s n t) w h =
+rule-lacks : (o : Bytes) (ts : List Token) (p : Bytes) → isLine (Line.rule o ts) ≡ true → Spells ts p
+    → lacks newline (bytes "rule=" ++ o ++ bytes "," ++ p) ≡ true
+rule-lacks o ts p h d =
+    let (ab, c) = parts (isName o && all isToken ts) (not (isNone (readPolicy ts))) h in
+    let (a, b) = parts (isName o) (all isToken ts) ab in
+    joined-lack o p 44 refl (name-lacks newline refl o a) (spells-lack d b)
+
+line-lacks : (l : Line) → isLine l ≡ true → lacks newline (writeLine l) ≡ true
+line-lacks (Line.attr s n t) h =
     joined-lack (sourceWord s ++ bytes "," ++ n) (typeWord t) 44 refl (joined-lack (sourceWord s) n 44 refl (source-lacks newline refl s) (name-lacks newline refl n h)) (type-lacks newline refl t)
-line-lacks (Line.op n) w h = name-lacks newline refl n h
-line-lacks (Line.atom s n a) w h =
+line-lacks (Line.op n) h = name-lacks newline refl n h
+line-lacks (Line.atom s n a) h =
     let (p, q) = parts (isName n) (isAtom a) h in
     joined-lack (sourceWord s ++ bytes "." ++ n) (writeAtom a) 44 refl (joined-lack (sourceWord s) n 46 refl (source-lacks newline refl s) (name-lacks newline refl n p)) (atom-lacks a q)
-line-lacks (Line.holder s n) w h =
+line-lacks (Line.holder s n) h =
     joined-lack (sortWord s) n 61 refl (sort-lacks newline refl s) (name-lacks newline refl n (parts (not (isSort s Sort.admin)) (isName n) h .1))
-line-lacks (Line.parent c g) w h =
+line-lacks (Line.parent c g) h =
     let (p, q) = parts (isName c) (isName g) h in
     joined-lack c g 44 refl (name-lacks newline refl c p) (name-lacks newline refl g q)
-line-lacks (Line.member c g) w h =
+line-lacks (Line.member c g) h =
     let (p, q) = parts (isName c) (isName g) h in
     joined-lack c g 44 refl (name-lacks newline refl c p) (name-lacks newline refl g q)
-line-lacks (Line.value o n a) w h =
+line-lacks (Line.value o n a) h =
     let (pq, r) = parts (isName o && isName n) (isAtom a) h in
     let (p, q) = parts (isName o) (isName n) pq in
     joined-lack (o ++ bytes "," ++ n) (writeAtom a) 44 refl (joined-lack o n 44 refl (name-lacks newline refl o p) (name-lacks newline refl n q)) (atom-lacks a r)
-line-lacks (Line.rule o ts) w h = false-is-true w
+line-lacks (Line.rule o ts) h = rule-lacks o ts (each (λ t. bytes " " ++ spelling t) ts) h (spaced-spells ts)
 
--- reading bytes gives a line exactly when the bytes are that line's writing, of at most 255 bytes, and byte 10
-pub line-exact : (l : Line) → withoutPolicy l ≡ true → (s : Bytes)
-    → (readLine s ≡ some l) ↔ ((isLine l ≡ true) × (leb (length (writeLine l)) lineBytes ≡ true) × (s ≡ writeLine l ++ newline ∷ []))
-unfolding readLine framed
-line-exact l w s = (sound, λ h. rw (h .2) (complete (h .0) (h .1)))
+pub writes-lack : {l : Line} {b : Bytes} → Writes l b → isLine l ≡ true → lacks newline b ≡ true
+writes-lack (Writes.as-written l) h = line-lacks l h
+writes-lack (Writes.any-spelling o {ts = ts} {p = p} d) h = rule-lacks o ts p h d
+
+-- what stands behind a key and its equals sign holds no byte 10
+fields-lack : (k : Key) (f b : Bytes) → b ≡ keyWord k ++ 61 ∷ f → lacks newline b ≡ true → lacks newline f ≡ true
+fields-lack k f b e h = behind-key (keyWord k) (rw e at h)
   where
-    sound : readLine s ≡ some l → (isLine l ≡ true) × (leb (length (writeLine l)) lineBytes ≡ true) × (s ≡ writeLine l ++ newline ∷ [])
+    behind-key : (w : Bytes) → lacks newline (w ++ 61 ∷ f) ≡ true → lacks newline f ≡ true
+    behind-key [] h = h
+    behind-key (x ∷ w) h = behind-key w (all-parts (isnt newline) x (w ++ 61 ∷ f) h .1)
+
+-- bytes are framed exactly when they are a known key, an equals sign and fields, at most 255 bytes together, and byte 10
+pub framed-exact : (s : Bytes) (k : Key) (f : Bytes)
+    → (framed s ≡ some (k, f)) ↔ ((lacks newline f ≡ true) × (length (keyWord k ++ 61 ∷ f) ≤ lineBytes) × (s ≡ keyWord k ++ 61 ∷ f ++ newline ∷ []))
+unfolding framed
+framed-exact s k f = (sound, λ (h, short, j). rw j (complete h short))
+  where
+    sound : framed s ≡ some (k, f) → (lacks newline f ≡ true) × (length (keyWord k ++ 61 ∷ f) ≤ lineBytes) × (s ≡ keyWord k ++ 61 ∷ f ++ newline ∷ [])
     sound e =
-        bound {o = framed s} e λ c p q.
-        bound {o = content s} p λ b h j.
-        bound {o = onlyIf (leb (length b) lineBytes) b} j λ b′ g k.
+        bound {o = content s} e λ b p q.
+        bound {o = onlyIf (leb (length b) lineBytes) b} q λ c g i.
         let (short, same) = condition {t = leb (length b) lineBytes} {a = b} g in
-        let (m, said) = fields-said (c .0) (c .1) l q in
-        let written : b ≡ writeLine l = same ∙ keyed-exact b′ (c .0) (c .1) .0 k ∙ said w in
-        (m, rw written at short, content-exact s b .0 h .1 ∙ ap (λ (x : Bytes). x ++ newline ∷ []) written)
+        let (free, j) = content-exact s b .0 p in
+        let keyed : b ≡ keyWord k ++ 61 ∷ f = same ∙ keyed-exact c k f .0 i in
+        (fields-lack k f b keyed free, rw keyed at (leb-true (length b) lineBytes short), j ∙ ap (λ (x : Bytes). x ++ newline ∷ []) keyed)
 
-    complete : isLine l ≡ true → leb (length (writeLine l)) lineBytes ≡ true → readLine (writeLine l ++ newline ∷ []) ≡ some l
+    complete : lacks newline f ≡ true → length (keyWord k ++ 61 ∷ f) ≤ lineBytes → framed (keyWord k ++ 61 ∷ f ++ newline ∷ []) ≡ some (k, f)
     complete h short =
-        let (k, f, u, v) = fields-read l w h in
-        rw (content-exact (writeLine l ++ newline ∷ []) (writeLine l) .1 (line-lacks l w h, refl), short, keyed-exact (writeLine l) k f .1 u, v)
+        let b = keyWord k ++ 61 ∷ f in
+        let free = all-append (isnt newline) (keyWord k) (61 ∷ f) (key-lacks newline refl k) h in
+        rw (content-exact (b ++ newline ∷ []) b .1 (free, refl), le-leb (length b) lineBytes short, keyed-exact b k f .1 refl)
 
--- what is read as a line is well formed
-pub line-formed : (s : Bytes) (l : Line) → readLine s ≡ some l → isLine l ≡ true
+-- reading bytes gives a line exactly when its names, atoms and policy are well formed, and the bytes are a writing of it, of at most 255 bytes,
+-- and byte 10
+pub line-exact : (s : Bytes) (l : Line)
+    → (readLine s ≡ some l) ↔ ((isLine l ≡ true) × (b : Bytes) × Writes l b × (length b ≤ lineBytes) × (s ≡ b ++ newline ∷ []))
 unfolding readLine
-line-formed s l e = bound {o = framed s} e λ c p q. fields-said (c .0) (c .1) l q .0
+line-exact s l = (sound, λ (h, b, w, short, j). rw j (complete b w h short))
+  where
+    sound : readLine s ≡ some l → (isLine l ≡ true) × (b : Bytes) × Writes l b × (length b ≤ lineBytes) × (s ≡ b ++ newline ∷ [])
+    sound e = bound {o = framed s} e λ (k, f) p q.
+        let (free, short, j) = framed-exact s k f .0 p in
+        let (m, w) = fields-said k f l q in
+        (m, keyWord k ++ 61 ∷ f, w, short, j)
+
+    complete : (b : Bytes) → Writes l b → isLine l ≡ true → length b ≤ lineBytes → readLine (b ++ newline ∷ []) ≡ some l
+    complete b w h short =
+        let (k, f, u, v) = fields-read w h in
+        let j = ap (λ (x : Bytes). x ++ newline ∷ []) u in
+        rw (framed-exact (b ++ newline ∷ []) k f .1 (fields-lack k f b u (writes-lack w h), rw u at short, j), v)
+
+pub line-formed : (s : Bytes) (l : Line) → readLine s ≡ some l → isLine l ≡ true
+line-formed s l e = line-exact s l .0 e .0
+
+-- what is written is read back
+pub written-read : (l : Line) → isLine l ≡ true → length (writeLine l) ≤ lineBytes → readLine (writeLine l ++ newline ∷ []) ≡ some l
+written-read l h short = line-exact (writeLine l ++ newline ∷ []) l .1 (h, writeLine l, Writes.as-written l, short, refl)

@@ -11,7 +11,7 @@ use Rattle.model.specs.Names.{isName, readName}
 use Rattle.model.specs.Attributes.{Source, AtomType, sourceWord, typeWord, readSource, readType}
 use Rattle.model.specs.Atoms.{Atom, readAtom, writeAtom, isAtom}
 use Rattle.model.specs.Keys.{Key, readKey}
-use Rattle.model.specs.Tokens.{Token, spelling, isToken, tokensOf}
+use Rattle.model.specs.Tokens.{Token, spelling, isToken, tokensOf, Spells}
 use Rattle.model.specs.Grammar.{readPolicy}
 use Rattle.model.specs.Declarations.{Sort, sortWord, isSort}
 
@@ -131,3 +131,8 @@ isLine (parent c g) = isName c && isName g
 isLine (member p g) = isName p && isName g
 isLine (value h n a) = isName h && isName n && isAtom a
 isLine (rule o ts) = isName o && all isToken ts && not (isNone (readPolicy ts))
+
+-- Writes l b: the bytes b, without byte 10, write the line l. Any spelling of its tokens may stand for the policy of a rule
+pub data Writes : Line → Bytes → Type 0 where
+  as-written : (l : Line) → Writes l (writeLine l)
+  any-spelling : (o : Bytes) {ts : List Token} {p : Bytes} → Spells ts p → Writes (rule o ts) (bytes "rule=" ++ o ++ bytes "," ++ p)

@@ -174,14 +174,16 @@ tokensWithin (suc n) (x ∷ xs) =
 unfoldable pub tokensOf : Bytes → Option (List Token)
 tokensOf s = tokensWithin (length s) s
 
--- "A run of letters, digits, `_` and `.` is one word"
+-- whether a token is a word: "A run of letters, digits, `_` and `.` is one word"
 abbrev pub isWord : Token → Bool
 isWord t = all wordByte (spelling t)
 
+-- whether a token is that operator
 abbrev pub isOperator : Operator → Token → Bool
 isOperator o t = asOperator t is λ p. same (operatorWord o) (operatorWord p)
 
--- two tokens that may stand side by side: two words would be one word, and `<` or `>` before `=` one operator, as "operators are read longest first"
+-- two tokens that may stand without byte 32 between them: two words would be one word, and `<` or `>` before `=` would be one operator,
+-- as "operators are read longest first"
 abbrev pub mayTouch : Token → Token → Bool
 mayTouch t u = not (isWord t && isWord u) && not ((isOperator less t || isOperator greater t) && isOperator equal u)
 
@@ -189,7 +191,7 @@ abbrev pub beginsWithSpace : Bytes → Bool
 beginsWithSpace [] = false
 beginsWithSpace (x ∷ s) = isByte " " x
 
--- what may stand behind a token: the bytes s, which spell the tokens given
+-- whether a token may stand right before bytes that spell tokens: those that may not touch are parted by byte 32
 abbrev pub mayFollow : Token → List Token → Bytes → Bool
 mayFollow t [] s = true
 mayFollow t (u ∷ ts) s = mayTouch t u || beginsWithSpace s
