@@ -1,5 +1,5 @@
 -- Lists with more at the end: what had a number keeps it, what is found is found, and what holds of each holds of one more. Assumes nothing.
-use Prim.Native.Nat.{ℕ, zero, suc, _+_, _≤_, _<_}
+use Prim.Native.Nat.{ℕ, zero, suc, _≤_}
 use mathlib.Core.Path.{_≡_, refl, sym, ap, _∙_}
 use mathlib.Core.Logic.{_⊎_, inl, inr, ⊎-elim}
 use mathlib.Core.Bool.{Bool, true, false, true≢false}
@@ -9,7 +9,7 @@ use native.Mathlib.Omega.{arith}
 use lib.ListN.{length, length-append}
 use lib.Dec.{leb}
 use borrow.Author.Tests.{leb-false}
-use Rattle.model.specs.Notation.{if_then_else_, _>>=_, any, count, place, nth}
+use Rattle.model.specs.Notation.{if_then_else_, _>>=_, any, place, nth}
 use Rattle.model.specs.Standing.{Each, Unique}
 use Rattle.model.proofs.Words.{none-is-some}
 
@@ -63,18 +63,6 @@ module _ {A : Type 0} where
       go : (t : Bool) → p x ≡ t → (if t then true else any p xs) ≡ false → (any p xs ≡ false → any q xs ≡ false) → (if q x then true else any q xs) ≡ false
       go true h g more = absurd (true≢false g)
       go false h g more = rw (f x h) (more g)
-
-  pub count-last : (p : A → Bool) (xs : List A) (x : A) → count p (xs ++ x ∷ []) ≡ count p xs + (if p x then 1 else 0)
-  count-last p [] x = go (p x)
-    where
-      go : (t : Bool) → (if t then 1 else 0) ≡ 0 + (if t then 1 else 0)
-      go true = refl
-      go false = refl
-  count-last p (y ∷ xs) x = go (p y) (count p (xs ++ x ∷ [])) (count p xs) (if p x then 1 else 0) (count-last p xs x)
-    where
-      go : (t : Bool) (a b c : ℕ) → a ≡ b + c → (if t then suc a else a) ≡ (if t then suc b else b) + c
-      go true a b c e = omega arith
-      go false a b c e = e
 
 -- there is room for one more
 pub one-longer : {A : Type 0} (n : ℕ) (xs : List A) (x : A) → leb n (length xs) ≡ false → length (xs ++ x ∷ []) ≤ n

@@ -47,3 +47,9 @@ pub mod Ledger
 pub mod Reached
 pub mod Gate
 pub mod Fallbacks
+-- The numbers a caller may meet.
+pub mod Refusals
+pub mod Accepted
+pub mod Loads
+pub mod Circles
+pub mod Full

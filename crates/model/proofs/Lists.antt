@@ -8,7 +8,7 @@ use mathlib.Core.Option.{Option, none, some, Option·some-injective}
 use native.Mathlib.Omega.{arith}
 use native.Mathlib.Nat.{add-zero, add-suc, suc-add, eq-or-lt-of-le}
 use lib.ListN.{length, length-append}
-use Rattle.model.specs.Notation.{_>>=_, isEmpty, any, all, filter, count, place, nth, numberedFrom, map, below}
+use Rattle.model.specs.Notation.{if_then_else_, _>>=_, isEmpty, any, all, filter, count, place, nth, numberedFrom, map, below}
 use Rattle.model.proofs.Words.{false-is-true, none-is-some}
 
 -- membership
@@ -116,6 +116,20 @@ module _ {A : Type 0} where
       go true a false b h = absurd (true≢false (sym (f x a) ∙ b))
       go false a true b h = omega arith
       go false a false b h = h
+
+  -- one more at the end
+  pub count-last : (p : A → Bool) (xs : List A) (x : A) → count p (xs ++ x ∷ []) ≡ count p xs + (if p x then 1 else 0)
+  count-last p [] x = go (p x)
+    where
+      go : (t : Bool) → (if t then 1 else 0) ≡ 0 + (if t then 1 else 0)
+      go true = omega arith
+      go false = omega arith
+  count-last p (y ∷ xs) x = go (p y) (count-last p xs x)
+    where
+      go : (t : Bool) → count p (xs ++ x ∷ []) ≡ count p xs + (if p x then 1 else 0)
+          → (if t then suc (count p (xs ++ x ∷ [])) else count p (xs ++ x ∷ [])) ≡ (if t then suc (count p xs) else count p xs) + (if p x then 1 else 0)
+      go true h = omega arith
+      go false h = h
 
   -- one more passes: one that did not before
   pub count-more : (p q : A → Bool) {xs : List A} {y : A} → ((x : A) → p x ≡ true → q x ≡ true) → y ∈ xs → p y ≡ false → q y ≡ true → count p xs < count q xs

@@ -1,8 +1,8 @@
 -- What partial results and tests say: results that come from steps, choices and conditions.
 use mathlib.Core.Path.{_≡_, refl, sym, ap, _∙_}
-use mathlib.Core.Bool.{Bool, true, false, _&&_}
+use mathlib.Core.Bool.{Bool, true, false, _&&_, true≢false}
 use mathlib.Core.Option.{Option, none, some, Option·some-injective}
-use Rattle.model.specs.Notation.{_>>=_, _or-else_, _is_, onlyIf}
+use Rattle.model.specs.Notation.{_>>=_, _or-else_, _is_, isNone, onlyIf}
 use Rattle.model.proofs.Words.{false-is-true, none-is-some}
 
 -- a conjunction and its parts
@@ -49,3 +49,8 @@ is-some (some a) p e = (a, refl, e)
 
 pub some-not : {A : Type 0} (o : Option A) (p : A → Bool) → (o is p) ≡ false → (a : A) → o ≡ some a → p a ≡ false
 some-not {A} o p e a q = ap (λ (x : Option A). x is p) (sym q) ∙ e
+
+-- a result that is not missing
+pub is-there : {A : Type 0} (o : Option A) → isNone o ≡ false → (a : A) × (o ≡ some a)
+is-there none e = absurd (true≢false e)
+is-there (some a) e = (a, refl)

@@ -1,13 +1,13 @@
 -- Sets of ties with one more and one less. Assumes nothing.
 use Prim.Native.Nat.{ℕ}
-use mathlib.Core.Path.{_≡_, sym, ap, ap₂}
+use mathlib.Core.Path.{_≡_, refl, sym, ap, ap₂}
 use mathlib.Core.Logic.{_⊎_, inl, inr, ⊎-elim}
 use mathlib.Core.Bool.{true, false, not}
 use lib.Dec.{eqb}
-use borrow.Author.Tests.{eqb-true}
+use borrow.Author.Tests.{eq-eqb, eqb-true}
 use Rattle.model.specs.Ties.{Tie, Ties, edited, sameTie, added, removed, up}
 use Rattle.model.proofs.Words.{false-is-true}
-use Rattle.model.proofs.Options.{parts}
+use Rattle.model.proofs.Options.{parts, both}
 use Rattle.model.proofs.Lists.{true-or-false, or-cases, or-left, or-right}
 
 pub same-tie : (t u : Tie) → sameTie t u ≡ true → t ≡ u
@@ -20,6 +20,11 @@ same-tie (Tie.member a b) (Tie.value c d) e = false-is-true e
 same-tie (Tie.value a b) (Tie.parent c d) e = false-is-true e
 same-tie (Tie.value a b) (Tie.member c d) e = false-is-true e
 same-tie (Tie.value a b) (Tie.value c d) e = ap₂ Tie.value (eqb-true a c (parts (eqb a c) (eqb b d) e .0)) (eqb-true b d (parts (eqb a c) (eqb b d) e .1))
+
+pub tie-refl : (t : Tie) → sameTie t t ≡ true
+tie-refl (Tie.parent a b) = both (eq-eqb a a refl) (eq-eqb b b refl)
+tie-refl (Tie.member a b) = both (eq-eqb a a refl) (eq-eqb b b refl)
+tie-refl (Tie.value a b) = both (eq-eqb a a refl) (eq-eqb b b refl)
 
 -- a tie of another holder is another tie
 pub other-tie : (t u : Tie) → (edited u ≡ edited t → ⊥) → sameTie t u ≡ false
