@@ -1,5 +1,5 @@
 -- Which number a line, an edit or a request meets: that of the first condition listed that holds. Assumes nothing.
-use Prim.Native.Nat.{ℕ}
+use Prim.Native.Nat.{ℕ, _<_}
 use mathlib.Core.Path.{_≡_, refl, sym, ap, _∙_}
 use mathlib.Core.Logic.{_↔_}
 use mathlib.Core.Bool.{Bool, true, false, _&&_, _||_, not, true≢false}
@@ -22,7 +22,7 @@ use Rattle.model.proofs.Lists.{or-left, or-right}
 use Rattle.model.proofs.Tests.{NoneHolds, allNumbered, none-holds, accepted}
 use Rattle.model.proofs.Ledger.{edit-number}
 
--- "Lower numbers win": n wins among these tests. Its condition holds, and none listed before it does
+-- n wins among these tests: its condition holds, and none listed before it does
 pub record Wins (tests : List Test) (n : ℕ) : Type 0 where
   pub before : List Test
   pub after : List Test
@@ -102,6 +102,38 @@ condition-fails ((m if b) ∷ tests) h n = go (eqb m n) (condition-fails tests (
     go true e = h .0
     go false e = e
 
+-- ---- the order of numbers
+
+-- tests listed in the order that `order` gives their numbers
+module _ (order : ℕ → ℕ) where
+  abbrev allAfter : ℕ → List Test → Bool
+  allAfter k [] = true
+  allAfter k ((m if b) ∷ tests) = ltb (order k) (order m) && allAfter k tests
+
+  abbrev inOrder : List Test → Bool
+  inOrder [] = true
+  inOrder ((m if b) ∷ tests) = allAfter m tests && inOrder tests
+
+  -- what comes earlier than k is not listed behind it
+  earlier-unlisted : (tests : List Test) (k m : ℕ) → allAfter k tests ≡ true → order m < order k → conditionOf m tests ≡ false
+  earlier-unlisted [] k m a l = refl
+  earlier-unlisted ((j if b) ∷ tests) k m a l =
+      let (after-k, rest) = parts (ltb (order k) (order j)) (allAfter k tests) a in
+      let other : j ≡ m → ⊥ = λ q. omega (arith, ltb-true (order k) (order j) after-k, ap order q) in
+      rw (ne-eqb j m other) (earlier-unlisted tests k m rest l)
+
+  earlier-fails : (tests : List Test) → inOrder tests ≡ true → (n : ℕ) → first tests ≡ n → (n ≡ 0 → ⊥) → (m : ℕ) → order m < order n
+      → conditionOf m tests ≡ false
+  earlier-fails [] o n e z m l = absurd (z (sym e))
+  earlier-fails ((k if true) ∷ tests) o n e z m l =
+      let other : k ≡ m → ⊥ = λ q. omega (arith, ap order e, ap order q) in
+      rw (ne-eqb k m other) (earlier-unlisted tests k m (parts (allAfter k tests) (inOrder tests) o .0) (omega (arith, ap order e)))
+  earlier-fails ((k if false) ∷ tests) o n e z m l = go (eqb k m) (earlier-fails tests (parts (allAfter k tests) (inOrder tests) o .1) n e z m l)
+    where
+      go : (c : Bool) → conditionOf m tests ≡ false → (if c then false else conditionOf m tests) ≡ false
+      go true e = refl
+      go false e = e
+
 -- ---- lines of a file, edits and requests
 
 pub line-refused : (S : State) (previous : Option Key) (line : Bytes) (n : ℕ)
@@ -113,12 +145,19 @@ pub line-accepted : (S : State) (previous : Option Key) (line : Bytes) → (line
 unfolding lineRefusal
 line-accepted S previous line = (none-holds (lineTests S previous line) refl, accepted (lineTests S previous line))
 
--- the condition of the number that a line is answered, and those of a line that is accepted
+-- the condition of the number that is answered holds
 pub line-met : (S : State) (previous : Option Key) (line : Bytes) (n : ℕ) → lineRefusal S previous line ≡ n → (n ≡ 0 → ⊥)
     → conditionOf n (lineTests S previous line) ≡ true
 unfolding lineRefusal
 line-met S previous line n e z = condition-holds (lineTests S previous line) refl n e z
 
+-- "Lower numbers win within a line or call"
+pub line-lower-wins : (S : State) (previous : Option Key) (line : Bytes) (n : ℕ) → lineRefusal S previous line ≡ n → (n ≡ 0 → ⊥)
+    → (m : ℕ) → m < n → conditionOf m (lineTests S previous line) ≡ false
+unfolding lineRefusal
+line-lower-wins S previous line n e z m l = earlier-fails (λ k. k) (lineTests S previous line) refl n e z m l
+
+-- an accepted line meets no condition
 pub line-unmet : (S : State) (previous : Option Key) (line : Bytes) → lineRefusal S previous line ≡ 0 → (n : ℕ)
     → conditionOf n (lineTests S previous line) ≡ false
 line-unmet S previous line e n = condition-fails (lineTests S previous line) (line-accepted S previous line .0 e) n
@@ -139,6 +178,15 @@ edit-accepted S line = (
 pub edit-met : (S : State) (line : Bytes) (n : ℕ) → edit S line .number ≡ n → (n ≡ 0 → ⊥) → conditionOf n (editTests S line) ≡ true
 unfolding editRefusal
 edit-met S line n e z = condition-holds (editTests S line) refl n (sym (edit-number S line) ∙ e) z
+
+-- "13: … comes after 4, before the rest": as if it were 5, which no edit meets
+abbrev pub editOrder : ℕ → ℕ
+editOrder n = if eqb n 13 then 5 else n
+
+pub edit-lower-wins : (S : State) (line : Bytes) (n : ℕ) → edit S line .number ≡ n → (n ≡ 0 → ⊥)
+    → (m : ℕ) → editOrder m < editOrder n → conditionOf m (editTests S line) ≡ false
+unfolding editRefusal
+edit-lower-wins S line n e z m l = earlier-fails editOrder (editTests S line) refl n (sym (edit-number S line) ∙ e) z m l
 
 pub edit-unmet : (S : State) (line : Bytes) → edit S line .number ≡ 0 → (n : ℕ) → conditionOf n (editTests S line) ≡ false
 edit-unmet S line e n = condition-fails (editTests S line) (edit-accepted S line .0 e) n
@@ -178,6 +226,17 @@ request-refused S block n = (λ e. out (eqb r 0) refl e, λ v. into (w .1 v))
 
     into : (r ≡ n) × (n ≡ 0 → ⊥) → (if eqb r 0 then judged S (readBlock block) else refused r) ≡ refused n
     into a = rw (ne-eqb r 0 (λ z. a .1 (sym (a .0) ∙ z))) (ap refused (a .0))
+
+pub request-met : (S : State) (block : Bytes) (n : ℕ) → decide S block ≡ refused n → conditionOf n (requestTests S block) ≡ true
+request-met S block n e =
+    let (f, z) = answer-wins (requestTests S block) refl n .1 (request-refused S block n .0 e) in
+    condition-holds (requestTests S block) refl n f z
+
+pub request-lower-wins : (S : State) (block : Bytes) (n : ℕ) → decide S block ≡ refused n
+    → (m : ℕ) → m < n → conditionOf m (requestTests S block) ≡ false
+request-lower-wins S block n e m l =
+    let (f, z) = answer-wins (requestTests S block) refl n .1 (request-refused S block n .0 e) in
+    earlier-fails (λ k. k) (requestTests S block) refl n f z m l
 
 -- a request that meets none of them gets the decision of the rules
 pub request-accepted : (S : State) (block : Bytes)
