@@ -13,7 +13,7 @@ use lib.Pow.{shr-lt}
 use lib.Dec.{eqb}
 use lib.ListN.{getD}
 use Rattle.model.specs.Notation.{any, count, below}
-use Rattle.model.proofs.Lists.{or-none}
+use Rattle.model.proofs.Lists.{or-none, any-in, in-any, in-below, below-in}
 use Rattle.bits.specs.Bits.{odd, bit, member, anyBelow, countBelow}
 use Rattle.bits.proofs.Bits.{bit-zero, bit-suc}
 
@@ -71,6 +71,15 @@ pub any-at : (n : ℕ) (f : ℕ → Bool) → ((i : ℕ) → i < n → f i ≡ f
 unfolding anyBelow
 any-at zero f e = refl
 any-at (suc n) f e = any-suc n f ∙ ap₂ (λ (a b : Bool). a || b) (any-at n f (λ i h. e i (omega arith))) (e n (omega arith))
+
+-- some number below n passes exactly when there is one
+pub any-find : (n : ℕ) (f : ℕ → Bool) → anyBelow n f ≡ true → (i : ℕ) × (i < n) × (f i ≡ true)
+unfolding anyBelow
+any-find n f e = let r = any-in f (below n) e in (r .0, in-below n (r .1), r .2)
+
+pub find-any : (n : ℕ) (f : ℕ → Bool) (i : ℕ) → i < n → f i ≡ true → anyBelow n f ≡ true
+unfolding anyBelow
+find-any n f i h e = in-any f (below-in n i h) e
 
 -- ---- how many
 

@@ -60,7 +60,7 @@ stored4 s a b c d h =
 -- the word of number k is stored anew
 module _ (m : List ℕ) (k v : ℕ) (within : k < 64 * length m) where
   -- the word of number i is that word, or another
-  member-stored : (f : Bool → Bool → Bool) → ((b : Bool) → f b false ≡ b) → ((j : ℕ) → bit v j ≡ f (bit (getD m (k / 64) 0) j) (eqb j (k % 64)))
+  pub member-stored : (f : Bool → Bool → Bool) → ((b : Bool) → f b false ≡ b) → ((j : ℕ) → bit v j ≡ f (bit (getD m (k / 64) 0) j) (eqb j (k % 64)))
       → (i : ℕ) → Dec (i / 64 ≡ k / 64) → member (set m (k / 64) v) i ≡ f (member m i) (eqb i k)
   unfolding member
   member-stored f same one i (yes e) =

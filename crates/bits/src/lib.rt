@@ -2,9 +2,10 @@
 ghost use mathlib.Core.Path.{_≡_};
 ghost use mathlib.Core.Bool.{_||_, _&&_, not};
 ghost use Prim.Native.Nat.{ℕ, _*_, _<_, _≤_};
-ghost use lib.Dec.{eqb};
+ghost use lib.Dec.{eqb, leb};
 ghost use lib.ListN.{length};
 ghost use Rattle.bits.specs.Bits.{bit, member, Bits, Numbers, differ, countBelow};
+ghost use Rattle.bits.specs.Lowest.{Lowest, FirstFrom};
 
 // Whether bit i of w is set.
 pub fn has(w: u64, i: usize) -> bool
@@ -28,6 +29,21 @@ pub fn without(w: u64, i: usize) -> u64
     ensures { λ r. ⌜ Bits r (λ j. bit w j && not (eqb j i)) ⌝ }
 {
     w & !(1 << i)
+}
+
+// The lowest bit of w that is set, 64 where none is. A walk over the bits of a word takes the lowest of those that are left, and goes on without it.
+pub fn lowest(w: u64) -> usize
+    ensures { λ r. ⌜ Lowest w r ⌝ }
+{
+    u64::trailing_zeros(w) as usize
+}
+
+// The bits of w from i on.
+pub fn from(w: u64, i: usize) -> u64
+    requires { ⌜ i < 64 ⌝ }
+    ensures { λ r. ⌜ Bits r (λ j. bit w j && leb i j) ⌝ }
+{
+    (w >> i) << i
 }
 
 // Whether a set holds p.
@@ -59,6 +75,36 @@ pub fn remove(set: &mut [u64], p: usize)
     let word = set[at];
     let next = without(word, p % 64);
     set[at] = next;
+}
+
+// The lowest number in the words of a set from word k on, that behind all its words where there is none.
+fn first_word(set: &[u64], k: usize) -> usize
+    requires { ⌜ length (now set) ≤ 65536 ⌝ }
+    ensures { λ r. ⌜ FirstFrom (now (set .entry)) (64 * k) r ⌝ }
+{
+    for at in k..set.len() {
+        let word = set[at];
+        if word != 0 {
+            return 64 * at + lowest(word);
+        }
+    }
+    64 * set.len()
+}
+
+// The lowest number from i on that a set holds, that behind all its words where there is none.
+pub fn first_from(set: &[u64], i: usize) -> usize
+    requires { ⌜ length (now set) ≤ 65536 ⌝ }
+    ensures { λ r. ⌜ FirstFrom (now (set .entry)) i r ⌝ }
+{
+    let at = i / 64;
+    if at >= set.len() {
+        return 64 * set.len();
+    }
+    let word = from(set[at], i % 64);
+    if word != 0 {
+        return 64 * at + lowest(word);
+    }
+    first_word(set, at + 1)
 }
 
 // The numbers of either of two sets of four words.

@@ -1,10 +1,11 @@
 -- A line or an edit that is accepted keeps a state standing: declarations well declared, ties acyclic and between declared holders and pairs.
 -- Assumes nothing.
-use Prim.Native.Nat.{ℕ, _≤_, _<_}
+use Prim.Native.Nat.{ℕ, zero, suc, _≤_, _<_}
 use mathlib.Core.Path.{_≡_, refl, sym, ap, subst, _∙_}
 use mathlib.Core.Logic.{_⊎_, inl, inr, ⊎-elim}
 use mathlib.Core.Bool.{true, false, _&&_, not, true≢false}
 use mathlib.Core.Option.{Option, none, some, Option·some-injective}
+use native.Mathlib.Decide.{decLt}
 use native.Mathlib.Omega.{arith}
 use lib.ListN.{length}
 use borrow.Author.Tests.{not-false}
@@ -21,7 +22,7 @@ use Rattle.model.specs.Refusals.{fits, wrongSort, tieCloses, circular}
 use Rattle.model.specs.Standing.{SortsFit, PairFits, TieFits, WellDeclared, Standing}
 use Rattle.model.proofs.Words.{none-is-some, false-is-true, same-word, reads-source, reads-sort, sorts}
 use Rattle.model.proofs.Options.{parts, bind-some, is-some}
-use Rattle.model.proofs.Lists.{_∈_, or-cases, or-left, or-right, nth-lt, lt-nth, nth-append, place-nth, below-in, length-below}
+use Rattle.model.proofs.Lists.{_∈_, or-cases, or-left, or-right, nth-lt, lt-nth, nth-append, place-nth, in-below, below-in, length-below}
 use Rattle.model.proofs.Ties.{added-cases, removed-stood, up-added}
 use Rattle.model.proofs.Declared.{Acceptable, declare-well, nothing-well}
 use Rattle.model.proofs.Chains.{Among, first-tie, last-tie, AtOrBelow, still-acyclic, parent-acyclic, fewer-acyclic}
@@ -291,3 +292,22 @@ holder-none D k h = go (nth (D .holders) k) refl
     go : (o : Option Holder) → nth (D .holders) k ≡ o → not (isNone o) ≡ false
     go none e = refl
     go (some x) e = absurd (omega (arith, nth-lt (D .holders) k e))
+
+pub holder-below : (D : Declarations) (k : ℕ) → k ∈ holderNumbersOf D → isHolder D k ≡ true
+unfolding holderNumbersOf
+holder-below D k m = holder-lt D k (in-below (length (D .holders)) m)
+
+-- room for the number of each holder is room for as many as there are
+pub room-length : (D : Declarations) (n : ℕ) → ((k : ℕ) → isHolder D k ≡ true → k < n) → length (D .holders) ≤ n
+room-length D n room = go (length (D .holders)) refl
+  where
+    go : (m : ℕ) → length (D .holders) ≡ m → length (D .holders) ≤ n
+    go zero e = omega arith
+    go (suc m) e = omega (arith, room m (holder-lt D m (omega arith)))
+
+pub length-room : (D : Declarations) (n : ℕ) → length (D .holders) ≤ n → (k : ℕ) → isHolder D k ≡ true → k < n
+length-room D n few k h = go (decLt k (length (D .holders)))
+  where
+    go : Dec (k < length (D .holders)) → k < n
+    go (yes l) = omega arith
+    go (no l) = absurd (true≢false (sym h ∙ holder-none D k (omega arith)))

@@ -1,32 +1,30 @@
 -- How settled groups and stored sets add up. Assumes nothing.
-use Prim.Native.Nat.{ℕ, zero, suc, _+_, _-_, _*_, _<_, _≤_}
+use Prim.Native.Nat.{ℕ, zero, suc, _+_, _-_, _*_, _/_, _<_, _≤_}
 use mathlib.Core.Path.{_≡_, refl, sym, ap, _∙_, subst}
 use mathlib.Core.Logic.{_⊎_, inl, inr, ⊎-elim}
-use mathlib.Core.Bool.{Bool, true, false, _&&_, _||_, or-true, true≢false}
+use mathlib.Core.Bool.{Bool, true, false, not, _&&_, _||_, or-true, or-false, and-true, true≢false}
 use mathlib.Core.List.{List}
-use native.Mathlib.Nat.{eq-or-lt-of-le}
-use native.Mathlib.Decide.{ℕ-discrete}
+use native.Mathlib.Decide.{ℕ-discrete, decLt}
 use native.Mathlib.Numerals.{sub-one}
 use native.Mathlib.Omega.{arith}
-use lib.ListN.{getD, length}
+use lib.ListN.{getD, length, List·getD-eq-default}
 use lib.Dec.{eqb}
-use borrow.Author.Tests.{eq-eqb, eqb-true}
+use borrow.Author.Tests.{eq-eqb, eqb-true, ne-eqb}
+use Rattle.model.proofs.Options.{parts, both}
 use Rattle.model.proofs.Lists.{or-cases}
-use Rattle.bits.specs.Bits.{bit, member, holds}
-use Rattle.bits.proofs.Counts.{any-ext}
+use Rattle.bits.specs.Bits.{bit, member, holds, anyBelow}
+use Rattle.bits.proofs.Counts.{any-ext, any-find, find-any}
 use Rattle.bits.proofs.Bits.{bit-none}
-use Rattle.ties.specs.Ties.{inUse, tied}
+use Rattle.ties.specs.TieArrays.{inUse, tied, Distinct}
 use Rattle.ties.proofs.Masks.{in-use-lt}
-use Rattle.sets.specs.Settled.{Solves, RightAt, Right, Stored, Depth, Chain, one, more, Deep, Settled, AllDeep, GroupsRight, NoGroups, StoredEach}
+use Rattle.sets.specs.Settled.{Solves, RightAt, Right, Stored, ShortChains, Chain, one, more, Deep, Settled, Spared, AllDeep, GroupsRight, NoGroups, Told, StoredEach}
 use Rattle.sets.proofs.Parts.{holds-kept}
+use Rattle.sets.proofs.Telling.{SameAt, others-same, told-none, told-more}
 
 -- what changes nothing where it is not set
 pub masked : (b x y : Bool) → (b ≡ true → x ≡ y) → (b && x) ≡ (b && y)
 masked true x y e = e refl
 masked false x y e = refl
-
-lt-cases : (g q : ℕ) → g < q + 1 → (g ≡ q) ⊎ (g < q)
-lt-cases g q h = eq-or-lt-of-le (omega arith)
 
 not-true-false : (b : Bool) → (b ≡ true → ⊥) → b ≡ false
 not-true-false true n = absurd (n refl)
@@ -35,17 +33,17 @@ not-true-false false n = refl
 -- ---- depth
 
 module _ (ups slots : List ℕ) where
-  pub no-depth : (n g : ℕ) → n ≡ 0 → Depth ups slots n g → ⊥
-  unfolding Depth
-  no-depth n g e d = subst (λ (m : ℕ). Depth ups slots m g) e d
+  pub no-depth : (n g : ℕ) → n ≡ 0 → ShortChains ups slots n g → ⊥
+  unfolding ShortChains
+  no-depth n g e d = subst (λ (m : ℕ). ShortChains ups slots m g) e d
 
-  depth-down : (n g q : ℕ) → Depth ups slots n g → q < 64 → tied ups (getD slots g 0) q ≡ true → (m : ℕ) × (m < n) × Depth ups slots m q
-  unfolding Depth
+  depth-down : (n g q : ℕ) → ShortChains ups slots n g → q < 64 → tied ups (getD slots g 0) q ≡ true → (m : ℕ) × (m < n) × ShortChains ups slots m q
+  unfolding ShortChains
   depth-down zero g q d l e = absurd d
   depth-down (suc n) g q d l e = (n, omega arith, d q l e)
 
   -- along a chain the depth falls
-  depth-along : (n : ℕ) {x g : ℕ} → Depth ups slots n x → Chain ups slots x g → (m : ℕ) × (m < n) × Depth ups slots m g
+  depth-along : (n : ℕ) {x g : ℕ} → ShortChains ups slots n x → Chain ups slots x g → (m : ℕ) × (m < n) × ShortChains ups slots m g
   depth-along n {x} d (one {g = g} l e) = depth-down n x g d l e
   depth-along n d (more {m = y} {g = g} c l e) =
       let a = depth-along n d c in
@@ -53,21 +51,21 @@ module _ (ups slots : List ℕ) where
       (b .0, omega (arith, a .1, b .1), b .2)
 
   -- so no chain comes back
-  no-cycle-in : (fuel n g : ℕ) → n ≤ fuel → Depth ups slots n g → Chain ups slots g g → ⊥
+  no-cycle-in : (fuel n g : ℕ) → n ≤ fuel → ShortChains ups slots n g → Chain ups slots g g → ⊥
   no-cycle-in zero n g l d c = no-depth n g (omega arith) d
   no-cycle-in (suc fuel) n g l d c = let a = depth-along n d c in no-cycle-in fuel (a .0) g (omega (arith, a .1)) (a .2) c
 
-  pub no-cycle : (n g : ℕ) → Depth ups slots n g → Chain ups slots g g → ⊥
+  pub no-cycle : (n g : ℕ) → ShortChains ups slots n g → Chain ups slots g g → ⊥
   no-cycle n g d c = no-cycle-in n n g (omega arith) d c
 
   -- one tie up, from a group in live
   pub deep-step : (path below n g q : ℕ) → (n ≡ 0 → ⊥) → inUse (length ups) slots g ≡ true → q < 64 → tied ups (getD slots g 0) q ≡ true
       → ((j : ℕ) → bit below j ≡ (bit path j || eqb j g)) → Deep ups slots path n g → Deep ups slots below (n - 1) q
-  unfolding Depth Deep
+  unfolding ShortChains Deep
   deep-step path below zero g q high live l e o d = absurd (high refl)
   deep-step path below (suc n) g q high live l e o d =
       λ used. (
-        subst (λ (m : ℕ). Depth ups slots m q) (sym (sub-one (suc n))) (d live .0 q l e),
+        subst (λ (m : ℕ). ShortChains ups slots m q) (sym (sub-one (suc n))) (d live .0 q l e),
         λ x m on. ⊎-elim (λ y. more (d live .1 x m y) l e) (λ y. subst (λ (z : ℕ). Chain ups slots z q) (sym (eqb-true x g y)) (one l e))
             (or-cases (bit path x) (eqb x g) (sym (o x) ∙ on)),
       )
@@ -88,44 +86,81 @@ module _ (ups slots : List ℕ) where
 -- ---- settled groups
 
 module _ {ups own slots : List ℕ} where
-  pub settled-none : (t : List ℕ) (d : ℕ) (deep : Type 0) (w : ℕ → Type 0) → (deep → (g : ℕ) → g < 64 → inUse (length ups) slots g ≡ true → w g → bit d g ≡ true)
-      → Settled ups own slots t t d d deep w
-  settled-none t d deep w m = record { grows = λ i h. h; right = λ f s r p. r; marked = m; others = λ j n. refl }
+  pub settled-none : (t m : List ℕ) (d : ℕ) (deep : Type 0) (w : ℕ → Type 0) → (deep → (g : ℕ) → g < 64 → inUse (length ups) slots g ≡ true → w g → bit d g ≡ true)
+      → Settled ups own slots t t m m d d deep w
+  settled-none t m d deep w on = record { grows = λ i h. h; right = λ f s r p. r; marked = on; others = λ j n. refl; told = λ distinct. told-none m t }
 
   -- less is wanted
-  settled-less : {t t′ : List ℕ} {d d′ : ℕ} {deep : Type 0} {w : ℕ → Type 0} (v : ℕ → Type 0)
-      → Settled ups own slots t t′ d d′ deep w → ((g : ℕ) → v g → w g) → Settled ups own slots t t′ d d′ deep v
-  settled-less v a i = record { grows = a .grows; right = a .right; marked = λ p g h u x. a .marked p g h u (i g x); others = a .others }
+  pub settled-less : {t t′ m m′ : List ℕ} {d d′ : ℕ} {deep : Type 0} {w : ℕ → Type 0} (v : ℕ → Type 0)
+      → Settled ups own slots t t′ m m′ d d′ deep w → ((g : ℕ) → v g → w g) → Settled ups own slots t t′ m m′ d d′ deep v
+  settled-less v a i = record { grows = a .grows; right = a .right; marked = λ p g h u x. a .marked p g h u (i g x); others = a .others; told = a .told }
+
+  -- the words of holder k stay before or after: its one slot is settled in one of the two
+  module _ {t t₁ t₂ m m₁ m₂ : List ℕ} {d d₁ d₂ : ℕ} {deep deep₂ : Type 0} {w w₂ : ℕ → Type 0} (distinct : Distinct (length ups) slots)
+      (a : Settled ups own slots t t₁ m m₁ d d₁ deep w) (b : Settled ups own slots t₁ t₂ m₁ m₂ d₁ d₂ deep₂ w₂) where
+    stays-once : (k : ℕ) → SameAt t t₁ k ⊎ SameAt t₁ t₂ k
+    unfolding Distinct
+    stays-once k = go (anyBelow 64 new) refl
+      where
+        new : ℕ → Bool
+        new q = inUse (length ups) slots q && eqb (getD slots q 0) k && bit d₁ q
+
+        go : (x : Bool) → anyBelow 64 new ≡ x → SameAt t t₁ k ⊎ SameAt t₁ t₂ k
+        go true e =
+            let r = any-find 64 new e in
+            let x = parts (inUse (length ups) slots (r .0) && eqb (getD slots (r .0) 0) k) (bit d₁ (r .0)) (r .2) in
+            let y = parts (inUse (length ups) slots (r .0)) (eqb (getD slots (r .0) 0) k) (x .0) in
+            inr (λ j at. b .others j (λ q l u off on e.
+            true≢false (sym (x .1) ∙ ap (bit d₁) (sym (distinct (r .0) q (r .1) l (y .0) (sym e ∙ at ∙ sym (eqb-true (getD slots (r .0) 0) k (y .1))))) ∙ off)))
+        go false e =
+            inl (λ j at. a .others j (λ q l u off on e₁.
+            true≢false (sym (find-any 64 new q l (both (both u (eq-eqb (getD slots q 0) k (sym e₁ ∙ at))) on)) ∙ e)))
 
   -- one after another
-  pub settled-more : {t t₁ t₂ : List ℕ} {d d₁ d₂ : ℕ} {deep deep₂ : Type 0} {w w₂ : ℕ → Type 0} (v : ℕ → Type 0)
-      → Settled ups own slots t t₁ d d₁ deep w → Settled ups own slots t₁ t₂ d₁ d₂ deep₂ w₂
-      → (deep → deep₂) → ((g : ℕ) → v g → w g ⊎ w₂ g) → Settled ups own slots t t₂ d d₂ deep v
+  pub settled-more : {t t₁ t₂ m m₁ m₂ : List ℕ} {d d₁ d₂ : ℕ} {deep deep₂ : Type 0} {w w₂ : ℕ → Type 0} (v : ℕ → Type 0)
+      → Settled ups own slots t t₁ m m₁ d d₁ deep w → Settled ups own slots t₁ t₂ m₁ m₂ d₁ d₂ deep₂ w₂
+      → (deep → deep₂) → ((g : ℕ) → v g → w g ⊎ w₂ g) → Settled ups own slots t t₂ m m₂ d d₂ deep v
   settled-more {d = d} v a b i c = record {
     grows = λ k h. b .grows k (a .grows k h);
     right = λ f s r p. b .right f s (a .right f s r p) (i p);
     marked = λ p g h u x. ⊎-elim (λ y. b .grows g (a .marked p g h u y)) (λ y. b .marked (i p) g h u y) (c g x);
-    others = λ j n. b .others j (λ q l u off. n q l u (not-true-false (bit d q) (λ on. true≢false (sym (a .grows q on) ∙ off)))) ∙ a .others j n;
+    others = λ j n. b .others j (λ q l u off on. n q l u (not-true-false (bit d q) (λ y. true≢false (sym (a .grows q y) ∙ off))) on)
+        ∙ a .others j (λ q l u off on. n q l u off (b .grows q on));
+    told = λ distinct. told-more (a .told distinct) (b .told distinct) (stays-once distinct a b);
   }
 
-  -- a turn of the loop over the groups one tie up
-  module _ {t t₁ : List ℕ} {d d₁ : ℕ} (path below group height q mask : ℕ)
-      (a : Settled ups own slots t t₁ d d₁ (Deep ups slots path height group) (λ g. (g < q) × (bit mask g ≡ true))) where
-    pub turn-taken : {t₂ : List ℕ} {d₂ : ℕ} → mask ≡ getD ups (getD slots group 0) 0 → (height ≡ 0 → ⊥) → inUse (length ups) slots group ≡ true → q < 64
-        → bit mask q ≡ true → ((j : ℕ) → bit below j ≡ (bit path j || eqb j group))
-        → Settled ups own slots t₁ t₂ d₁ d₂ (Deep ups slots below (height - 1) q) (λ g. g ≡ q)
-        → Settled ups own slots t t₂ d d₂ (Deep ups slots path height group) (λ g. (g < q + 1) × (bit mask g ≡ true))
-    unfolding tied
-    turn-taken own high live low on o b =
-        settled-more (λ g. (g < q + 1) × (bit mask g ≡ true)) a b
-        (deep-step ups slots path below height group q high live low (ap (λ (m : ℕ). bit m q) (sym own) ∙ on) o)
-        (λ g w. ⊎-elim (λ e. inr e) (λ l. inl (l, w .1)) (lt-cases g q (w .0)))
+  -- a turn of a walk over the bits of a mask: those of `left` are left, and v is `left` without q
+  pub turn : {t t₁ t₂ m m₁ m₂ : List ℕ} {d d₁ d₂ : ℕ} {deep deep₂ : Type 0} (w : ℕ → Type 0) (left q v : ℕ)
+      → ((j : ℕ) → bit v j ≡ (bit left j && not (eqb j q)))
+      → Settled ups own slots t t₁ m m₁ d d₁ deep (λ g. w g × (bit left g ≡ false)) → Settled ups own slots t₁ t₂ m₁ m₂ d₁ d₂ deep₂ (λ g. g ≡ q)
+      → (deep → deep₂) → Settled ups own slots t t₂ m m₂ d d₂ deep (λ g. w g × (bit v g ≡ false))
+  turn w left q v rest a b i = settled-more (λ g. w g × (bit v g ≡ false)) a b i (λ g x. go g x (ℕ-discrete g q))
+    where
+      go : (g : ℕ) → w g × (bit v g ≡ false) → Dec (g ≡ q) → (w g × (bit left g ≡ false)) ⊎ (g ≡ q)
+      go g x (yes e) = inr e
+      go g x (no n) = inl (x .0, sym (and-true (bit left g)) ∙ ap (λ (b : Bool). bit left g && not b) (sym (ne-eqb g q n)) ∙ sym (rest g) ∙ x .1)
 
-    pub turn-left : bit mask q ≡ false
-        → Settled ups own slots t t₁ d d₁ (Deep ups slots path height group) (λ g. (g < q + 1) × (bit mask g ≡ true))
-    turn-left off =
-        settled-less (λ g. (g < q + 1) × (bit mask g ≡ true)) a
-        (λ g w. ⊎-elim (λ e. absurd (true≢false (sym (w .1) ∙ ap (bit mask) e ∙ off))) (λ l. (l, w .1)) (lt-cases g q (w .0)))
+-- ---- groups that are spared
+
+pub spared-none : (path d : ℕ) → Spared path d d
+unfolding Spared
+spared-none path d i on = refl
+
+-- `below` has the groups of `path`, and `group`
+module _ (path below group d d₁ : ℕ) (with-group : (j : ℕ) → bit below j ≡ (bit path j || eqb j group)) where
+  pub spared-more : (d₂ : ℕ) → Spared below d d₁ → Spared below d₁ d₂ → Spared below d d₂
+  unfolding Spared
+  spared-more d₂ a b i on = b i on ∙ a i on
+
+  pub group-new : Spared below d d₁ → bit d group ≡ false → bit d₁ group ≡ false
+  unfolding Spared
+  group-new a new = a group (with-group group ∙ ap (λ (y : Bool). bit path group || y) (eq-eqb group group refl) ∙ or-true (bit path group)) ∙ new
+
+  pub spared-own : (d₂ : ℕ) → Spared below d d₁ → bit path group ≡ false → ((j : ℕ) → bit d₂ j ≡ (bit d₁ j || eqb j group)) → Spared path d d₂
+  unfolding Spared
+  spared-own d₂ a off e i on =
+      e i ∙ ap (λ (y : Bool). bit d₁ i || y) (ne-eqb i group (λ x. true≢false (sym on ∙ ap (bit path) x ∙ off))) ∙ or-false (bit d₁ i)
+      ∙ a i (with-group i ∙ ap (λ (y : Bool). y || eqb i group) on)
 
 -- a set that is stored from groups that are right is right
 module _ (ups own slots : List ℕ) {t₁ t₂ : List ℕ} (k mask : ℕ) (f : ℕ → ℕ → Bool) (s : Solves ups own slots f) (few : k < length ups)
@@ -146,15 +181,15 @@ unfolding RightAt
 other-right own slots {t₁} {t₂} k mask i f b n r p h = holds-kept t₁ t₂ i p h (λ j e. b .others j (λ x. n (sym e ∙ x))) ∙ r p h
 
 -- the groups one tie up are settled, and the group's own set is stored
-module _ {ups own slots t t₁ t₂ : List ℕ} {d d₁ : ℕ} {deep : Type 0} (d₂ group k mask : ℕ) (low : group < 64) (live : inUse (length ups) slots group ≡ true)
-    (long : length t₁ ≡ 4 * length ups) (at : k ≡ getD slots group 0) (by : mask ≡ getD ups k 0) (new : bit d group ≡ false)
-    (a : Settled ups own slots t t₁ d d₁ deep (λ g. (g < 64) × (bit mask g ≡ true)))
-    (b : Stored own slots k mask t₁ t₂)
+module _ {ups own slots t t₁ t₂ m m₁ m₂ : List ℕ} {d d₁ : ℕ} {deep : Type 0} (d₂ group k mask : ℕ) (low : group < 64) (live : inUse (length ups) slots group ≡ true)
+    (long : length t₁ ≡ 4 * length ups) (at : k ≡ getD slots group 0) (by : mask ≡ getD ups k 0) (new : bit d₁ group ≡ false)
+    (a : Settled ups own slots t t₁ m m₁ d d₁ deep (λ g. bit mask g ≡ true))
+    (b : Stored own slots k mask t₁ t₂) (c : Told m₁ m₂ t₁ t₂)
     (e : (j : ℕ) → bit d₂ j ≡ (bit d₁ j || eqb j group)) where
   own-right : (f : ℕ → ℕ → Bool) → Solves ups own slots f → Right (length ups) slots f t₁ d₁ → deep → RightAt f t₂ k
   unfolding Right
   own-right f s r dp =
-      stored-right ups own slots k mask f s (omega (arith, at, in-use-lt (length ups) slots group live .1)) long by b (λ q l u on. r q l u (a .marked dp q l u (l, on)))
+      stored-right ups own slots k mask f s (omega (arith, at, in-use-lt (length ups) slots group live .1)) long by b (λ q l u on. r q l u (a .marked dp q l u on))
 
   right-by : (f : ℕ → ℕ → Bool) → Solves ups own slots f → Right (length ups) slots f t₁ d₁ → deep → (g : ℕ) → g < 64 → inUse (length ups) slots g ≡ true
       → bit d₂ g ≡ true → Dec (getD slots g 0 ≡ k) → RightAt f t₂ (getD slots g 0)
@@ -164,38 +199,79 @@ module _ {ups own slots t t₁ t₂ : List ℕ} {d d₁ : ℕ} {deep : Type 0} (
       other-right own slots k mask (getD slots g 0) f b n
       (r g l u (⊎-elim (λ x. x) (λ x. absurd (n (ap (λ (i : ℕ). getD slots i 0) (eqb-true g group x) ∙ sym at))) (or-cases (bit d₁ g) (eqb g group) (sym (e g) ∙ on))))
 
-  pub settled-own : Settled ups own slots t t₂ d d₂ deep (λ g. g ≡ group)
+  in-mask : bit d₂ group ≡ true
+  in-mask = e group ∙ ap (λ (y : Bool). bit d₁ group || y) (eq-eqb group group refl) ∙ or-true (bit d₁ group)
+
+  grows-own : (i : ℕ) → bit d₁ i ≡ true → bit d₂ i ≡ true
+  grows-own i h = e i ∙ ap (λ (x : Bool). x || eqb i group) h
+
+  own-others : (j : ℕ) → ((q : ℕ) → q < 64 → inUse (length ups) slots q ≡ true → bit d₁ q ≡ false → bit d₂ q ≡ true → j / 4 ≡ getD slots q 0 → ⊥) → getD t₂ j 0 ≡ getD t₁ j 0
+  own-others j n = b .others j (λ x. n group low live new in-mask (x ∙ at))
+
+  own-settled : Settled ups own slots t₁ t₂ m₁ m₂ d₁ d₂ deep (λ g. g ≡ group)
   unfolding Right
-  settled-own = record {
-    grows = λ i h. e i ∙ ap (λ (x : Bool). x || eqb i group) (a .grows i h);
-    right = λ f s r dp g l u on. right-by f s (a .right f s r dp) dp g l u on (ℕ-discrete (getD slots g 0) k);
-    marked = λ dp g l u x. e g ∙ ap (λ (y : Bool). bit d₁ g || y) (eq-eqb g group x) ∙ or-true (bit d₁ g);
-    others = λ j n. b .others j (λ x. n group low live new (x ∙ at)) ∙ a .others j n;
+  own-settled = record {
+    grows = grows-own;
+    right = λ f s r dp g l u on. right-by f s r dp g l u on (ℕ-discrete (getD slots g 0) k);
+    marked = λ dp g l u x. ap (bit d₂) x ∙ in-mask;
+    others = own-others;
+    told = λ distinct. c;
   }
+
+  pub settled-own : Settled ups own slots t t₂ m m₂ d d₂ deep (λ g. g ≡ group)
+  settled-own = settled-more (λ g. g ≡ group) a own-settled (λ x. x) (λ g x. inr x)
 
 -- ---- stored sets
 
-module _ {ups own slots wanted t t₁ : List ℕ} (k : ℕ) (a : StoredEach ups own slots wanted t t₁ k) where
+module _ {ups own slots wanted t t₁ m m₁ : List ℕ} (k : ℕ) (a : StoredEach ups own slots wanted t t₁ m m₁ k) where
   -- the groups' words have stayed
   groups-stay : (f : ℕ → ℕ → Bool) → GroupsRight (length ups) slots f t → NoGroups (length ups) slots wanted → GroupsRight (length ups) slots f t₁
   unfolding GroupsRight NoGroups RightAt
   groups-stay f r no-groups g l u p h =
-      holds-kept t t₁ (getD slots g 0) p h (λ j e. a .others j (λ on. true≢false (sym on ∙ ap (member wanted) e ∙ no-groups g l u))) ∙ r g l u p h
+      holds-kept t t₁ (getD slots g 0) p h (λ j e. a .others j (λ on few. true≢false (sym on ∙ ap (member wanted) e ∙ no-groups g l u))) ∙ r g l u p h
 
-  pub each-taken : {t₂ : List ℕ} (mask : ℕ) → k < length ups → length t₁ ≡ 4 * length ups → mask ≡ getD ups k 0 → member wanted k ≡ true
-      → Stored own slots k mask t₁ t₂ → StoredEach ups own slots wanted t t₂ (k + 1)
+  -- holder k is stored, and the next of the set is n
+  pub each-taken : {t₂ m₂ : List ℕ} (mask n : ℕ) → k < length ups → length t₁ ≡ 4 * length ups → mask ≡ getD ups k 0 → member wanted k ≡ true
+      → Stored own slots k mask t₁ t₂ → Told m₁ m₂ t₁ t₂ → k < n → ((j : ℕ) → k + 1 ≤ j → j < n → member wanted j ≡ false) → StoredEach ups own slots wanted t t₂ m m₂ n
   unfolding GroupsRight
-  each-taken mask few long by on b = record {
-    right = λ f s r no-groups i l m.
+  each-taken {t₂} mask n few long by on b c less none = record {
+    right = λ f s r no-groups i l o.
         let r₁ = groups-stay f r no-groups in
-        ⊎-elim (λ e. subst (RightAt f _) (sym e) (stored-right ups own slots k mask f s few long by b (λ q l u o. r₁ q l u)))
-        (λ l. other-right own slots k mask i f b (λ e. omega arith) (a .right f s r no-groups i l m)) (lt-cases i k l);
-    others = λ j n. b .others j (λ e. n (ap (member wanted) e ∙ on)) ∙ a .others j n;
+        go f s r no-groups r₁ i o (ℕ-discrete i k) (decLt i k) l;
+    others = λ j out. b .others j (λ e. out (ap (member wanted) e ∙ on) (omega arith)) ∙ a .others j (λ o l. out o (omega arith));
+    told = told-more (a .told) c (λ i. once i (ℕ-discrete i k));
   }
+    where
+      go : (f : ℕ → ℕ → Bool) → Solves ups own slots f → GroupsRight (length ups) slots f t → NoGroups (length ups) slots wanted → GroupsRight (length ups) slots f t₁
+          → (i : ℕ) → member wanted i ≡ true → Dec (i ≡ k) → Dec (i < k) → i < n → RightAt f t₂ i
+      go f s r no-groups r₁ i o (yes e) d l = subst (RightAt f t₂) (sym e) (stored-right ups own slots k mask f s few long by b (λ q l u o. r₁ q l u))
+      go f s r no-groups r₁ i o (no x) (yes d) l = other-right own slots k mask i f b x (a .right f s r no-groups i d o)
+      go f s r no-groups r₁ i o (no x) (no d) l = absurd (true≢false (sym o ∙ none i (above i x d) l))
+        where
+          above : (i : ℕ) → (i ≡ k → ⊥) → (i < k → ⊥) → k + 1 ≤ i
+          above i x d = omega arith
 
-  pub each-left : member wanted k ≡ false → StoredEach ups own slots wanted t t₁ (k + 1)
-  each-left off = record {
-    right = λ f s r no-groups i l m.
-        ⊎-elim (λ e. absurd (true≢false (sym m ∙ ap (member wanted) e ∙ off))) (λ l. a .right f s r no-groups i l m) (lt-cases i k l);
-    others = a .others;
-  }
+      once : (i : ℕ) → Dec (i ≡ k) → SameAt t t₁ i ⊎ SameAt t₁ t₂ i
+      once i (yes e) = inl (λ j x. a .others j (λ o l. omega arith))
+      once i (no x) = inr (others-same b i x)
+
+-- at the start none is stored, and none of the set lies before the first
+pub each-none : (ups own slots wanted t m : List ℕ) (n : ℕ) → ((j : ℕ) → 0 ≤ j → j < n → member wanted j ≡ false) → StoredEach ups own slots wanted t t m m n
+each-none ups own slots wanted t m n none = record {
+  right = λ f s r no-groups i l o. absurd (true≢false (sym o ∙ none i (omega arith) l));
+  others = λ j out. refl;
+  told = told-none m t;
+}
+
+-- the walk is behind the last holder
+pub each-all : {ups own slots wanted t t₁ m m₁ : List ℕ} (k : ℕ) → length ups ≤ k → length t ≡ 4 * length ups → length t₁ ≡ 4 * length ups
+    → StoredEach ups own slots wanted t t₁ m m₁ k → StoredEach ups own slots wanted t t₁ m m₁ (length ups)
+each-all {ups} {own} {slots} {wanted} {t} {t₁} k l long long₁ a = record {
+  right = λ f s r no-groups i x o. a .right f s r no-groups i (omega arith) o;
+  others = λ j out. go j out (decLt (j / 4) (length ups));
+  told = a .told;
+}
+  where
+    go : (j : ℕ) → (member wanted (j / 4) ≡ true → j / 4 < length ups → ⊥) → Dec (j / 4 < length ups) → getD t₁ j 0 ≡ getD t j 0
+    go j out (yes d) = a .others j (λ o x. out o d)
+    go j out (no d) = List·getD-eq-default t₁ 0 {n = j} (omega arith) ∙ sym (List·getD-eq-default t 0 {n = j} (omega arith))

@@ -1,4 +1,6 @@
 pub mod Parts
+pub mod Telling
 pub mod Laws
 pub mod Tables
-pub mod Meaning
+pub mod Solving
+pub mod Refreshing

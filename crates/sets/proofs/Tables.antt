@@ -21,6 +21,7 @@ use Rattle.model.proofs.Effective.{effective-has}
 use Rattle.model.specs.Standing.{Standing}
 use Rattle.model.proofs.Standing.{among, holder-lt, holder-none}
 use Rattle.bits.specs.Bits.{bit, holds}
+use Rattle.sets.specs.Filled.{KeepsSets}
 use Rattle.bits.proofs.Sets.{member-none}
 use Rattle.bits.proofs.Words.{length-words, getD-words, bit-word, word-is, words-are}
 
@@ -104,7 +105,7 @@ module _ (D : Declarations) (T : Ties) (standing : Standing (record { declared =
   length-stored : (k : ℕ) → length (storedSet D T k) ≡ 4
   length-stored k = ap length (stored-words k) ∙ length-words (effectiveSet D T k)
 
-  pub length-table : length (table D T) ≡ 1024
+  length-table : length (table D T) ≡ 1024
   unfolding table
   length-table = length-each (storedSet D T) length-stored 256
 
@@ -114,7 +115,7 @@ module _ (D : Declarations) (T : Ties) (standing : Standing (record { declared =
       getD-each (storedSet D T) length-stored 256 k j h l ∙ ap (λ (s : List ℕ). getD s j 0) (stored-words k) ∙ getD-words (effectiveSet D T k) j l
 
   -- holder k's pairs in it are the effective ones
-  pub holds-table : (k p : ℕ) → k < 256 → p < 256 → holds (table D T) k p ≡ effectiveSet D T k p
+  holds-table : (k p : ℕ) → k < 256 → p < 256 → holds (table D T) k p ≡ effectiveSet D T k p
   unfolding holds
   holds-table k p h l =
       let e : 64 * (p / 64) + p % 64 ≡ p = omega arith in
@@ -122,7 +123,7 @@ module _ (D : Declarations) (T : Ties) (standing : Standing (record { declared =
       ∙ ap (effectiveSet D T k) e
 
   -- and a table with those pairs is this one
-  pub table-is : (t : List ℕ) → length t ≡ 1024 → ((j : ℕ) → getD t j 0 < 2 ^ 64) → ((k p : ℕ) → k < 256 → p < 256 → holds t k p ≡ effectiveSet D T k p) → t ≡ table D T
+  table-is : (t : List ℕ) → length t ≡ 1024 → ((j : ℕ) → getD t j 0 < 2 ^ 64) → ((k p : ℕ) → k < 256 → p < 256 → holds t k p ≡ effectiveSet D T k p) → t ≡ table D T
   unfolding holds
   table-is t long fit e =
       ext-getD 0 t (table D T) (long ∙ sym length-table)
@@ -134,3 +135,11 @@ module _ (D : Declarations) (T : Ties) (standing : Standing (record { declared =
       let r : (64 * (j % 4) + i) % 64 ≡ i = omega arith in
       sym (ap₂ (λ (x y : ℕ). bit (getD t x 0) y) d r) ∙ e (j / 4) (64 * (j % 4) + i) (omega arith) (omega arith))
       ∙ sym (table-word (j / 4) (j % 4) (omega arith) (omega arith)) ∙ ap (λ (i : ℕ). getD (table D T) i 0) at)
+
+  pub sets-table : (t : List ℕ) → length t ≡ 1024 → ((j : ℕ) → getD t j 0 < 2 ^ 64) → KeepsSets 256 t D T → t ≡ table D T
+  unfolding KeepsSets
+  sets-table t long fit e = table-is t long fit e
+
+  pub table-sets : (t : List ℕ) → t ≡ table D T → KeepsSets 256 t D T
+  unfolding KeepsSets
+  table-sets t e k p h l = ap (λ (x : List ℕ). holds x k p) e ∙ holds-table k p h l

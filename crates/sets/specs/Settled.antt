@@ -1,18 +1,27 @@
 -- What the functions do to the table, for any arrays. The number of holders is that of the words of `ups`. Assumes nothing: these are definitions.
-use Prim.Native.Nat.{ℕ, zero, suc, _*_, _/_, _<_}
+use Prim.Native.Nat.{ℕ, zero, suc, _*_, _/_, _≤_, _<_}
 use mathlib.Core.Path.{_≡_}
-use mathlib.Core.Bool.{Bool, true, false, _&&_, _||_}
+use mathlib.Core.Bool.{Bool, true, false, not, _&&_, _||_, Bool·beq}
 use mathlib.Core.List.{List}
 use lib.ListN.{getD, length}
-use Rattle.model.specs.Limits.{groupLimit, pairLimit}
+use Rattle.model.specs.Limits.{groupLimit, pairLimit, wordBits}
 use Rattle.bits.specs.Bits.{bit, member, holds, anyBelow}
-use Rattle.ties.specs.Ties.{inUse, tied}
+use Rattle.ties.specs.TieArrays.{inUse, tied, Distinct}
 
 -- the lengths of the arrays of a call
 pub record Shaped (ups own slots t : List ℕ) : Type 0 where
   pub own-long : length own ≡ 4 * length ups
   pub slots-long : length slots ≡ groupLimit
   pub table-long : length t ≡ 4 * length ups
+
+-- the words of the sets of holders that a call makes for itself: room for 1,024 holders
+abbrev pub markWords : ℕ
+markWords = 16
+
+-- a set of holders with room for those of the arrays, and not too long to be walked over
+pub record Marked (ups marks : List ℕ) : Type 0 where
+  pub room : length ups ≤ wordBits * length marks
+  pub short : length marks ≤ 65536
 
 -- f says of each holder which pairs are effective: its own, and those of the groups one tie up; and a tie leads to a slot in use
 pub record Solves (ups own slots : List ℕ) (f : ℕ → ℕ → Bool) : Type 0 where
@@ -32,10 +41,18 @@ pub record Stored (own slots : List ℕ) (k mask : ℕ) (t t′ : List ℕ) : Ty
   pub pairs : 4 * k < length t → (p : ℕ) → p < pairLimit → holds t′ k p ≡ (holds own k p || anyBelow groupLimit (λ q. bit mask q && holds t (getD slots q 0) p))
   pub others : (j : ℕ) → (j / 4 ≡ k → ⊥) → getD t′ j 0 ≡ getD t j 0
 
+-- holder k's sets in two tables are not the same
+unfoldable pub unlike : List ℕ → List ℕ → ℕ → Bool
+unlike t u k = anyBelow pairLimit (λ p. not (Bool·beq (holds t k p) (holds u k p)))
+
+-- from the marks m to m′ just those holders are marked too whose sets in t and in u are not the same
+pub record Told (m m′ t u : List ℕ) : Type 0 where
+  pub marks : (k : ℕ) → member m′ k ≡ (member m k || unlike t u k)
+
 -- each chain of ties up from the group of slot g is shorter than n
-unfoldable pub Depth : List ℕ → List ℕ → ℕ → ℕ → Type 0
-Depth ups slots zero g = ⊥
-Depth ups slots (suc n) g = (q : ℕ) → q < groupLimit → tied ups (getD slots g 0) q ≡ true → Depth ups slots n q
+unfoldable pub ShortChains : List ℕ → List ℕ → ℕ → ℕ → Type 0
+ShortChains ups slots zero g = ⊥
+ShortChains ups slots (suc n) g = (q : ℕ) → q < groupLimit → tied ups (getD slots g 0) q ≡ true → ShortChains ups slots n q
 
 -- a chain of ties leads from the group of slot x up to that of slot g
 pub data Chain (ups slots : List ℕ) : ℕ → ℕ → Type 0 where
@@ -45,20 +62,26 @@ pub data Chain (ups slots : List ℕ) : ℕ → ℕ → Type 0 where
 -- the chains up from a group in use are short, and it is above each group of the mask `path`
 unfoldable pub Deep : List ℕ → List ℕ → ℕ → ℕ → ℕ → Type 0
 Deep ups slots path n g =
-    inUse (length ups) slots g ≡ true → Depth ups slots n g × ((x : ℕ) → x < groupLimit → bit path x ≡ true → Chain ups slots x g)
+    inUse (length ups) slots g ≡ true → ShortChains ups slots n g × ((x : ℕ) → x < groupLimit → bit path x ≡ true → Chain ups slots x g)
 
--- from the table t and the mask d to t′ and d′: the mask grows, and what is in it stays right; only words of groups that were not in d change.
--- Where `deep` holds, the groups of `wanted` are in d′.
-pub record Settled (ups own slots t t′ : List ℕ) (d d′ : ℕ) (deep : Type 0) (wanted : ℕ → Type 0) : Type 0 where
+-- from the table t and the mask d to t′ and d′: the mask grows, and what is in it stays right; only words of groups that are new in it change, and
+-- where slots are distinct just those groups are marked whose sets changed. Where `deep` holds, the groups of `wanted` are in d′.
+pub record Settled (ups own slots t t′ m m′ : List ℕ) (d d′ : ℕ) (deep : Type 0) (wanted : ℕ → Type 0) : Type 0 where
   pub grows : (i : ℕ) → bit d i ≡ true → bit d′ i ≡ true
   pub right : (f : ℕ → ℕ → Bool) → Solves ups own slots f → Right (length ups) slots f t d → deep → Right (length ups) slots f t′ d′
   pub marked : deep → (g : ℕ) → g < groupLimit → inUse (length ups) slots g ≡ true → wanted g → bit d′ g ≡ true
-  pub others : (j : ℕ) → ((q : ℕ) → q < groupLimit → inUse (length ups) slots q ≡ true → bit d q ≡ false → j / 4 ≡ getD slots q 0 → ⊥)
+  pub others : (j : ℕ)
+      → ((q : ℕ) → q < groupLimit → inUse (length ups) slots q ≡ true → bit d q ≡ false → bit d′ q ≡ true → j / 4 ≡ getD slots q 0 → ⊥)
       → getD t′ j 0 ≡ getD t j 0
+  pub told : Distinct (length ups) slots → Told m m′ t t′
+
+-- the groups of the mask `path` are not new in d′
+unfoldable pub Spared : ℕ → ℕ → ℕ → Type 0
+Spared path d d′ = (i : ℕ) → bit path i ≡ true → bit d′ i ≡ bit d i
 
 -- every group's chains are short
 unfoldable pub AllDeep : List ℕ → List ℕ → Type 0
-AllDeep ups slots = (g : ℕ) → g < groupLimit → inUse (length ups) slots g ≡ true → Depth ups slots (length ups) g
+AllDeep ups slots = (g : ℕ) → g < groupLimit → inUse (length ups) slots g ≡ true → ShortChains ups slots (length ups) g
 
 -- every group has the pairs that f says, and none is in the set `wanted`
 unfoldable pub GroupsRight : ℕ → List ℕ → (ℕ → ℕ → Bool) → List ℕ → Type 0
@@ -67,8 +90,9 @@ GroupsRight n slots f t = (g : ℕ) → g < groupLimit → inUse n slots g ≡ t
 unfoldable pub NoGroups : ℕ → List ℕ → List ℕ → Type 0
 NoGroups n slots wanted = (g : ℕ) → g < groupLimit → inUse n slots g ≡ true → member wanted (getD slots g 0) ≡ false
 
--- the holders below n of the set `wanted` are stored, from groups that were right
-pub record StoredEach (ups own slots wanted t t′ : List ℕ) (n : ℕ) : Type 0 where
+-- the holders below n of the set `wanted` are stored, from groups that were right, and those marked whose sets changed
+pub record StoredEach (ups own slots wanted t t′ m m′ : List ℕ) (n : ℕ) : Type 0 where
   pub right : (f : ℕ → ℕ → Bool) → Solves ups own slots f → GroupsRight (length ups) slots f t → NoGroups (length ups) slots wanted
       → (k : ℕ) → k < n → member wanted k ≡ true → RightAt f t′ k
-  pub others : (j : ℕ) → (member wanted (j / 4) ≡ true → ⊥) → getD t′ j 0 ≡ getD t j 0
+  pub others : (j : ℕ) → (member wanted (j / 4) ≡ true → j / 4 < n → ⊥) → getD t′ j 0 ≡ getD t j 0
+  pub told : Told m m′ t t′

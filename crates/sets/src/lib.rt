@@ -1,22 +1,29 @@
-// The kept table: every holder's effective set in four words, from the book's arrays.
+// The kept table: every holder's effective set in four words, filled from the book's arrays and refreshed after an edit.
 ghost use mathlib.Core.Path.{_≡_};
 ghost use mathlib.Core.Bool.{_||_, _&&_};
 ghost use Prim.Native.Nat.{ℕ, _*_, _%_, _<_, _≤_};
 ghost use lib.ListN.{length, getD};
 ghost use Rattle.model.specs.Limits.{groupLimit};
-ghost use Rattle.bits.specs.Bits.{bit, member, holds, Numbers, anyBelow};
-ghost use Rattle.sets.specs.Settled.{Shaped, Stored, Settled, Deep, AllDeep, StoredEach};
+ghost use Rattle.bits.specs.Bits.{bit, member, holds, differ, Numbers, anyBelow};
+ghost use Rattle.sets.specs.Settled.{markWords, Shaped, Marked, unlike, Told, Stored, Settled, Deep, Spared, AllDeep, StoredEach};
 ghost use Rattle.sets.specs.Filled.{Filled};
+ghost use Rattle.sets.specs.Refreshed.{Rewritten, Refreshed};
 
-// Rewrites one set, which is lent by its four words: its own pairs, joined with those that it inherits.
-fn rewrite(set: &mut [u64], own: &[u64], inherited: [u64; 4])
+// A bit for each holder, of which there may be 1,024.
+const MARK_WORDS: usize = 16;
+
+// Rewrites one set, which is lent by its four words: its own pairs, joined with those that it inherits. Tells whether it changed.
+fn rewrite(set: &mut [u64], own: &[u64], inherited: [u64; 4]) -> bool
     requires { ⌜ (length (now set) ≡ 4) × (length (now own) ≡ 4) ⌝ }
-    ensures { λ _. ⌜ Numbers 256 (now (set .exit)) (λ p. member (now (own .entry)) p || member inherited p) ⌝ }
+    ensures { λ r. ⌜ Numbers 256 (now (set .exit)) (λ p. member (now (own .entry)) p || member inherited p) × (r ≡ differ 256 (now (set .entry)) (now (set .exit))) ⌝ }
 {
-    set[0] = own[0] | inherited[0];
-    set[1] = own[1] | inherited[1];
-    set[2] = own[2] | inherited[2];
-    set[3] = own[3] | inherited[3];
+    let next = bits::joined(inherited, own);
+    let changed = bits::differs(set, &next);
+    set[0] = next[0];
+    set[1] = next[1];
+    set[2] = next[2];
+    set[3] = next[3];
+    changed
 }
 
 // A set joined with holder k's.
@@ -32,50 +39,60 @@ fn inherit(sum: [u64; 4], table: &[u64], k: usize) -> [u64; 4]
     bits::joined(sum, &table[at..end])
 }
 
-// A set joined with that of the group of slot q, where q is in the mask.
-fn inherit_from(sum: [u64; 4], table: &[u64], slots: &[u64], mask: u64, q: usize) -> [u64; 4]
-    requires { ⌜ (length (now table) % 4 ≡ 0) × (length (now slots) ≡ groupLimit) × (q < groupLimit) ⌝ }
-    ensures { λ r. ⌜ Numbers 256 r (λ p. member sum p || bit mask q && holds (now (table .entry)) (getD (now (slots .entry)) q 0) p) ⌝ }
-{
-    if bits::has(mask, q) {
-        let k = ties::holder_at(slots, q);
-        return inherit(sum, table, k);
-    }
-    sum
-}
-
 // The pairs that stand in the sets of the groups of a mask.
 fn gather(table: &[u64], slots: &[u64], mask: u64) -> [u64; 4]
     requires { ⌜ (length (now table) % 4 ≡ 0) × (length (now slots) ≡ groupLimit) ⌝ }
     ensures { λ r. ⌜ Numbers 256 r (λ p. anyBelow groupLimit (λ q. bit mask q && holds (now (table .entry)) (getD (now (slots .entry)) q 0) p)) ⌝ }
 {
     let mut sum = [0u64; 4];
-    for q in 0..64usize {
-        let next = inherit_from(sum, table, slots, mask, q);
+    let mut left = mask;
+    while left != 0 {
+        let q = bits::lowest(left);
+        let k = ties::holder_at(slots, q);
+        let next = inherit(sum, table, k);
         sum = next;
+        left = bits::without(left, q);
     }
     sum
 }
 
-// Rewrites holder k's set from its own pairs and the sets of the groups of a mask.
-fn store(table: &mut [u64], own: &[u64], slots: &[u64], k: usize, mask: u64)
+// Rewrites holder k's set from its own pairs and the sets of the groups of a mask. Tells whether it changed.
+fn store(table: &mut [u64], own: &[u64], slots: &[u64], k: usize, mask: u64) -> bool
     requires { ⌜ (length (now table) % 4 ≡ 0) × (length (now own) ≡ length (now table)) × (length (now slots) ≡ groupLimit) ⌝ }
-    ensures { λ _. ⌜ Stored (now (own .entry)) (now (slots .entry)) k mask (now (table .entry)) (now (table .exit)) ⌝ }
+    ensures { λ r. ⌜ Stored (now (own .entry)) (now (slots .entry)) k mask (now (table .entry)) (now (table .exit)) × (r ≡ unlike (now (table .entry)) (now (table .exit)) k) ⌝ }
 {
     if k >= table.len() / 4 {
-        return;
+        return false;
     }
     let sum = gather(table, slots, mask);
     let at = 4 * k;
     let end = at + 4;
-    rewrite(&mut table[at..end], &own[at..end], sum);
+    rewrite(&mut table[at..end], &own[at..end], sum)
 }
 
-// The set of a group: settles the groups one tie up first, then rewrites its own set from theirs. A group of the mask `done` is settled
-// already, so each is computed once; one of the mask `path` waits for this one, as happens on a circle of ties alone. `height` falls with
-// each call.
+// The same, and marks the holder if its set changed.
+fn store_marked(
+    table: &mut [u64],
+    marks: &mut [u64],
+    own: &[u64],
+    slots: &[u64],
+    k: usize,
+    mask: u64,
+)
+    requires { ⌜ (length (now table) % 4 ≡ 0) × (length (now own) ≡ length (now table)) × (length (now slots) ≡ groupLimit) × (length (now table) ≤ 256 * length (now marks)) ⌝ }
+    ensures { λ _. ⌜ Stored (now (own .entry)) (now (slots .entry)) k mask (now (table .entry)) (now (table .exit)) × Told (now (marks .entry)) (now (marks .exit)) (now (table .entry)) (now (table .exit)) ⌝ }
+{
+    if store(table, own, slots, k, mask) {
+        bits::insert(marks, k);
+    }
+}
+
+// The set of a group: settles the groups one tie up first, then rewrites its own set from theirs, and marks it if it changed. A group of the
+// mask `done` is settled already, so each is computed once; one of the mask `path` waits for this one, as happens on a circle of ties alone.
+// `height` falls with each call.
 fn settle(
     table: &mut [u64],
+    marks: &mut [u64],
     own: &[u64],
     ups: &[u64],
     slots: &[u64],
@@ -84,8 +101,8 @@ fn settle(
     done: u64,
     height: usize,
 ) -> u64
-    requires { ⌜ Shaped (now ups) (now own) (now slots) (now table) × (group < groupLimit) ⌝ }
-    ensures { λ r. ⌜ Settled (now (ups .entry)) (now (own .entry)) (now (slots .entry)) (now (table .entry)) (now (table .exit)) done r (Deep (now (ups .entry)) (now (slots .entry)) path height group) (λ g. g ≡ group) ⌝ }
+    requires { ⌜ Shaped (now ups) (now own) (now slots) (now table) × (length (now ups) ≤ 64 * length (now marks)) × (group < groupLimit) ⌝ }
+    ensures { λ r. ⌜ Settled (now (ups .entry)) (now (own .entry)) (now (slots .entry)) (now (table .entry)) (now (table .exit)) (now (marks .entry)) (now (marks .exit)) done r (Deep (now (ups .entry)) (now (slots .entry)) path height group) (λ g. g ≡ group) × Spared path done r ⌝ }
 {
     if bits::has(done, group) {
         return done;
@@ -103,46 +120,101 @@ fn settle(
     let mask = ties::ties_up(ups, k);
     let below = bits::with(path, group);
     let mut seen = done;
-    for q in 0..64usize {
-        if bits::has(mask, q) {
-            seen = settle(table, own, ups, slots, q, below, seen, height - 1);
-        }
+    let mut left = mask;
+    while left != 0 {
+        let q = bits::lowest(left);
+        seen = settle(table, marks, own, ups, slots, q, below, seen, height - 1);
+        left = bits::without(left, q);
     }
-    store(table, own, slots, k, mask);
+    store_marked(table, marks, own, slots, k, mask);
     bits::with(seen, group)
 }
 
 // Settles every group that is not in the mask `done`.
-pub fn settle_groups(table: &mut [u64], own: &[u64], ups: &[u64], slots: &[u64], done: u64) -> u64
-    requires { ⌜ Shaped (now ups) (now own) (now slots) (now table) ⌝ }
-    ensures { λ r. ⌜ Settled (now (ups .entry)) (now (own .entry)) (now (slots .entry)) (now (table .entry)) (now (table .exit)) done r (AllDeep (now (ups .entry)) (now (slots .entry))) (λ g. g < groupLimit) ⌝ }
+fn settle_groups(
+    table: &mut [u64],
+    marks: &mut [u64],
+    own: &[u64],
+    ups: &[u64],
+    slots: &[u64],
+    done: u64,
+) -> u64
+    requires { ⌜ Shaped (now ups) (now own) (now slots) (now table) × (length (now ups) ≤ 64 * length (now marks)) ⌝ }
+    ensures { λ r. ⌜ Settled (now (ups .entry)) (now (own .entry)) (now (slots .entry)) (now (table .entry)) (now (table .exit)) (now (marks .entry)) (now (marks .exit)) done r (AllDeep (now (ups .entry)) (now (slots .entry))) (λ g. g < groupLimit) ⌝ }
 {
     let mut seen = done;
-    for g in 0..64usize {
-        seen = settle(table, own, ups, slots, g, 0, seen, ups.len());
+    let mut left = !done;
+    while left != 0 {
+        let g = bits::lowest(left);
+        seen = settle(table, marks, own, ups, slots, g, 0, seen, ups.len());
+        left = bits::without(left, g);
     }
     seen
 }
 
 // Stores the holders of the set `wanted`, once the groups' sets are right.
-pub fn store_each(table: &mut [u64], own: &[u64], ups: &[u64], slots: &[u64], wanted: &[u64])
-    requires { ⌜ Shaped (now ups) (now own) (now slots) (now table) × (length (now ups) ≤ 64 * length (now wanted)) ⌝ }
-    ensures { λ _. ⌜ StoredEach (now (ups .entry)) (now (own .entry)) (now (slots .entry)) (now (wanted .entry)) (now (table .entry)) (now (table .exit)) (length (now (ups .entry))) ⌝ }
+fn store_each(
+    table: &mut [u64],
+    marks: &mut [u64],
+    own: &[u64],
+    ups: &[u64],
+    slots: &[u64],
+    wanted: &[u64],
+)
+    requires { ⌜ Shaped (now ups) (now own) (now slots) (now table) × (length (now ups) ≤ 64 * length (now marks)) × Marked (now ups) (now wanted) ⌝ }
+    ensures { λ _. ⌜ StoredEach (now (ups .entry)) (now (own .entry)) (now (slots .entry)) (now (wanted .entry)) (now (table .entry)) (now (table .exit)) (now (marks .entry)) (now (marks .exit)) (length (now (ups .entry))) ⌝ }
 {
-    for k in 0..ups.len() {
-        if bits::contains(wanted, k) {
-            store(table, own, slots, k, ups[k]);
-        }
+    let mut k = bits::first_from(wanted, 0);
+    while k < ups.len() {
+        store_marked(table, marks, own, slots, k, ups[k]);
+        k = bits::first_from(wanted, k + 1);
     }
 }
 
 // Fills the table: every holder's set, each once, a group's after those above it.
-pub fn fill(table: &mut [u64], own: &[u64; 1024], ups: &[u64; 256], slots: &[u64; 64])
-    requires { ⌜ length (now table) ≡ 1024 ⌝ }
+pub fn fill(table: &mut [u64], own: &[u64], ups: &[u64], slots: &[u64])
+    requires { ⌜ Shaped (now ups) (now own) (now slots) (now table) × (length (now ups) ≤ 64 * markWords) ⌝ }
     ensures { λ _. ⌜ Filled (now (ups .entry)) (now (own .entry)) (now (slots .entry)) (now (table .exit)) ⌝ }
 {
-    let mut parties = [18446744073709551615u64; 4];
-    ties::drop_groups(&mut parties, slots, 256);
-    settle_groups(table, own, ups, slots, 0);
-    store_each(table, own, ups, slots, &parties);
+    let mut marks = [0u64; MARK_WORDS];
+    let mut parties = [18446744073709551615u64; MARK_WORDS];
+    ties::drop_groups(&mut parties, slots, ups.len());
+    settle_groups(table, &mut marks, own, ups, slots, 0);
+    store_each(table, &mut marks, own, ups, slots, &parties);
+}
+
+// Rewrites the set of holder `edited` and those of the holders below it, each once and no other, a group's after those above it, and marks
+// those that changed. Nobody is below a user or an object: its own set is all.
+fn rewrite_below(
+    table: &mut [u64],
+    marks: &mut [u64],
+    own: &[u64],
+    ups: &[u64],
+    slots: &[u64],
+    edited: usize,
+)
+    requires { ⌜ Shaped (now ups) (now own) (now slots) (now table) × (length (now ups) ≤ 64 * length (now marks)) × (length (now ups) ≤ 64 * markWords) ⌝ }
+    ensures { λ _. ⌜ Rewritten (now (ups .entry)) (now (own .entry)) (now (slots .entry)) edited (now (table .entry)) (now (table .exit)) (now (marks .entry)) (now (marks .exit)) ⌝ }
+{
+    let below = ties::groups_below(ups, slots, edited);
+    if below == 0 {
+        let up = ties::ties_up(ups, edited);
+        store_marked(table, marks, own, slots, edited, up);
+        return;
+    }
+    let mut parties = [0u64; MARK_WORDS];
+    ties::holders_below(&mut parties, ups, below, edited);
+    ties::drop_groups(&mut parties, slots, ups.len());
+    settle_groups(table, marks, own, ups, slots, !below);
+    store_each(table, marks, own, ups, slots, &parties);
+}
+
+// After an edit of holder `edited`: refreshes the table, and answers how many holders' sets changed.
+pub fn refresh(table: &mut [u64], own: &[u64], ups: &[u64], slots: &[u64], edited: usize) -> usize
+    requires { ⌜ Shaped (now ups) (now own) (now slots) (now table) × (length (now ups) ≤ 64 * markWords) ⌝ }
+    ensures { λ r. ⌜ Refreshed (now (ups .entry)) (now (own .entry)) (now (slots .entry)) edited (now (table .entry)) (now (table .exit)) r ⌝ }
+{
+    let mut changed = [0u64; MARK_WORDS];
+    rewrite_below(table, &mut changed, own, ups, slots, edited);
+    bits::count(&changed)
 }

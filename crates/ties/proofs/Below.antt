@@ -1,5 +1,5 @@
 -- The groups below a holder in the arrays are those below it by the ties that the arrays keep. Assumes nothing.
-use Prim.Native.Nat.{ℕ, _<_}
+use Prim.Native.Nat.{ℕ, _≤_, _<_}
 use mathlib.Core.Path.{_≡_, refl, sym, ap, ap₂, _∙_, subst}
 use mathlib.Core.Logic.{_⊎_, inl, inr, ⊎-elim}
 use mathlib.Core.Bool.{Bool, true, _&&_, _||_, true≢false}
@@ -13,13 +13,13 @@ use Rattle.model.proofs.Options.{parts, both}
 use Rattle.model.proofs.Lists.{same-truth, in-below}
 use Rattle.model.proofs.Chains.{is-below}
 use Rattle.model.specs.Standing.{Standing}
-use Rattle.model.proofs.Standing as model
-use Rattle.model.proofs.Standing.{among}
+use Rattle.model.proofs.Standing.{among, holder-below}
 use Rattle.bits.specs.Bits.{bit}
 use Rattle.bits.proofs.Bits.{bit-none}
-use Rattle.ties.specs.Ties.{inUse, tied, meets, under, Kept, Under, here, over, Marks}
+use Rattle.ties.specs.TieArrays.{inUse, tied, meets, under, KeepsTies, Room, Under, here, over, Marks}
 use Rattle.ties.proofs.Masks.{in-use-lt, eqb-flip}
-use Rattle.ties.proofs.Keeps.{any-find, find-any, up-slot, slot-up}
+use Rattle.bits.proofs.Counts.{any-find, find-any}
+use Rattle.ties.proofs.Keeps.{up-slot, slot-up}
 
 -- a tie is one of a holder
 pub tied-lt : (ups : List ℕ) (k q : ℕ) → tied ups k q ≡ true → k < length ups
@@ -30,7 +30,7 @@ tied-lt ups k q on = go (decLt k (length ups))
     go (yes l) = l
     go (no n) = absurd (true≢false (sym on ∙ ap (λ (w : ℕ). bit w q) (List·getD-eq-default ups 0 {n = k} (omega arith)) ∙ bit-none q))
 
-module _ {ups own slots : List ℕ} {T : Ties} (kept : Kept ups own slots T) where
+module _ {ups own slots : List ℕ} {T : Ties} (kept : KeepsTies ups own slots T) where
   under-above : {e q : ℕ} → Under ups slots e q → (getD slots q 0 ≡ e) ⊎ Below T (getD slots q 0) e
   under-above (here u at) = inl at
   under-above {e} {q} (over {r = r} u low on c) =
@@ -73,17 +73,17 @@ module _ {ups own slots : List ℕ} {T : Ties} (kept : Kept ups own slots T) whe
           let r = above-slot c in
           find-any 64 (λ q. bit (getD ups k 0) q && bit m q) (r .0) (r .1) (both (r .2) (marks .complete (r .0) (r .1) (r .3)))
 
--- a standing state's ties are those of holders of the arrays
-pub holders-fit : (ups : List ℕ) (D : Declarations) (T : Ties) → Standing (record { declared = D; ties = T }) → length ups ≡ 256
+-- a standing state's ties are those of holders of the arrays, where these have room for its holders
+pub holders-fit : (ups : List ℕ) (D : Declarations) (T : Ties) → Standing (record { declared = D; ties = T }) → Room D (length ups)
     → (h g : ℕ) → up T h g ≡ true → h < length ups
 unfolding holderNumbersOf
-holders-fit ups D T standing long h g e = omega (arith, in-below (length (D .holders)) (among standing .lower h g e), model.holders-fit standing)
+holders-fit ups D T standing room h g e = room h (holder-below D h (among standing .lower h g e))
 
-pub closes : (ups own slots : List ℕ) (D : Declarations) (T : Ties) → Standing (record { declared = D; ties = T }) → Kept ups own slots T → length ups ≡ 256
+pub closes : (ups own slots : List ℕ) (D : Declarations) (T : Ties) → Standing (record { declared = D; ties = T }) → KeepsTies ups own slots T → Room D (length ups)
     → (child m : ℕ) → Marks ups slots child m → (g : ℕ) → under ups m child g ≡ closesCircle (holderNumbersOf D) T child g
 unfolding under closesCircle
-closes ups own slots D T standing kept long child m marks g =
-    let few = holders-fit ups D T standing long in
+closes ups own slots D T standing kept room child m marks g =
+    let few = holders-fit ups D T standing room in
     let above = is-below (holderNumbersOf D) T (among standing) (standing .acyclic) g child in
     ap₂ (λ (a b : Bool). a || b) (eqb-flip g child)
     (same-truth (meets (getD ups g 0) m) (isBelow (holderNumbersOf D) T g child) (λ y. above .1 (meets-above kept few child m marks g y)) (λ y. above-meets kept few child m marks g (above .0 y)))

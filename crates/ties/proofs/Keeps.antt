@@ -6,21 +6,10 @@ use mathlib.Core.List.{List}
 use lib.Dec.{eqb}
 use lib.ListN.{getD, length}
 use borrow.Author.Tests.{eq-eqb, eqb-true}
-use Rattle.model.specs.Notation.{below}
 use Rattle.model.specs.Ties.{Ties, up}
 use Rattle.model.proofs.Options.{parts, both}
-use Rattle.model.proofs.Lists.{any-in, in-any, in-below, below-in}
-use Rattle.bits.specs.Bits.{anyBelow}
-use Rattle.ties.specs.Ties.{inUse, tied, isGroup, Kept}
-
--- some number below n passes exactly when there is one
-pub any-find : (n : ℕ) (f : ℕ → Bool) → anyBelow n f ≡ true → (i : ℕ) × (i < n) × (f i ≡ true)
-unfolding anyBelow
-any-find n f e = let r = any-in f (below n) e in (r .0, in-below n (r .1), r .2)
-
-pub find-any : (n : ℕ) (f : ℕ → Bool) (i : ℕ) → i < n → f i ≡ true → anyBelow n f ≡ true
-unfolding anyBelow
-find-any n f i h e = in-any f (below-in n i h) e
+use Rattle.bits.proofs.Counts.{any-find, find-any}
+use Rattle.ties.specs.TieArrays.{inUse, tied, isGroup, KeepsTies}
 
 -- a holder that is a group has a slot in use
 pub group-slot : (n : ℕ) (slots : List ℕ) (k : ℕ) → isGroup n slots k ≡ true → (q : ℕ) × (q < 64) × (inUse n slots q ≡ true) × (getD slots q 0 ≡ k)
@@ -35,7 +24,7 @@ unfolding isGroup
 slot-group n slots q l u =
     find-any 64 (λ r. inUse n slots r && eqb (getD slots r 0) (getD slots q 0)) q l (both u (eq-eqb (getD slots q 0) (getD slots q 0) refl))
 
-module _ {ups own slots : List ℕ} {T : Ties} (kept : Kept ups own slots T) where
+module _ {ups own slots : List ℕ} {T : Ties} (kept : KeepsTies ups own slots T) where
   -- a tie up is a bit of the holder's mask
   pub up-slot : (h g : ℕ) → h < length ups → up T h g ≡ true → (q : ℕ) × (q < 64) × (tied ups h q ≡ true) × (getD slots q 0 ≡ g)
   up-slot h g few e =

@@ -2,3 +2,4 @@ pub mod Masks
 pub mod Keeps
 pub mod Widening
 pub mod Below
+pub mod Editing

@@ -13,7 +13,7 @@ use Rattle.model.proofs.Options.{parts}
 use Rattle.bits.specs.Bits.{bit, anyBelow}
 use Rattle.bits.proofs.Bits.{same-test, bit-and, bit-none, bit-ext}
 use Rattle.bits.proofs.Counts.{any-at, any-none}
-use Rattle.ties.specs.Ties.{inUse, meets}
+use Rattle.ties.specs.TieArrays.{inUse, meets}
 
 pub in-use-no : (n : ℕ) (slots : List ℕ) (q k : ℕ) → k ≡ getD slots q 0 → k ≡ 0 → false ≡ inUse n slots q
 unfolding inUse

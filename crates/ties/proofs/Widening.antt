@@ -13,9 +13,8 @@ use Rattle.model.proofs.Options.{parts, both}
 use Rattle.model.proofs.Lists.{same-truth, true-or-false, or-cases, or-left, or-right, count-more, below-in}
 use Rattle.bits.specs.Bits.{bit, anyBelow, countBelow}
 use Rattle.bits.proofs.Bits.{bit-none, bit-high, bit-ext}
-use Rattle.bits.proofs.Counts.{any-none}
-use Rattle.ties.specs.Ties.{inUse, tied, meets, under, Under, here, over, Marks}
-use Rattle.ties.proofs.Keeps.{any-find, find-any}
+use Rattle.bits.proofs.Counts.{any-none, any-find, find-any}
+use Rattle.ties.specs.TieArrays.{inUse, tied, meets, under, Under, here, over, Marks}
 
 -- ---- a turn of a loop that marks the numbers that pass
 

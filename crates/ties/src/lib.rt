@@ -1,12 +1,13 @@
-// Ties in arrays: the groups' slots, what is below a holder, and whether a tie closes a circle.
+// Ties in arrays: the groups' slots, what is below a holder, whether a tie closes a circle, and one tie more or less.
 ghost use mathlib.Core.Path.{_≡_};
 ghost use mathlib.Core.Bool.{_||_, _&&_, not};
-ghost use Prim.Native.Nat.{ℕ, _*_, _<_, _≤_};
+ghost use Prim.Native.Nat.{ℕ, _+_, _*_, _<_, _≤_};
 ghost use lib.Dec.{eqb, ltb};
 ghost use lib.ListN.{length, getD};
-ghost use Rattle.model.specs.Limits.{groupLimit};
+ghost use Rattle.model.specs.Limits.{groupLimit, pairLimit};
 ghost use Rattle.bits.specs.Bits.{bit, member};
-ghost use Rattle.ties.specs.Ties.{inUse, meets, isGroup, under, Marks, Closes};
+ghost use Rattle.ties.specs.TieArrays.{inUse, meets, isGroup, under, Marks, ClosesCircle};
+ghost use Rattle.ties.specs.TieEdits.{AddedUp, TakenUp, AddedValue, TakenValue, SlotGiven};
 
 fn wide(s: u64) -> usize
     ensures { λ r. ⌜ r ≡ s ⌝ }
@@ -136,9 +137,60 @@ pub fn holders_below(set: &mut [u64], ups: &[u64], m: u64, e: usize)
 }
 
 // Whether a tie from holder `child` up to holder `group` closes a circle: `group` is `child`, or below it.
-pub fn closes_circle(ups: &[u64; 256], slots: &[u64; 64], child: usize, group: usize) -> bool
-    ensures { λ r. ⌜ Closes (now (ups .entry)) (now (slots .entry)) child group r ⌝ }
+pub fn closes_circle(ups: &[u64], slots: &[u64], child: usize, group: usize) -> bool
+    requires { ⌜ length (now slots) ≡ groupLimit ⌝ }
+    ensures { λ r. ⌜ ClosesCircle (now (ups .entry)) (now (slots .entry)) child group r ⌝ }
 {
     let m = groups_below(ups, slots, child);
     is_under(ups, m, child, group)
+}
+
+// Holder h gets a tie up to the group of slot q.
+pub fn add_up(ups: &mut [u64], h: usize, q: usize)
+    requires { ⌜ (h < length (now ups)) × (q < groupLimit) ⌝ }
+    ensures { λ _. ⌜ AddedUp (now (ups .entry)) h q (now (ups .exit)) ⌝ }
+{
+    let word = ups[h];
+    let next = bits::with(word, q);
+    ups[h] = next;
+}
+
+// Holder h loses its tie up to the group of slot q.
+pub fn take_up(ups: &mut [u64], h: usize, q: usize)
+    requires { ⌜ (h < length (now ups)) × (q < groupLimit) ⌝ }
+    ensures { λ _. ⌜ TakenUp (now (ups .entry)) h q (now (ups .exit)) ⌝ }
+{
+    let word = ups[h];
+    let next = bits::without(word, q);
+    ups[h] = next;
+}
+
+// Holder h gets the pair p.
+pub fn add_value(own: &mut [u64], h: usize, p: usize)
+    requires { ⌜ (4 * h + 4 ≤ length (now own)) × (p < pairLimit) ⌝ }
+    ensures { λ _. ⌜ AddedValue (now (own .entry)) h p (now (own .exit)) ⌝ }
+{
+    let at = 4 * h + p / 64;
+    let word = own[at];
+    let next = bits::with(word, p % 64);
+    own[at] = next;
+}
+
+// Holder h loses the pair p.
+pub fn take_value(own: &mut [u64], h: usize, p: usize)
+    requires { ⌜ (4 * h + 4 ≤ length (now own)) × (p < pairLimit) ⌝ }
+    ensures { λ _. ⌜ TakenValue (now (own .entry)) h p (now (own .exit)) ⌝ }
+{
+    let at = 4 * h + p / 64;
+    let word = own[at];
+    let next = bits::without(word, p % 64);
+    own[at] = next;
+}
+
+// The group of holder number k gets slot q.
+pub fn give_slot(slots: &mut [u64], q: usize, k: usize)
+    requires { ⌜ q < length (now slots) ⌝ }
+    ensures { λ _. ⌜ SlotGiven (now (slots .entry)) q k (now (slots .exit)) ⌝ }
+{
+    slots[q] = k as u64;
 }

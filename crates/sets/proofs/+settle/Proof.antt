@@ -1,39 +1,44 @@
 -- `sets::settle` meets its contract: the groups one tie up, one after another, and then the group's own set. The measure is the height.
 -- Assumes nothing.
-use mathlib.Core.Path.{_≡_, sym, ap, _∙_}
-use mathlib.Core.Logic.{⊎-elim}
+use mathlib.Core.Path.{_≡_, refl, sym, ap, _∙_}
 use mathlib.Core.Bool.{true, false, true≢false}
-use Prim.Native.Nat.{ℕ, _<_, _≤_, _-_, _*_}
+use mathlib.Core.List.{List}
+use Prim.Native.Nat.{ℕ, _<_, _*_}
 use native.Mathlib.Omega.{arith}
 use lib.ListN.{length, getD}
 use borrow.Author.Needs.{needs}
 use borrow.Author.Tests.{not-true, not-false}
 use borrow.Fn.Kinds.{In}
 use borrow.Fn.PlainCycle.{Measures, is, falls, and}
-use Rattle.bits.specs.Bits.{bit}
-use Rattle.ties.specs.Ties.{inUse}
-use Rattle.sets.specs.Settled.{Settled, Deep}
-use Rattle.sets.proofs.Laws.{settled-none, not-open, not-high, turn-taken, turn-left, settled-own}
+use Rattle.bits.specs.Bits.{bit, countBelow}
+use Rattle.bits.proofs.Bits.{bit-none}
+use Rattle.bits.proofs.Walks.{fewer-left}
+use Rattle.model.proofs.Options.{parts}
+use Rattle.ties.specs.TieArrays.{inUse, tied}
+use Rattle.sets.specs.Settled.{Settled, Deep, Spared}
+use Rattle.sets.proofs.Laws.{settled-none, settled-less, spared-none, spared-more, spared-own, group-new, not-open, not-high, deep-step, turn, settled-own}
 use Rattle.sets.proofs.settle.Reads as settle
 use Rattle.sets.proofs.settle.Kinds as settle-kinds
 use Rattle.sets.proofs.+settle.Lts-settle as settle-lts
 use Rattle.bits.proofs.has.Reads as has-reads
+use Rattle.bits.proofs.lowest.Reads as lowest-reads
 use Rattle.bits.proofs.with.Reads as with-reads
-use Rattle.sets.proofs.store.Reads as store-reads
+use Rattle.bits.proofs.without.Reads as without-reads
+use Rattle.sets.proofs.store_marked.Reads as store-marked-reads
 use Rattle.ties.proofs.holder_at.Reads as holder-at-reads
 use Rattle.ties.proofs.in_use.Reads as in-use-reads
 use Rattle.ties.proofs.ties_up.Reads as ties-up-reads
 use Rattle.sets.proofs.+settle.{statement}
 use Rattle.sets.proofs.+settle.Tie.{close}
 
-abbrev μ-settle : Measures 4 settle-kinds.ps ℕ
-μ-settle κs a = a .1 .1 .1 .1 .1 .1 .1 .0
+abbrev μ-settle : Measures 5 settle-kinds.ps ℕ
+μ-settle κs a = a .1 .1 .1 .1 .1 .1 .1 .1 .0
 
-abbrev settle-at : ℕ → In 4 settle-kinds.ps
-settle-at t = and 4 settle-kinds.ps (is 4 settle-kinds.ps μ-settle t) settle.Pre
+abbrev settle-at : ℕ → In 5 settle-kinds.ps
+settle-at t = and 5 settle-kinds.ps (is 5 settle-kinds.ps μ-settle t) settle.Pre
 
-abbrev settle-below : ℕ → In 4 settle-kinds.ps
-settle-below t = and 4 settle-kinds.ps (falls 4 settle-kinds.ps _<_ μ-settle t) settle.Pre
+abbrev settle-below : ℕ → In 5 settle-kinds.ps
+settle-below t = and 5 settle-kinds.ps (falls 5 settle-kinds.ps _<_ μ-settle t) settle.Pre
 
 abbrev claims : ℕ → settle-lts.Claims
 claims t = (
@@ -47,50 +52,65 @@ claims t = (
   ties-up-reads.Learnt,
   with-reads.Asked,
   with-reads.Learnt,
+  lowest-reads.Asked,
+  lowest-reads.Learnt,
   settle-below t,
   settle.Post,
-  store-reads.Asked,
-  store-reads.Learnt,
+  without-reads.Asked,
+  without-reads.Learnt,
+  store-marked-reads.Asked,
+  store-marked-reads.Learnt,
 )
 
 abbrev settle-Inv-loop : settle-lts.InvT-loop
-settle-Inv-loop table₀ own ups slots group path done height k mask below seen₀ q₀ table seen q =
-    (q ≤ 64) × (length table ≡ 4 * length ups)
-    × Settled ups own slots table₀ table done seen (Deep ups slots path height group) (λ g. (g < q) × (bit mask g ≡ true))
+settle-Inv-loop table₀ marks₀ own ups slots group path done height k mask below seen₀ left₀ table marks seen left =
+    (length table ≡ 4 * length ups) × (length marks ≡ length marks₀) × ((q : ℕ) → bit left q ≡ true → bit mask q ≡ true) × Spared below done seen
+    × Settled ups own slots table₀ table marks₀ marks done seen (Deep ups slots path height group) (λ g. (bit mask g ≡ true) × (bit left g ≡ false))
 
 abbrev settle-μ-loop : settle-lts.MeasureT-loop
-settle-μ-loop table₀ own ups slots group path done height k mask below seen₀ q₀ table seen q = 64 - q
+settle-μ-loop table₀ marks₀ own ups slots group path done height k mask below seen₀ left₀ table marks seen left = countBelow 64 (bit left)
+
+tied-by : (ups : List ℕ) (k q mask : ℕ) → mask ≡ getD ups k 0 → bit mask q ≡ true → tied ups k q ≡ true
+unfolding tied
+tied-by ups k q mask e on = ap (λ (m : ℕ). bit m q) (sym e) ∙ on
 
 settle-has-requires : (t : ℕ) → settle-lts.Need-has-requires (claims t) (settle-at t) settle.Post settle-Inv-loop settle-μ-loop
 settle-has-requires t c κs = search needs
 
 settle-returns : (t : ℕ) → settle-lts.Need-returns (claims t) (settle-at t) settle.Post settle-Inv-loop settle-μ-loop
 settle-returns t c =
-    settled-none _ _ _ _ (λ dp g l u e. ap (bit (c .before .before .before .before .before .before .args .done)) e ∙ sym (c .before .has .ensures) ∙ c .if1 .taken)
+    let start = c .before .before .before .before .before .before .before in
+    (settled-none _ _ _ _ _ (λ dp g l u e. ap (bit (start .args .done)) e ∙ sym (c .before .has .ensures) ∙ c .if1 .taken), spared-none (start .args .path) (start .args .done))
 
 settle-has-requires-2 : (t : ℕ) → settle-lts.Need-has-requires-2 (claims t) (settle-at t) settle.Post settle-Inv-loop settle-μ-loop
 settle-has-requires-2 t c κs = search needs
 
 settle-returns-2 : (t : ℕ) → settle-lts.Need-returns-2 (claims t) (settle-at t) settle.Post settle-Inv-loop settle-μ-loop
 settle-returns-2 t c =
-    let start = c .before .before .before .before .before .before .before .before in
-    settled-none _ _ _ _ (λ dp g l u e. absurd (not-open (start .args .ups .now) (start .args .slots .now) (start .args .path) (start .args .height) (start .args .group)
-    (start .pre .1 .1) (sym (c .before .has2 .ensures) ∙ c .if2 .taken) (ap (inUse _ _) (sym e) ∙ u) dp))
+    let start = c .before .before .before .before .before .before .before .before .before in (
+      settled-none _ _ _ _ _ (λ dp g l u e. absurd (not-open (start .args .ups .now) (start .args .slots .now) (start .args .path) (start .args .height) (start .args .group)
+          (start .pre .1 .2) (sym (c .before .has2 .ensures) ∙ c .if2 .taken) (ap (inUse _ _) (sym e) ∙ u) dp)),
+      spared-none (start .args .path) (start .args .done),
+    )
 
 settle-returns-3 : (t : ℕ) → settle-lts.Need-returns-3 (claims t) (settle-at t) settle.Post settle-Inv-loop settle-μ-loop
 settle-returns-3 t c =
-    let start = c .before .before .before .before .before .before .before .before .before in
-    settled-none _ _ _ _ (λ dp g l u e. absurd (not-high (start .args .ups .now) (start .args .slots .now) (start .args .path) (start .args .height) (start .args .group)
-    (c .if3 .taken) (ap (inUse _ _) (sym e) ∙ u) dp))
+    let start = c .before .before .before .before .before .before .before .before .before .before in (
+      settled-none _ _ _ _ _ (λ dp g l u e. absurd (not-high (start .args .ups .now) (start .args .slots .now) (start .args .path) (start .args .height) (start .args .group)
+          (c .if3 .taken) (ap (inUse _ _) (sym e) ∙ u) dp)),
+      spared-none (start .args .path) (start .args .done),
+    )
 
 settle-in-use-requires : (t : ℕ) → settle-lts.Need-in-use-requires (claims t) (settle-at t) settle.Post settle-Inv-loop settle-μ-loop
 settle-in-use-requires t c κs = search needs
 
 settle-returns-4 : (t : ℕ) → settle-lts.Need-returns-4 (claims t) (settle-at t) settle.Post settle-Inv-loop settle-μ-loop
 settle-returns-4 t c =
-    let start = c .before .before .before .before .before .before .before .before .before .before .before in
-    settled-none _ _ _ _ (λ dp g l u e.
-    absurd (true≢false (sym u ∙ ap (inUse _ _) e ∙ sym (c .before .in-use .ensures) ∙ not-true (c .before .in-use .result) (c .if4 .taken))))
+    let start = c .before .before .before .before .before .before .before .before .before .before .before .before in (
+      settled-none _ _ _ _ _ (λ dp g l u e.
+          absurd (true≢false (sym u ∙ ap (inUse _ _) e ∙ sym (c .before .in-use .ensures) ∙ not-true (c .before .in-use .result) (c .if4 .taken)))),
+      spared-none (start .args .path) (start .args .done),
+    )
 
 settle-holder-at-requires : (t : ℕ) → settle-lts.Need-holder-at-requires (claims t) (settle-at t) settle.Post settle-Inv-loop settle-μ-loop
 settle-holder-at-requires t c κs = search needs
@@ -103,80 +123,100 @@ settle-with-requires t c κs = search needs
 
 settle-loop-holds : (t : ℕ) → settle-lts.Need-loop-holds (claims t) (settle-at t) settle.Post settle-Inv-loop settle-μ-loop
 settle-loop-holds t c =
-    (omega arith, c .before .before .before .before .before .before .before .before .before .before .before .before .before .before .pre .1 .0 .table-long, settled-none _ _ _ _ (λ dp g l u w. absurd (omega arith)))
+    let start = c .before .before .before .before .before .before .before .before .before .before .before .before .before .before .before in (
+      start .pre .1 .0 .table-long,
+      refl,
+      λ q on. on,
+      spared-none (c .with .result) (start .args .done),
+      settled-none _ _ _ _ _ (λ dp g l u w. absurd (true≢false (sym (w .0) ∙ w .1))),
+    )
 
-settle-has-requires-3 : (t : ℕ) → settle-lts.Need-has-requires-3 (claims t) (settle-at t) settle.Post settle-Inv-loop settle-μ-loop
-settle-has-requires-3 t c κs = search needs
+settle-lowest-requires : (t : ℕ) → settle-lts.Need-lowest-requires (claims t) (settle-at t) settle.Post settle-Inv-loop settle-μ-loop
+settle-lowest-requires t c κs = search needs
 
 settle-sub-settle : (t : ℕ) → settle-lts.Need-sub-settle (claims t) (settle-at t) settle.Post settle-Inv-loop settle-μ-loop
 settle-sub-settle t c = search needs
 
 settle-settle-requires : (t : ℕ) → settle-lts.Need-settle-requires (claims t) (settle-at t) settle.Post settle-Inv-loop settle-μ-loop
 settle-settle-requires t c κs =
-    let start = c .before .before .before .before .before .before .before .before .before .before .before .before .before .before .before .before .before .before .before in
-    let shape = start .pre .1 .0 in (
+    let start = c .before .before .before .before .before .before .before .before .before .before .before .before .before .before .before .before .before .before .before .before in
+    let shape = start .pre .1 .0 in
+    let inv = c .before .before .before .before .loop .inv in (
       omega (arith, start .pre .0, c .before .before .before .before .before .before .before .before .before .before .if3 .left),
       (
-        record { own-long = shape .own-long; slots-long = shape .slots-long; table-long = c .before .before .before .before .loop .inv .1 },
-        c .before .before .before .loop-test .taken,
+        record { own-long = shape .own-long; slots-long = shape .slots-long; table-long = inv .0 },
+        omega (arith, start .pre .1 .1, inv .1),
+        c .before .before .lowest .ensures .held (c .before .before .before .loop-test .taken) .0,
       ),
     )
 
-settle-add-q : (t : ℕ) → settle-lts.Need-add-q (claims t) (settle-at t) settle.Post settle-Inv-loop settle-μ-loop
-settle-add-q t c = search needs
+settle-without-requires : (t : ℕ) → settle-lts.Need-without-requires (claims t) (settle-at t) settle.Post settle-Inv-loop settle-μ-loop
+settle-without-requires t c κs = c .before .before .before .before .before .before .before .lowest .ensures .held (c .before .before .before .before .before .before .before .before .loop-test .taken) .0
 
 settle-loop-less : (t : ℕ) → settle-lts.Need-loop-less (claims t) (settle-at t) settle.Post settle-Inv-loop settle-μ-loop
-settle-loop-less t c = search needs
+settle-loop-less t c =
+    let held = c .before .before .before .before .before .before .before .before .lowest .ensures .held (c .before .before .before .before .before .before .before .before .before .loop-test .taken) in
+    fewer-left (c .before .before .before .before .before .before .before .before .before .before .loop .left) (c .without .result) (c .before .before .before .before .before .before .before .before .lowest .result) (held .1) (c .without .ensures) (held .0)
 
 settle-loop-again : (t : ℕ) → settle-lts.Need-loop-again (claims t) (settle-at t) settle.Post settle-Inv-loop settle-μ-loop
 settle-loop-again t c =
-    let head = c .before .before .before in
-    let start = c .before .before .before .before .before .before .before .before .before .before .before .before .before .before .before .before .before .before in
+    let start = c .before .before .before .before .before .before .before .before .before .before .before .before .before .before .before .before .before .before .before .before .before .before .before .before .before .before in
+    let head = c .before .before .before .before .before .before .before .before .before .before in
     let inv = head .loop .inv in
     let ups = start .args .ups .now in
     let slots = start .args .slots .now in
-    let k = c .before .before .before .before .before .before .holder-at .ensures in
-    let mask : c .before .before .before .before .before .ties-up .result ≡ getD ups (getD slots (start .args .group) 0) 0 = c .before .before .before .before .before .ties-up .ensures ∙ ap (λ (i : ℕ). getD ups i 0) k in
-    let live : inUse (length ups) slots (start .args .group) ≡ true = sym (c .before .before .before .before .before .before .before .before .in-use .ensures) ∙ not-false (c .before .before .before .before .before .before .before .before .in-use .result) (c .before .before .before .before .before .before .before .if4 .left) in
-    ⊎-elim
-    (λ w. rw (w .5, w .6) (
-      omega arith,
-      w .2 .kept .0 ∙ inv .1,
-      turn-taken (start .args .path) (c .before .before .before .before .with .result) (start .args .group) (start .args .height) (head .loop .q) _ (inv .2) mask (c .before .before .before .before .before .before .before .before .before .if3 .left) live
-          (c .before .before .loop-test .taken) (sym (c .before .has3 .ensures) ∙ w .0 .taken) (c .before .before .before .before .with .ensures) (w .2 .ensures),
-    ))
-    (λ w. rw (w .1, w .2) (
-      omega arith,
-      inv .1,
-      turn-left (start .args .path) (c .before .before .before .before .with .result) (start .args .group) (start .args .height) (head .loop .q) _ (inv .2) (sym (c .before .has3 .ensures) ∙ w .0 .left),
-    ))
-    (c .if5 .came)
+    let group = start .args .group in
+    let q = c .before .before .before .before .before .before .before .before .lowest .result in
+    let held = c .before .before .before .before .before .before .before .before .lowest .ensures .held (c .before .before .before .before .before .before .before .before .before .loop-test .taken) in
+    let mask : c .before .before .before .before .before .before .before .before .before .before .before .before .ties-up .result ≡ getD ups (getD slots group 0) 0 = c .before .before .before .before .before .before .before .before .before .before .before .before .ties-up .ensures ∙ ap (λ (i : ℕ). getD ups i 0) (c .before .before .before .before .before .before .before .before .before .before .before .before .before .holder-at .ensures) in
+    let live : inUse (length ups) slots group ≡ true = sym (c .before .before .before .before .before .before .before .before .before .before .before .before .before .before .before .in-use .ensures) ∙ not-false (c .before .before .before .before .before .before .before .before .before .before .before .before .before .before .before .in-use .result) (c .before .before .before .before .before .before .before .before .before .before .before .before .before .before .if4 .left) in
+    let below = c .before .before .before .before .before .before .before .before .before .before .before .with in
+    let rest = c .without .ensures in
+    let on : tied ups (getD slots group 0) q ≡ true = tied-by ups (getD slots group 0) q (c .before .before .before .before .before .before .before .before .before .before .before .before .ties-up .result) mask (inv .2 q (held .1)) in
+    let called = c .before .before .before .before .before .settle in (
+      called .kept .0 ∙ inv .0,
+      called .kept .1 .0 ∙ inv .1,
+      λ g x. inv .2 g (parts (bit (head .loop .left) g) _ (sym (rest g) ∙ x) .0),
+      spared-more (start .args .path) (below .result) group (start .args .done) (head .loop .seen) (below .ensures) (called .result) (inv .3) (called .ensures .1),
+      turn (λ g. bit (c .before .before .before .before .before .before .before .before .before .before .before .before .ties-up .result) g ≡ true) (head .loop .left) q (c .without .result) rest (inv .4) (called .ensures .0)
+          (deep-step ups slots (start .args .path) (below .result) (start .args .height) group q (c .before .before .before .before .before .before .before .before .before .before .before .before .before .before .before .before .if3 .left) live (held .0) on (below .ensures)),
+    )
 
-settle-store-requires : (t : ℕ) → settle-lts.Need-store-requires (claims t) (settle-at t) settle.Post settle-Inv-loop settle-μ-loop
-settle-store-requires t c κs =
-    let start = c .before .before .before .before .before .before .before .before .before .before .before .before .before .before .before .before .before in
+settle-store-marked-requires : (t : ℕ) → settle-lts.Need-store-marked-requires (claims t) (settle-at t) settle.Post settle-Inv-loop settle-μ-loop
+settle-store-marked-requires t c κs =
+    let start = c .before .before .before .before .before .before .before .before .before .before .before .before .before .before .before .before .before .before .before in
     let shape = start .pre .1 .0 in
-    omega (arith, shape .own-long, shape .slots-long, c .before .before .loop .inv .1)
+    let inv = c .before .before .before .loop .inv in
+    omega (arith, shape .own-long, shape .slots-long, start .pre .1 .1, inv .0, inv .1)
 
 settle-with-requires-2 : (t : ℕ) → settle-lts.Need-with-requires-2 (claims t) (settle-at t) settle.Post settle-Inv-loop settle-μ-loop
 settle-with-requires-2 t c κs = search needs
 
 settle-same-length : (t : ℕ) → settle-lts.Need-same-length (claims t) (settle-at t) settle.Post settle-Inv-loop settle-μ-loop
-settle-same-length t c =
-    let start = c .before .before .before .before .before .before .before .before .before .before .before .before .before .before .before .before .before .before .before .before .before in
-    c .before .before .before .store .kept .0 ∙ c .before .before .before .before .before .before .loop .inv .1 ∙ sym (start .pre .1 .0 .table-long)
+settle-same-length t c = c .before .before .before .before .before .store-marked .kept .0 ∙ c .before .before .before .before .before .before .before .before .before .loop .inv .0 ∙ sym (c .before .before .before .before .before .before .before .before .before .before .before .before .before .before .before .before .before .before .before .before .before .before .before .before .before .pre .1 .0 .table-long)
+
+settle-same-length-2 : (t : ℕ) → settle-lts.Need-same-length-2 (claims t) (settle-at t) settle.Post settle-Inv-loop settle-μ-loop
+settle-same-length-2 t c = c .before .before .before .before .before .store-marked .kept .1 .0 ∙ c .before .before .before .before .before .before .before .before .before .loop .inv .1
 
 settle-returns-5 : (t : ℕ) → settle-lts.Need-returns-5 (claims t) (settle-at t) settle.Post settle-Inv-loop settle-μ-loop
 settle-returns-5 t c =
-    let left = c .before .before .before .before .before in
-    let start = c .before .before .before .before .before .before .before .before .before .before .before .before .before .before .before .before .before .before .before .before .before in
+    let start = c .before .before .before .before .before .before .before .before .before .before .before .before .before .before .before .before .before .before .before .before .before .before .before .before .before in
+    let head = c .before .before .before .before .before .before .before .before .before in
+    let inv = head .loop .inv in
     let ups = start .args .ups .now in
     let slots = start .args .slots .now in
-    let live : inUse (length ups) slots (start .args .group) ≡ true = sym (c .before .before .before .before .before .before .before .before .before .before .before .in-use .ensures) ∙ not-false (c .before .before .before .before .before .before .before .before .before .before .before .in-use .result) (c .before .before .before .before .before .before .before .before .before .before .if4 .left) in
-    let new : bit (start .args .done) (start .args .group) ≡ false = sym (c .before .before .before .before .before .before .before .before .before .before .before .before .before .before .before .before .has .ensures) ∙ c .before .before .before .before .before .before .before .before .before .before .before .before .before .before .before .if1 .left in
-    let all : left .before .loop .q ≡ 64 = omega arith in
-    settled-own (c .with2 .result) (start .args .group) (c .before .before .before .before .before .before .before .before .before .holder-at .result) (c .before .before .before .before .before .before .before .before .ties-up .result) (start .pre .1 .1) live (left .before .loop .inv .1)
-    (c .before .before .before .before .before .before .before .before .before .holder-at .ensures) (c .before .before .before .before .before .before .before .before .ties-up .ensures) new (rw all at (left .before .loop .inv .2)) (c .before .before .before .store .ensures) (c .with2 .ensures)
+    let group = start .args .group in
+    let mask = c .before .before .before .before .before .before .before .before .before .before .before .ties-up in
+    let below = c .before .before .before .before .before .before .before .before .before .before .with in
+    let live : inUse (length ups) slots group ≡ true = sym (c .before .before .before .before .before .before .before .before .before .before .before .before .before .before .in-use .ensures) ∙ not-false (c .before .before .before .before .before .before .before .before .before .before .before .before .before .before .in-use .result) (c .before .before .before .before .before .before .before .before .before .before .before .before .before .if4 .left) in
+    let new : bit (start .args .done) group ≡ false = sym (c .before .before .before .before .before .before .before .before .before .before .before .before .before .before .before .before .before .before .before .has .ensures) ∙ c .before .before .before .before .before .before .before .before .before .before .before .before .before .before .before .before .before .before .if1 .left in
+    let off : bit (start .args .path) group ≡ false = sym (c .before .before .before .before .before .before .before .before .before .before .before .before .before .before .before .before .before .has2 .ensures) ∙ c .before .before .before .before .before .before .before .before .before .before .before .before .before .before .before .before .if2 .left in
+    let stored = c .before .before .before .before .before .store-marked .ensures in (
+      settled-own (c .with2 .result) group (c .before .before .before .before .before .before .before .before .before .before .before .before .holder-at .result) (mask .result) (start .pre .1 .2) live (inv .0) (c .before .before .before .before .before .before .before .before .before .before .before .before .holder-at .ensures) (mask .ensures)
+          (group-new (start .args .path) (below .result) group (start .args .done) (head .loop .seen) (below .ensures) (inv .3) new)
+          (settled-less (λ g. bit (mask .result) g ≡ true) (inv .4) (λ g x. (x, ap (λ (w : ℕ). bit w g) (c .before .before .before .before .before .before .before .before .loop-test .left) ∙ bit-none g))) (stored .0) (stored .1) (c .with2 .ensures),
+      spared-own (start .args .path) (below .result) group (start .args .done) (head .loop .seen) (below .ensures) (c .with2 .result) (inv .3) off (c .with2 .ensures),
+    )
 
 pub +settle-spec : {M : Type 1} → statement M
 +settle-spec = close μ-settle λ t. settle-lts.spec (claims t)
@@ -195,13 +235,14 @@ pub +settle-spec : {M : Type 1} → statement M
     (settle-ties-up-requires t)
     (settle-with-requires t)
     (settle-loop-holds t)
-    (settle-has-requires-3 t)
+    (settle-lowest-requires t)
     (settle-sub-settle t)
     (settle-settle-requires t)
-    (settle-add-q t)
+    (settle-without-requires t)
     (settle-loop-less t)
     (settle-loop-again t)
-    (settle-store-requires t)
+    (settle-store-marked-requires t)
     (settle-with-requires-2 t)
     (settle-same-length t)
+    (settle-same-length-2 t)
     (settle-returns-5 t)

@@ -1,43 +1,78 @@
--- `sets::gather` meets its contract: after q slots the sum has the pairs of those groups. Assumes nothing.
-use mathlib.Core.Path.{_≡_}
-use mathlib.Core.Bool.{_&&_}
-use Prim.Native.Nat.{ℕ, _≤_, _<_, _-_}
+-- `sets::gather` meets its contract: the sum has the pairs of the groups that the walk has passed. Assumes nothing.
+use mathlib.Core.Path.{_≡_, sym, ap, ap₂, _∙_}
+use mathlib.Core.Bool.{Bool, _&&_, _||_, or-false}
+use Prim.Native.Nat.{ℕ, _<_}
 use lib.ListN.{getD}
-use Rattle.bits.specs.Bits.{bit, member, holds, anyBelow}
+use Rattle.bits.specs.Bits.{bit, member, holds, anyBelow, countBelow}
 use Rattle.bits.proofs.Sets.{member-none}
-use Rattle.bits.proofs.Counts.{any-more}
-use Rattle.sets.proofs.gather.Statement.{statement}
+use Rattle.bits.proofs.Walks.{any-left, fewer-left, none-left}
+use Rattle.ties.proofs.Widening.{or-regroup}
 use borrow.Author.Needs.{needs}
 use native.Mathlib.Omega.{arith}
+use Rattle.sets.proofs.gather.Statement.{statement}
 use Rattle.sets.proofs.gather.Tie as tie
 
 abbrev Inv-loop : tie.InvT-loop
-Inv-loop table slots mask sum₀ q₀ sum q =
-    (q ≤ 64) × ((p : ℕ) → p < 256 → member sum p ≡ anyBelow q (λ q. bit mask q && holds table (getD slots q 0) p))
+Inv-loop table slots mask sum₀ left₀ sum left =
+    (p : ℕ) → p < 256
+    → (member sum p || anyBelow 64 (λ q. bit left q && holds table (getD slots q 0) p)) ≡ anyBelow 64 (λ q. bit mask q && holds table (getD slots q 0) p)
 
 abbrev μ-loop : tie.MeasureT-loop
-μ-loop table slots mask sum₀ q₀ sum q = 64 - q
+μ-loop table slots mask sum₀ left₀ sum left = countBelow 64 (bit left)
 
 loop-holds : tie.Need-loop-holds Inv-loop μ-loop
-unfolding anyBelow
-loop-holds c = (omega arith, λ p h. member-none p h)
+loop-holds c p h =
+    let a = c .before .before .args in
+    ap (λ (b : Bool). b || anyBelow 64 (λ q. bit (a .mask) q && holds (a .table .now) (getD (a .slots .now) q 0) p)) (member-none p h)
 
-inherit-from-requires : tie.Need-inherit-from-requires Inv-loop μ-loop
-inherit-from-requires c κs = search needs
+lowest-requires : tie.Need-lowest-requires Inv-loop μ-loop
+lowest-requires c κs = search needs
 
-add-q : tie.Need-add-q Inv-loop μ-loop
-add-q c = search needs
+holder-at-requires : tie.Need-holder-at-requires Inv-loop μ-loop
+holder-at-requires c κs = omega (arith, c .lowest .ensures .held (c .before .loop-test .taken), c .before .before .before .before .before .pre .1)
+
+inherit-requires : tie.Need-inherit-requires Inv-loop μ-loop
+inherit-requires c κs = search needs
+
+without-requires : tie.Need-without-requires Inv-loop μ-loop
+without-requires c κs = c .before .before .lowest .ensures .held (c .before .before .before .loop-test .taken) .0
 
 loop-less : tie.Need-loop-less Inv-loop μ-loop
-loop-less c = search needs
+loop-less c =
+    let held = c .before .before .before .lowest .ensures .held (c .before .before .before .before .loop-test .taken) in
+    fewer-left (c .before .before .before .before .before .loop .left) (c .without .result) (c .before .before .before .lowest .result) (held .1) (c .without .ensures) (held .0)
 
 loop-again : tie.Need-loop-again Inv-loop μ-loop
-loop-again c = (omega arith, λ p h. rw (any-more, ← c .before .before .loop .inv .1 p h) (c .inherit-from .ensures p h))
+loop-again c p h =
+    let a = c .before .before .before .before .before .before .before .before .args in
+    let head = c .before .before .before .before .before in
+    let q = c .before .before .before .lowest .result in
+    let held = c .before .before .before .lowest .ensures .held (c .before .before .before .before .loop-test .taken) in
+    let f : ℕ → Bool = λ q. holds (a .table .now) (getD (a .slots .now) q 0) p in
+    let rest : Bool = anyBelow 64 (λ q. bit (c .without .result) q && f q) in
+    ap (λ (b : Bool). b || rest) (c .before .inherit .ensures p h ∙ ap (λ (k : ℕ). member (head .loop .sum) p || holds (a .table .now) k p) (c .before .before .holder-at .ensures))
+    ∙ or-regroup (member (head .loop .sum) p) (f q) rest
+    ∙ ap (λ (b : Bool). member (head .loop .sum) p || b) (sym (any-left (head .loop .left) (c .without .result) q (held .1) (c .without .ensures) 64 f (held .0)))
+    ∙ head .loop .inv p h
 
 returns : tie.Need-returns Inv-loop μ-loop
-returns c p h = let e : c .before .loop .q ≡ 64 = omega arith in rw e at (c .before .loop .inv .1 p h)
+returns c p h =
+    let a = c .before .before .before .before .args in
+    let head = c .before in
+    sym (ap (λ (b : Bool). member (head .loop .sum) p || b) (none-left (head .loop .left) 64 (λ q. holds (a .table .now) (getD (a .slots .now) q 0) p) (c .loop-test .left)) ∙ or-false (member (head .loop .sum) p))
+    ∙ head .loop .inv p h
 
 pub gather-spec : {M : Type 1} → statement M
 gather-spec =
     tie.close
-    (tie.spec Inv-loop μ-loop loop-holds inherit-from-requires add-q loop-less loop-again returns)
+    (tie.spec
+    Inv-loop
+    μ-loop
+    loop-holds
+    lowest-requires
+    holder-at-requires
+    inherit-requires
+    without-requires
+    loop-less
+    loop-again
+    returns)

@@ -1,12 +1,20 @@
 -- `sets::rewrite` meets its contract: word by word. Assumes nothing.
-use mathlib.Core.Path.{refl}
-use Rattle.bits.proofs.Sets.{member-or, four, stored4}
+use mathlib.Core.Path.{_≡_, sym, _∙_}
+use Prim.Native.Nat.{ℕ, _<_}
+use Rattle.bits.specs.Bits.{member}
+use Rattle.sets.proofs.Telling.{copied, differ-same, or-swap}
 use borrow.Author.Needs.{needs}
 use Rattle.sets.proofs.rewrite.Statement.{statement}
 use Rattle.sets.proofs.rewrite.Tie as tie
 
-shared-slice-read-set : tie.Need-shared-slice-read-set
-shared-slice-read-set c = search needs
+joined-requires : tie.Need-joined-requires
+joined-requires c κs = search needs
+
+slice-aggregate-differs : tie.Need-slice-aggregate-differs
+slice-aggregate-differs c = search needs
+
+differs-requires : tie.Need-differs-requires
+differs-requires c κs = search needs
 
 array-read-set : tie.Need-array-read-set
 array-read-set c = search needs
@@ -14,26 +22,17 @@ array-read-set c = search needs
 slice-write-set : tie.Need-slice-write-set
 slice-write-set c = search needs
 
-shared-slice-read-set-2 : tie.Need-shared-slice-read-set-2
-shared-slice-read-set-2 c = search needs
-
 array-read-set-2 : tie.Need-array-read-set-2
 array-read-set-2 c = search needs
 
 slice-write-set-2 : tie.Need-slice-write-set-2
 slice-write-set-2 c = search needs
 
-shared-slice-read-set-3 : tie.Need-shared-slice-read-set-3
-shared-slice-read-set-3 c = search needs
-
 array-read-set-3 : tie.Need-array-read-set-3
 array-read-set-3 c = search needs
 
 slice-write-set-3 : tie.Need-slice-write-set-3
 slice-write-set-3 c = search needs
-
-shared-slice-read-set-4 : tie.Need-shared-slice-read-set-4
-shared-slice-read-set-4 c = search needs
 
 array-read-set-4 : tie.Need-array-read-set-4
 array-read-set-4 c = search needs
@@ -45,22 +44,26 @@ same-length : tie.Need-same-length
 same-length c = search needs
 
 returns : tie.Need-returns
-returns c p h = rw (stored4 _ _ _ _ _ (c .before .before .before .before .pre .0)) (member-or _ _ _ (four _ refl refl refl refl) p h)
+returns c =
+    let start = c .before .before .before .before .before .before in
+    let next = c .before .before .before .joined .result in (
+      λ p h. copied (start .args .set .now) next (start .pre .0) p h ∙ c .before .before .before .joined .ensures p h ∙ or-swap (member (start .args .inherited) p) (member (start .args .own .now) p),
+      c .differs .ensures ∙ differ-same (start .args .set .now) next _ (λ p h. sym (copied (start .args .set .now) next (start .pre .0) p h)),
+    )
 
 pub rewrite-spec : {M : Type 1} → statement M
 rewrite-spec =
     tie.close
     (tie.spec
-    shared-slice-read-set
+    joined-requires
+    slice-aggregate-differs
+    differs-requires
     array-read-set
     slice-write-set
-    shared-slice-read-set-2
     array-read-set-2
     slice-write-set-2
-    shared-slice-read-set-3
     array-read-set-3
     slice-write-set-3
-    shared-slice-read-set-4
     array-read-set-4
     slice-write-set-4
     same-length

@@ -1,17 +1,20 @@
 -- `sets::store` meets its contract: holder k's four words are lent to `rewrite`. Assumes nothing.
-use mathlib.Core.Path.{_≡_, refl, _∙_}
+use mathlib.Core.Path.{_≡_, refl, sym, _∙_}
 use Prim.Native.Nat.{_≤_, _+_, _*_}
 use lib.ListN.{length}
 use borrow.Rule.Slice.PartMut.{mid-len}
 use Rattle.bits.proofs.Sets.{member-part}
 use Rattle.sets.proofs.Parts.{holds-put, put-others}
+use Rattle.sets.proofs.Telling.{unlike-same, unlike-put}
+use native.Mathlib.Omega.{arith}
 use borrow.Author.Needs.{needs}
 use Rattle.sets.proofs.store.Statement.{statement}
-use native.Mathlib.Omega.{arith}
 use Rattle.sets.proofs.store.Tie as tie
 
 returns : tie.Need-returns
-returns c = record { pairs = λ few p h. absurd (omega arith); others = λ j n. refl }
+returns c =
+    let start = c .before .before .before .before in
+    (record { pairs = λ few p h. absurd (omega arith); others = λ j n. refl }, sym (unlike-same (start .args .table .now) (start .args .table .now) (start .args .k) (λ j e. refl)))
 
 gather-requires : tie.Need-gather-requires
 gather-requires c κs = search needs
@@ -61,12 +64,14 @@ returns-2 c =
     let s = called .rewrite .last .0 in
     let k = start .args .k in
     let few : 4 * k + 4 ≤ length t = omega (arith, gathered .before .before .if1 .left, start .pre .0) in
-    let long : length s ≡ 4 = omega (arith, called .rewrite .kept .0, mid-len (4 * k) (4 * k + 4) t (omega arith)) in
-    record {
-      pairs = λ low p h. holds-put t s k few long p h
-          ∙ (rw (member-part (start .args .own .now) k p h, gathered .gather .ensures p h) at (called .rewrite .ensures p h));
-      others = put-others t s k few long;
-    }
+    let long : length s ≡ 4 = omega (arith, called .rewrite .kept .0, mid-len (4 * k) (4 * k + 4) t (omega arith)) in (
+      record {
+        pairs = λ low p h. holds-put t s k few long p h
+            ∙ (rw (member-part (start .args .own .now) k p h, gathered .gather .ensures p h) at (called .rewrite .ensures .0 p h));
+        others = put-others t s k few long;
+      },
+      called .rewrite .ensures .1 ∙ unlike-put t s k few long,
+    )
 
 pub store-spec : {M : Type 1} → statement M
 store-spec =

@@ -1,66 +1,97 @@
--- `sets::store_each` meets its contract: after k holders those of the set are stored. Assumes nothing.
-use mathlib.Core.Path.{_≡_, refl, sym, _∙_}
-use mathlib.Core.Logic.{⊎-elim}
-use Prim.Native.Nat.{_≤_, _-_, _*_}
+-- `sets::store_each` meets its contract: before holder k those of the set are stored. Assumes nothing.
+use mathlib.Core.Path.{_≡_, refl, sym, ap, _∙_}
+use mathlib.Core.Bool.{true}
+use mathlib.Core.List.{List}
+use Prim.Native.Nat.{ℕ, _<_, _≤_, _+_, _-_, _*_}
+use native.Mathlib.Decide.{decLt}
 use lib.ListN.{length}
+use Rattle.bits.specs.Bits.{member}
+use Rattle.bits.specs.Lowest.{FirstFrom}
 use Rattle.sets.specs.Settled.{StoredEach}
-use Rattle.sets.proofs.Laws.{each-taken, each-left}
-use Rattle.sets.proofs.store_each.Statement.{statement}
+use Rattle.sets.proofs.Laws.{each-none, each-taken, each-all}
 use borrow.Author.Needs.{needs}
 use native.Mathlib.Omega.{arith}
+use Rattle.sets.proofs.store_each.Statement.{statement}
 use Rattle.sets.proofs.store_each.Tie as tie
 
+-- the walk goes on
+on-from : (wanted : List ℕ) (k r n : ℕ) → FirstFrom wanted (k + 1) r → k < n → n ≤ 64 * length wanted → k < r
+on-from wanted k r n first l room = go (decLt r (64 * length wanted))
+  where
+    go : Dec (r < 64 * length wanted) → k < r
+    go (yes y) = omega (arith, first .held y .0)
+    go (no y) = omega arith
+
 abbrev Inv-loop : tie.InvT-loop
-Inv-loop table₀ own ups slots wanted k₀ k-end table k = (k ≤ length ups) × (length table ≡ 4 * length ups) × StoredEach ups own slots wanted table₀ table k
+Inv-loop table₀ marks₀ own ups slots wanted k₀ table marks k =
+    (length table ≡ 4 * length ups) × (length marks ≡ length marks₀) × (k < length ups → member wanted k ≡ true) × StoredEach ups own slots wanted table₀ table marks₀ marks k
 
 abbrev μ-loop : tie.MeasureT-loop
-μ-loop table₀ own ups slots wanted k₀ k-end table k = length ups - k
+μ-loop table₀ marks₀ own ups slots wanted k₀ table marks k = length ups - k
+
+first-from-requires : tie.Need-first-from-requires Inv-loop μ-loop
+first-from-requires c κs = search needs
 
 loop-holds : tie.Need-loop-holds Inv-loop μ-loop
-loop-holds c = (omega arith, c .before .before .before .before .before .pre .0 .table-long, record { right = λ f s r n k l. absurd (omega arith); others = λ j n. refl })
+loop-holds c =
+    let start = c .before .before .before .before .before .before .before in
+    let first = c .first-from in (
+      start .pre .0 .table-long,
+      refl,
+      λ l. first .ensures .held (omega (arith, start .pre .2 .room)) .1,
+      each-none (start .args .ups .now) (start .args .own .now) (start .args .slots .now) (start .args .wanted .now) (start .args .table .now) (start .args .marks .now) (first .result)
+          (first .ensures .lower),
+    )
 
-contains-requires : tie.Need-contains-requires Inv-loop μ-loop
-contains-requires c κs = search needs
+mul-store-marked : tie.Need-mul-store-marked Inv-loop μ-loop
+mul-store-marked c = search needs
 
-mul-store : tie.Need-mul-store Inv-loop μ-loop
-mul-store c = search needs
+shared-slice-read-store-marked : tie.Need-shared-slice-read-store-marked Inv-loop μ-loop
+shared-slice-read-store-marked c = search needs
 
-shared-slice-read-store : tie.Need-shared-slice-read-store Inv-loop μ-loop
-shared-slice-read-store c = search needs
+store-marked-requires : tie.Need-store-marked-requires Inv-loop μ-loop
+store-marked-requires c κs =
+    let start = c .before .before .before .before .before .before .before .before .before .before .before .before in
+    let inv = c .before .before .before .before .loop .inv in
+    omega (arith, start .pre .0 .own-long, start .pre .0 .slots-long, start .pre .1, inv .0, inv .1)
 
-store-requires : tie.Need-store-requires Inv-loop μ-loop
-store-requires c κs =
-    let start = c .before .before .before .before .before .before .before .before .before .before .before in
-    omega (arith, start .pre .0 .own-long, start .pre .0 .slots-long, c .before .before .before .before .before .loop .inv .1)
+add-first-from : tie.Need-add-first-from Inv-loop μ-loop
+add-first-from c = search needs
 
-add-k : tie.Need-add-k Inv-loop μ-loop
-add-k c = search needs
+first-from-requires-2 : tie.Need-first-from-requires-2 Inv-loop μ-loop
+first-from-requires-2 c κs = search needs
 
 loop-less : tie.Need-loop-less Inv-loop μ-loop
-loop-less c = search needs
+loop-less c =
+    let start = c .before .before .before .before .before .before .before .before .before .before .before .before .before .before .before .before .before .before in
+    let head = c .before .before .before .before .before .before .before .before .before .before in
+    let next = c .first-from2 in
+    let after = on-from (start .args .wanted .now) (head .loop .k) (next .result) (length (start .args .ups .now)) (next .ensures) (c .before .before .before .before .before .before .before .before .before .loop-test .taken) (start .pre .2 .room) in
+    omega (arith, after, c .before .before .before .before .before .before .before .before .before .loop-test .taken)
 
 loop-again : tie.Need-loop-again Inv-loop μ-loop
 loop-again c =
-    let head = c .before .before .before in
+    let start = c .before .before .before .before .before .before .before .before .before .before .before .before .before .before .before .before .before .before in
+    let head = c .before .before .before .before .before .before .before .before .before .before in
     let inv = head .loop .inv in
-    let taken = c .before .before .loop-test .taken in
-    ⊎-elim
-    (λ w. rw (w .6) (
-      omega arith,
-      w .3 .kept .0 ∙ inv .1,
-      each-taken (head .loop .k) (inv .2) _ taken (inv .1) refl (sym (c .before .contains .ensures) ∙ w .0 .taken) (w .3 .ensures),
-    ))
-    (λ w. rw (w .1) (omega arith, inv .1, each-left (head .loop .k) (inv .2) (sym (c .before .contains .ensures) ∙ w .0 .left)))
-    (c .if1 .came)
+    let taken = c .before .before .before .before .before .before .before .before .before .loop-test .taken in
+    let stored = c .before .before .before .before .before .store-marked in
+    let next = c .first-from2 in (
+      stored .kept .0 ∙ inv .0,
+      stored .kept .1 .0 ∙ inv .1,
+      λ l. next .ensures .held (omega (arith, start .pre .2 .room)) .1,
+      each-taken (head .loop .k) (inv .3) _ (next .result) taken (inv .0) refl (inv .2 taken) (stored .ensures .0) (stored .ensures .1)
+          (on-from (start .args .wanted .now) (head .loop .k) (next .result) (length (start .args .ups .now)) (next .ensures) taken (start .pre .2 .room)) (next .ensures .lower),
+    )
 
 same-length : tie.Need-same-length Inv-loop μ-loop
-same-length c = c .before .loop .inv .1 ∙ sym (c .before .before .before .before .before .before .before .pre .0 .table-long)
+same-length c = c .before .loop .inv .0 ∙ sym (c .before .before .before .before .before .before .before .before .before .pre .0 .table-long)
+
+same-length-2 : tie.Need-same-length-2 Inv-loop μ-loop
+same-length-2 c = c .before .loop .inv .1
 
 returns : tie.Need-returns Inv-loop μ-loop
-returns c =
-    let start = c .before .before .before .before .before .before .before in
-    let e : c .before .loop .k ≡ length (start .args .ups .now) = omega arith in
-    rw e at (c .before .loop .inv .2)
+returns c = each-all (c .before .loop .k) (c .loop-test .left) (c .before .before .before .before .before .before .before .before .before .pre .0 .table-long) (c .before .loop .inv .0) (c .before .loop .inv .3)
 
 pub store-each-spec : {M : Type 1} → statement M
 store-each-spec =
@@ -68,13 +99,15 @@ store-each-spec =
     (tie.spec
     Inv-loop
     μ-loop
+    first-from-requires
     loop-holds
-    contains-requires
-    mul-store
-    shared-slice-read-store
-    store-requires
-    add-k
+    mul-store-marked
+    shared-slice-read-store-marked
+    store-marked-requires
+    add-first-from
+    first-from-requires-2
     loop-less
     loop-again
     same-length
+    same-length-2
     returns)

@@ -4,7 +4,7 @@ use mathlib.Core.Bool.{Bool, true, _&&_, not}
 use lib.Dec.{eqb}
 use lib.ListN.{getD}
 use Rattle.bits.specs.Bits.{member}
-use Rattle.ties.specs.Ties.{inUse}
+use Rattle.ties.specs.TieArrays.{inUse}
 use Rattle.ties.proofs.Masks.{in-use-lt, eqb-flip, drop-on, drop-off}
 use borrow.Author.Needs.{needs}
 use Rattle.ties.proofs.drop_group.Statement.{statement}

@@ -6,7 +6,7 @@ use lib.Dec.{eqb}
 use lib.ListN.{length, getD}
 use Rattle.bits.specs.Bits.{member, anyBelow}
 use Rattle.bits.proofs.Counts.{any-more}
-use Rattle.ties.specs.Ties.{inUse, isGroup}
+use Rattle.ties.specs.TieArrays.{inUse, isGroup}
 use Rattle.ties.proofs.Masks.{drop-both}
 use Rattle.ties.proofs.drop_groups.Statement.{statement}
 use borrow.Author.Needs.{needs}

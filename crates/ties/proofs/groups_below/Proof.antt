@@ -4,7 +4,7 @@ use mathlib.Core.Bool.{true}
 use Prim.Native.Nat.{ℕ, _<_, _-_, _^_}
 use Rattle.bits.specs.Bits.{bit, countBelow}
 use Rattle.bits.proofs.Counts.{count-below-le}
-use Rattle.ties.specs.Ties.{Under}
+use Rattle.ties.specs.TieArrays.{Under}
 use Rattle.ties.proofs.Widening.{Grows, grows-more, Widened, none-grows, widened-grows, none-sound, widened-sound, marks}
 use Rattle.ties.proofs.groups_below.Statement.{statement}
 use borrow.Author.Needs.{needs}

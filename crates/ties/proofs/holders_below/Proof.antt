@@ -7,7 +7,7 @@ use lib.Dec.{eqb, ltb}
 use lib.ListN.{length}
 use borrow.Author.Tests.{le-ltb}
 use Rattle.bits.specs.Bits.{member}
-use Rattle.ties.specs.Ties.{under}
+use Rattle.ties.specs.TieArrays.{under}
 use Rattle.ties.proofs.Widening.{turn-on, turn-off, or-regroup}
 use Rattle.ties.proofs.holders_below.Statement.{statement}
 use borrow.Author.Needs.{needs}

@@ -4,7 +4,7 @@ use mathlib.Core.Bool.{Bool, _||_}
 use Prim.Native.Nat.{ℕ}
 use lib.ListN.{getD}
 use borrow.Author.Tests.{eq-eqb, ne-eqb}
-use Rattle.ties.specs.Ties.{under, meets}
+use Rattle.ties.specs.TieArrays.{under, meets}
 use borrow.Author.Needs.{needs}
 use Rattle.ties.proofs.is_under.Statement.{statement}
 use Rattle.ties.proofs.is_under.Tie as tie

@@ -3,7 +3,7 @@ use mathlib.Core.Path.{_≡_, sym, ap, _∙_}
 use mathlib.Core.Bool.{Bool, true, _&&_}
 use lib.ListN.{getD, length}
 use borrow.Author.Tests.{not-true, not-false}
-use Rattle.ties.specs.Ties.{under, inUse}
+use Rattle.ties.specs.TieArrays.{under, inUse}
 use borrow.Author.Needs.{needs}
 use Rattle.ties.proofs.joins.Statement.{statement}
 use Rattle.ties.proofs.joins.Tie as tie

@@ -8,7 +8,7 @@ use lib.ListN.{getD, length}
 use borrow.Author.Tests.{lt-ltb, le-ltb}
 use Rattle.bits.specs.Bits.{bit}
 use Rattle.bits.proofs.Bits.{bit-none}
-use Rattle.ties.specs.Ties.{under, inUse}
+use Rattle.ties.specs.TieArrays.{under, inUse}
 use Rattle.ties.proofs.Widening.{turn-on, turn-off}
 use Rattle.ties.proofs.widened.Statement.{statement}
 use borrow.Author.Needs.{needs}

@@ -1,11 +1,11 @@
 -- The specification's effective sets solve the sentence over the arrays that keep the ties. Assumes nothing.
-use Prim.Native.Nat.{ℕ, zero, suc, _/_, _%_, _^_, _≤_, _<_}
+use Prim.Native.Nat.{ℕ, zero, suc, _*_, _/_, _%_, _^_, _≤_, _<_}
 use mathlib.Core.Path.{_≡_, refl, sym, ap, ap₂, _∙_, subst}
 use mathlib.Core.Bool.{Bool, true, false, not, _&&_, _||_, true≢false}
 use mathlib.Core.List.{List}
 use native.Mathlib.Decide.{decLt}
 use native.Mathlib.Omega.{arith}
-use lib.ListN.{length, getD, replicate}
+use lib.ListN.{length, getD, replicate, getD-replicate}
 use Rattle.model.specs.Notation.{any, below}
 use Rattle.model.specs.Declarations.{Declarations, holderNumbersOf}
 use Rattle.model.specs.Ties.{Ties, up}
@@ -18,47 +18,47 @@ use Rattle.model.proofs.Chains
 use Rattle.model.proofs.Chains.{acyclic-depth}
 use Rattle.model.proofs.Effective.{effective-equation}
 use Rattle.model.specs.Standing.{Standing}
-use Rattle.model.proofs.Standing.{among, holders-fit}
+use Rattle.model.proofs.Standing.{among, holders-fit, room-length, length-room}
 use Rattle.bits.specs.Bits.{bit, member, holds, anyBelow}
 use Rattle.bits.proofs.Bits.{bit-none, bit-not}
-use Rattle.bits.proofs.Sets.{four}
-use Rattle.ties.specs.Ties.{tied, isGroup, Kept}
+use Rattle.ties.specs.TieArrays.{tied, isGroup, KeepsTies, Room}
 use Rattle.ties.proofs.Masks.{in-use-lt}
-use Rattle.ties.proofs.Keeps.{any-find, find-any, up-slot, slot-up, group-slot, slot-group}
-use Rattle.sets.specs.Settled.{Solves, RightAt, Right, Depth, Settled, AllDeep, GroupsRight, NoGroups, StoredEach}
-use Rattle.sets.specs.Filled.{Filled}
+use Rattle.bits.proofs.Counts.{any-find, find-any}
+use Rattle.ties.proofs.Keeps.{up-slot, slot-up, group-slot, slot-group}
+use Rattle.sets.specs.Settled.{Solves, RightAt, Right, ShortChains, Settled, AllDeep, GroupsRight, NoGroups, StoredEach}
+use Rattle.sets.specs.Filled.{KeepsSets, Filled}
 use Rattle.sets.proofs.Parts.{holds-kept}
-use Rattle.sets.proofs.Tables.{table-is}
+use Rattle.sets.proofs.Tables.{sets-table}
 
 -- ---- chains in the arrays
 
-module _ {ups own slots : List ℕ} {T : Ties} (kept : Kept ups own slots T) where
-  depth-kept : (n m q : ℕ) → n ≤ m → getD slots q 0 < length ups → Chains.Depth T n (getD slots q 0) → Depth ups slots m q
-  unfolding Chains.Depth Depth
+module _ {ups own slots : List ℕ} {T : Ties} (kept : KeepsTies ups own slots T) where
+  depth-kept : (n m q : ℕ) → n ≤ m → getD slots q 0 < length ups → Chains.Depth T n (getD slots q 0) → ShortChains ups slots m q
+  unfolding Chains.Depth ShortChains
   depth-kept zero m q l few d = absurd d
   depth-kept (suc n) zero q l few d = absurd (omega arith)
   depth-kept (suc n) (suc m) q l few d =
       λ r low e. depth-kept n m r (omega arith) (in-use-lt (length ups) slots r (kept .used (getD slots q 0) r few low e) .1) (d (getD slots r 0) (slot-up kept (getD slots q 0) r few low e))
 
   -- a holder with no ties
-  no-ties : (m q : ℕ) → 0 < m → getD slots q 0 < length ups → ((g : ℕ) → up T (getD slots q 0) g ≡ true → ⊥) → Depth ups slots m q
-  unfolding Depth
+  no-ties : (m q : ℕ) → 0 < m → getD slots q 0 < length ups → ((g : ℕ) → up T (getD slots q 0) g ≡ true → ⊥) → ShortChains ups slots m q
+  unfolding ShortChains
   no-ties zero q l few n = absurd (omega arith)
   no-ties (suc m) q l few n = λ r low e. absurd (n (getD slots r 0) (slot-up kept (getD slots q 0) r few low e))
 
-module _ (ups own slots : List ℕ) (D : Declarations) (T : Ties) (standing : Standing (record { declared = D; ties = T })) (kept : Kept ups own slots T) where
-  pub all-deep : length ups ≡ 256 → AllDeep ups slots
+module _ (ups own slots : List ℕ) (D : Declarations) (T : Ties) (standing : Standing (record { declared = D; ties = T })) (kept : KeepsTies ups own slots T) where
+  pub all-deep : Room D (length ups) → AllDeep ups slots
   unfolding AllDeep holderNumbersOf
-  all-deep long q low u = go (decLt (getD slots q 0) (length (D .holders)))
+  all-deep room q low u = go (decLt (getD slots q 0) (length (D .holders)))
     where
       few : getD slots q 0 < length ups
       few = in-use-lt (length ups) slots q u .1
 
-      go : Dec (getD slots q 0 < length (D .holders)) → Depth ups slots (length ups) q
+      go : Dec (getD slots q 0 < length (D .holders)) → ShortChains ups slots (length ups) q
       go (yes h) =
-          depth-kept kept (length (below (length (D .holders)))) (length ups) q (omega (arith, length-below (length (D .holders)), holders-fit standing)) few
+          depth-kept kept (length (below (length (D .holders)))) (length ups) q (omega (arith, length-below (length (D .holders)), room-length D (length ups) room)) few
           (acyclic-depth (below (length (D .holders))) T (among standing) (standing .acyclic) (getD slots q 0) (below-in (length (D .holders)) (getD slots q 0) h))
-      go (no n) = no-ties kept (length ups) q (omega arith) few (λ g e. n (in-below (length (D .holders)) (among standing .lower (getD slots q 0) g e)))
+      go (no n) = no-ties kept (length ups) q (omega (arith, few)) few (λ g e. n (in-below (length (D .holders)) (among standing .lower (getD slots q 0) g e)))
 
   -- the sentence, over slots
   inherits : (k p : ℕ) → k < length ups
@@ -87,7 +87,7 @@ module _ (ups own slots : List ℕ) (D : Declarations) (T : Ties) (standing : St
 -- ---- groups, then the others
 
 -- every group is settled
-pub groups-right : {ups own slots t t₁ : List ℕ} {d d₁ : ℕ} (f : ℕ → ℕ → Bool) → Settled ups own slots t t₁ d d₁ (AllDeep ups slots) (λ g. g < 64)
+pub groups-right : {ups own slots t t₁ m m₁ : List ℕ} {d d₁ : ℕ} (f : ℕ → ℕ → Bool) → Settled ups own slots t t₁ m m₁ d d₁ (AllDeep ups slots) (λ g. g < 64)
     → Solves ups own slots f → Right (length ups) slots f t d → AllDeep ups slots → GroupsRight (length ups) slots f t₁
 unfolding Right GroupsRight
 groups-right f a s r deep g l u = a .right f s r deep g l u (a .marked deep g l u l)
@@ -106,11 +106,11 @@ no-groups n slots wanted g e q l u = e (getD slots q 0) ∙ off (g (getD slots q
     off false b h = refl
 
 -- each holder that is to be right: a group, or one that is stored
-pub each-right : {ups own slots wanted t₁ t₂ : List ℕ} (f : ℕ → ℕ → Bool) (g : ℕ → Bool) → ((k : ℕ) → member wanted k ≡ (g k && not (isGroup (length ups) slots k)))
-    → Solves ups own slots f → GroupsRight (length ups) slots f t₁ → StoredEach ups own slots wanted t₁ t₂ (length ups)
+pub each-right : {ups own slots wanted t₁ t₂ m₁ m₂ : List ℕ} (f : ℕ → ℕ → Bool) (g : ℕ → Bool) → ((k : ℕ) → member wanted k ≡ (g k && not (isGroup (length ups) slots k)))
+    → Solves ups own slots f → GroupsRight (length ups) slots f t₁ → StoredEach ups own slots wanted t₁ t₂ m₁ m₂ (length ups)
     → (k : ℕ) → k < length ups → g k ≡ true → RightAt f t₂ k
 unfolding GroupsRight RightAt
-each-right {ups} {own} {slots} {wanted} {t₁} {t₂} f g e s r b k few on = go (isGroup (length ups) slots k) refl
+each-right {ups} {own} {slots} {wanted} {t₁} {t₂} {m₁} {m₂} f g e s r b k few on = go (isGroup (length ups) slots k) refl
   where
     none : NoGroups (length ups) slots wanted
     none = no-groups (length ups) slots wanted g e
@@ -118,24 +118,31 @@ each-right {ups} {own} {slots} {wanted} {t₁} {t₂} f g e s r b k few on = go 
     go : (t : Bool) → isGroup (length ups) slots k ≡ t → (p : ℕ) → p < 256 → holds t₂ k p ≡ f k p
     go true q p h =
         let m = group-slot (length ups) slots k q in
-        holds-kept t₁ t₂ k p h (λ j x. b .others j (λ y. true≢false (sym y ∙ ap (member wanted) x ∙ e k ∙ ap₂ (λ (a b : Bool). a && not b) on q)))
+        holds-kept t₁ t₂ k p h (λ j x. b .others j (λ y l. true≢false (sym y ∙ ap (member wanted) x ∙ e k ∙ ap₂ (λ (a b : Bool). a && not b) on q)))
         ∙ subst (λ (i : ℕ). holds t₁ i p ≡ f i p) (m .3) (r (m .0) (m .1) (m .2) p h)
     go false q p h = b .right f s r none k few (e k ∙ ap₂ (λ (a b : Bool). a && not b) on q) p h
 
--- the set of all numbers below 256
-pub all-numbers : (k : ℕ) → k < 256 → member (replicate 4 18446744073709551615) k ≡ true
+-- the set of all numbers below 1,024
+pub all-numbers : (k : ℕ) → k < 1024 → member (replicate 16 18446744073709551615) k ≡ true
 unfolding member
 all-numbers k h =
-    ap (λ (w : ℕ). bit w (k % 64)) (four (λ (j : ℕ). _≡_ {A = ℕ} (getD (replicate 4 18446744073709551615) j 0) 18446744073709551615) refl refl refl refl (k / 64) (omega arith))
+    ap (λ (w : ℕ). bit w (k % 64)) (getD-replicate 16 (k / 64) 18446744073709551615 0 (omega arith))
     ∙ bit-not 64 0 (k % 64) (omega arith) (omega arith) ∙ ap not (bit-none (k % 64))
 
 -- the groups, and then the others
-pub filled : (ups own slots wanted t t₁ t₂ : List ℕ) (d₁ : ℕ) → length ups ≡ 256 → length t₂ ≡ 1024 → ((j : ℕ) → getD t₂ j 0 < 2 ^ 64)
-    → Settled ups own slots t t₁ 0 d₁ (AllDeep ups slots) (λ g. g < 64) → StoredEach ups own slots wanted t₁ t₂ (length ups)
-    → ((k : ℕ) → member wanted k ≡ (member (replicate 4 18446744073709551615) k && not (isGroup 256 slots k))) → Filled ups own slots t₂
-unfolding Filled RightAt
-filled ups own slots wanted t t₁ t₂ d₁ long tall fit a b e D T standing kept =
-    let s = effective-solves ups own slots D T standing kept in
-    let r = groups-right (effectiveSet D T) a s (right-none (length ups) slots (effectiveSet D T) t) (all-deep ups own slots D T standing kept long) in
-    let w : (k : ℕ) → member wanted k ≡ (member (replicate 4 18446744073709551615) k && not (isGroup (length ups) slots k)) = rw long e in
-    table-is D T standing t₂ tall fit (λ k p h l. each-right (effectiveSet D T) (member (replicate 4 18446744073709551615)) w s r b k (omega arith) (all-numbers k h) p l)
+module _ (ups own slots wanted t t₁ t₂ m m₁ m₂ : List ℕ) (d₁ : ℕ) (few : length ups ≤ 1024) (tall : length t₂ ≡ 4 * length ups) (fit : (j : ℕ) → getD t₂ j 0 < 2 ^ 64)
+    (a : Settled ups own slots t t₁ m m₁ 0 d₁ (AllDeep ups slots) (λ g. g < 64)) (b : StoredEach ups own slots wanted t₁ t₂ m₁ m₂ (length ups))
+    (e : (k : ℕ) → member wanted k ≡ (member (replicate 16 18446744073709551615) k && not (isGroup (length ups) slots k))) where
+  all-right : (D : Declarations) (T : Ties) → Standing (record { declared = D; ties = T }) → KeepsTies ups own slots T → Room D (length ups) → KeepsSets (length ups) t₂ D T
+  unfolding KeepsSets RightAt
+  all-right D T standing kept room k p h l =
+      let s = effective-solves ups own slots D T standing kept in
+      let r = groups-right (effectiveSet D T) a s (right-none (length ups) slots (effectiveSet D T) t) (all-deep ups own slots D T standing kept room) in
+      each-right (effectiveSet D T) (member (replicate 16 18446744073709551615)) e s r b k h (all-numbers k (omega arith)) p l
+
+  pub filled : Filled ups own slots t₂
+  filled = record {
+    pairs = all-right;
+    whole = λ D T standing kept long.
+        sets-table D T standing t₂ (omega arith) fit (subst (λ (n : ℕ). KeepsSets n t₂ D T) long (all-right D T standing kept (length-room D (length ups) (omega (arith, holders-fit standing)))));
+  }

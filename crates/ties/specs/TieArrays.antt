@@ -1,14 +1,15 @@
 -- Ties in arrays. A group has a slot, and `slots` gives the holder number of each; a holder's ties up are a mask over slots, in `ups`; its own
 -- pairs are four words, in `own`. The number of holders is that of the words of `ups`. Assumes nothing: these are definitions.
-use Prim.Native.Nat.{ℕ, _<_}
+use Prim.Native.Nat.{ℕ, _≤_, _<_}
 use mathlib.Core.Path.{_≡_}
-use mathlib.Core.Bool.{Bool, true, _&&_, _||_}
+use mathlib.Core.Logic.{_⊎_}
+use mathlib.Core.Bool.{Bool, true, false, _&&_, _||_, not}
 use mathlib.Core.List.{List}
 use lib.Dec.{eqb, ltb}
-use lib.ListN.{getD, length}
+use lib.ListN.{getD, length, set}
 use Rattle.model.specs.Limits.{groupLimit, pairLimit}
-use Rattle.model.specs.Declarations.{Declarations, holderNumbersOf}
-use Rattle.model.specs.Ties.{Ties, value, up, closesCircle}
+use Rattle.model.specs.Declarations.{Declarations, isHolder, holderNumbersOf}
+use Rattle.model.specs.Ties.{Tie, Ties, parent, member, value, added, removed, up, closesCircle}
 use Rattle.model.specs.Standing.{Standing}
 use Rattle.bits.specs.Bits.{bit, holds, anyBelow}
 
@@ -28,11 +29,20 @@ meets a b = anyBelow groupLimit (λ q. bit a q && bit b q)
 unfoldable pub isGroup : ℕ → List ℕ → ℕ → Bool
 isGroup n slots k = anyBelow groupLimit (λ q. inUse n slots q && eqb (getD slots q 0) k)
 
+-- no two slots in use have one holder
+unfoldable pub Distinct : ℕ → List ℕ → Type 0
+Distinct n slots = (q r : ℕ) → q < groupLimit → r < groupLimit → inUse n slots q ≡ true → getD slots r 0 ≡ getD slots q 0 → r ≡ q
+
 -- the arrays keep the ties T
-pub record Kept (ups own slots : List ℕ) (T : Ties) : Type 0 where
+pub record KeepsTies (ups own slots : List ℕ) (T : Ties) : Type 0 where
   pub pairs : (h p : ℕ) → h < length ups → p < pairLimit → holds own h p ≡ T (value h p)
   pub groups : (h g : ℕ) → h < length ups → up T h g ≡ anyBelow groupLimit (λ q. tied ups h q && eqb (getD slots q 0) g)
   pub used : (h q : ℕ) → h < length ups → q < groupLimit → tied ups h q ≡ true → inUse (length ups) slots q ≡ true
+  pub distinct : Distinct (length ups) slots
+
+-- arrays for n holders have room for those of D
+abbrev pub Room : Declarations → ℕ → Type 0
+Room D n = (k : ℕ) → isHolder D k ≡ true → k < n
 
 -- the group of slot q is holder e, or a chain of ties leads from it up to e
 pub data Under (ups slots : List ℕ) (e : ℕ) : ℕ → Type 0 where
@@ -48,8 +58,8 @@ pub record Marks (ups slots : List ℕ) (e m : ℕ) : Type 0 where
 unfoldable pub under : List ℕ → ℕ → ℕ → ℕ → Bool
 under ups m e k = eqb k e || meets (getD ups k 0) m
 
--- "parent tie that closes a circle, itself included", for every standing state that the arrays keep
-unfoldable pub Closes : List ℕ → List ℕ → ℕ → ℕ → Bool → Type 0
-Closes ups slots child g r =
-    (D : Declarations) (T : Ties) (own : List ℕ) → Standing (record { declared = D; ties = T }) → Kept ups own slots T
+-- "parent tie that closes a circle, itself included", for every standing state that the arrays keep, with room for its holders
+unfoldable pub ClosesCircle : List ℕ → List ℕ → ℕ → ℕ → Bool → Type 0
+ClosesCircle ups slots child g r =
+    (D : Declarations) (T : Ties) (own : List ℕ) → Standing (record { declared = D; ties = T }) → KeepsTies ups own slots T → Room D (length ups)
     → r ≡ closesCircle (holderNumbersOf D) T child g

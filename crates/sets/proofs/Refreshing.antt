@@ -1,0 +1,247 @@
+-- An edit's table: the edited holder and those below it anew, and the others as they were. Assumes nothing.
+use Prim.Native.Nat.{ℕ, zero, suc, _+_, _-_, _*_, _/_, _%_, _^_, _≤_, _<_}
+use mathlib.Core.Path.{_≡_, refl, sym, ap, ap₂, _∙_, subst}
+use mathlib.Core.Logic.{_⊎_, inl, inr, ⊎-elim}
+use mathlib.Core.Bool.{Bool, true, false, not, _&&_, _||_, Bool·beq, true≢false, or-false, and-false}
+use mathlib.Core.List.{List}
+use native.Mathlib.Nat.{eq-or-lt-of-le, le-trans, lt-of-lt-of-le}
+use native.Mathlib.Decide.{ℕ-discrete, decLt}
+use native.Mathlib.Omega.{arith}
+use lib.Dec.{eqb, ltb}
+use lib.ListN.{length, getD, replicate, List·getD-eq-default, getD-replicate, length-replicate}
+use borrow.Author.Tests.{eq-eqb, eqb-true, ne-eqb, lt-ltb, not-true, not-false}
+use Rattle.model.specs.Declarations.{Declarations, holderNumbersOf}
+use Rattle.model.specs.Ties.{Ties}
+use Rattle.model.specs.Table.{effectiveSet, table}
+use Rattle.model.specs.Edits.{differs, changes}
+use Rattle.model.proofs.Options.{parts, both}
+use Rattle.model.proofs.Lists.{true-or-false, or-cases, or-left, or-right, or-none}
+use Rattle.model.proofs.Effective.{same-elsewhere}
+use Rattle.model.specs.Standing.{Standing}
+use Rattle.model.proofs.Standing as model
+use Rattle.bits.specs.Bits.{bit, member, holds, anyBelow, countBelow}
+use Rattle.bits.proofs.Bits.{bit-none, bit-not}
+use Rattle.bits.proofs.Sets.{same-beq}
+use Rattle.bits.proofs.Counts.{any-ext, any-suc, any-at, any-find, find-any, count-ext, count-rest}
+use Rattle.ties.specs.TieArrays.{inUse, tied, meets, isGroup, under, Distinct, Room, Under, here, over, Marks}
+use Rattle.ties.proofs.Masks.{in-use-lt}
+use Rattle.ties.proofs.Keeps.{slot-group}
+use Rattle.ties.proofs.Below.{above-meets, holders-fit}
+use Rattle.sets.specs.Settled.{Solves, RightAt, Right, Stored, Told, unlike, Settled, AllDeep, GroupsRight, StoredEach}
+use Rattle.sets.specs.Filled.{KeepsSets}
+use Rattle.sets.specs.Refreshed.{EditedAt, Elsewhere, Rewritten, Refreshed}
+use Rattle.sets.proofs.Parts.{holds-kept}
+use Rattle.sets.proofs.Telling.{SameAt, unlike-past, others-same, told-more}
+use Rattle.sets.proofs.Laws.{stored-right}
+use Rattle.sets.proofs.Tables.{sets-table, table-sets, pair-declared, no-holder}
+use Rattle.sets.proofs.Solving.{all-deep, effective-solves, groups-right, each-right}
+
+-- none passes from n on
+any-rest : (n m : ℕ) (f : ℕ → Bool) → n ≤ m → ((i : ℕ) → n ≤ i → i < m → f i ≡ false) → anyBelow m f ≡ anyBelow n f
+any-rest n zero f l e = ap (λ (k : ℕ). anyBelow k f) (let z : 0 ≡ n = omega arith in z)
+any-rest n (suc m) f l e = ⊎-elim
+    (λ q. ap (λ (k : ℕ). anyBelow k f) (sym q))
+    (λ h. any-suc m f ∙ ap (λ (b : Bool). anyBelow m f || b) (e m (omega arith) (omega arith)) ∙ or-false (anyBelow m f) ∙ any-rest n m f (omega arith) (λ i a b. e i a (omega arith)))
+    (eq-or-lt-of-le l)
+
+-- the empty set
+no-numbers : (k : ℕ) → member (replicate 16 0) k ≡ false
+unfolding member
+no-numbers k = ap (λ (w : ℕ). bit w (k % 64)) (go (decLt (k / 64) 16)) ∙ bit-none (k % 64)
+  where
+    go : Dec (k / 64 < 16) → _≡_ {A = ℕ} (getD (replicate 16 0) (k / 64) 0) 0
+    go (yes l) = getD-replicate 16 (k / 64) 0 0 l
+    go (no l) = List·getD-eq-default (replicate 16 0) 0 {n = k / 64} (omega (arith, length-replicate {A = ℕ} 16 0))
+
+-- ---- the groups at e and below it, in the arrays
+
+module _ (ups slots : List ℕ) (e m : ℕ) (marks : Marks ups slots e m) where
+  -- a group of the mask is e, or has a tie into the mask
+  marked-under : (q : ℕ) → q < 64 → bit m q ≡ true → under ups m e (getD slots q 0) ≡ true
+  unfolding under meets tied
+  marked-under q l on = by (marks .sound q l on)
+    where
+      by : Under ups slots e q → (eqb (getD slots q 0) e || anyBelow 64 (λ r. bit (getD ups (getD slots q 0) 0) r && bit m r)) ≡ true
+      by (here u at) = or-left (eqb (getD slots q 0) e) (anyBelow 64 (λ r. bit (getD ups (getD slots q 0) 0) r && bit m r)) (eq-eqb (getD slots q 0) e at)
+      by (over {r = r} u low on c) =
+          or-right (eqb (getD slots q 0) e) (anyBelow 64 (λ r. bit (getD ups (getD slots q 0) 0) r && bit m r))
+          (find-any 64 (λ r. bit (getD ups (getD slots q 0) 0) r && bit m r) r low (both on (marks .complete r low c)))
+
+  -- and the other way round
+  under-marked : (q : ℕ) → q < 64 → inUse (length ups) slots q ≡ true → under ups m e (getD slots q 0) ≡ true → bit m q ≡ true
+  unfolding under meets tied
+  under-marked q l u y =
+      marks .complete q l (⊎-elim (λ z. here u (eqb-true (getD slots q 0) e z))
+      (λ z.
+      let r = any-find 64 (λ r. bit (getD ups (getD slots q 0) 0) r && bit m r) z in
+      let s = parts (bit (getD ups (getD slots q 0) 0) (r .0)) (bit m (r .0)) (r .2) in
+      over u (r .1) (s .0) (marks .sound (r .0) (r .1) (s .1)))
+      (or-cases (eqb (getD slots q 0) e) (anyBelow 64 (λ r. bit (getD ups (getD slots q 0) 0) r && bit m r)) y))
+
+  not-under : (k : ℕ) → (k ≡ e → ⊥) → ((q : ℕ) → q < 64 → tied ups k q ≡ true → Under ups slots e q → ⊥) → under ups m e k ≡ false
+  unfolding under meets tied
+  not-under k no-e none =
+      ap₂ (λ (a b : Bool). a || b) (ne-eqb k e no-e) (⊎-elim
+      (λ y.
+      let r = any-find 64 (λ q. bit (getD ups k 0) q && bit m q) y in
+      let s = parts (bit (getD ups k 0) (r .0)) (bit m (r .0)) (r .2) in
+      absurd (none (r .0) (r .1) (s .0) (marks .sound (r .0) (r .1) (s .1))))
+      (λ y. y) (true-or-false (anyBelow 64 (λ q. bit (getD ups k 0) q && bit m q))))
+
+  -- what stays where a holder is not under e stays elsewhere
+  stays-elsewhere : (t t′ : List ℕ) → ((k : ℕ) → under ups m e k ≡ false → SameAt t t′ k) → Elsewhere ups slots e t t′
+  unfolding Elsewhere
+  stays-elsewhere t t′ stays j no-e none = stays (j / 4) (not-under (j / 4) no-e none) j refl
+
+  -- against the specification
+  module _ (own t : List ℕ) (D : Declarations) (T U : Ties) (edit : EditedAt ups own slots e D T U) (room : Room D (length ups))
+      (was : KeepsSets (length ups) t D T) where
+    -- a holder that is not under e has the same effective set as before
+    unchanged : (k : ℕ) → k < length ups → under ups m e k ≡ false → RightAt (effectiveSet D U) t k
+    unfolding RightAt KeepsSets effectiveSet under
+    unchanged k h off p l =
+        let s = or-none (eqb k e) (meets (getD ups k 0) m) off in
+        was k p h l
+        ∙ same-elsewhere (holderNumbersOf D) U T e (λ t n. sym (edit .differ t n)) k p (λ q. true≢false (sym (eq-eqb k e q) ∙ s .0))
+        (λ c. true≢false (sym (above-meets (edit .kept) (holders-fit ups D U (edit .after) room) e m marks k c) ∙ s .1))
+
+    -- a group that is not in the mask is right
+    group-right : (q : ℕ) → q < 64 → inUse (length ups) slots q ≡ true → bit m q ≡ false → RightAt (effectiveSet D U) t (getD slots q 0)
+    group-right q l u off =
+        unchanged (getD slots q 0) (in-use-lt (length ups) slots q u .1)
+        (⊎-elim (λ y. absurd (true≢false (sym (under-marked q l u y) ∙ off))) (λ y. y) (true-or-false (under ups m e (getD slots q 0))))
+
+    solved : Solves ups own slots (effectiveSet D U)
+    solved = effective-solves ups own slots D U (edit .after) (edit .kept)
+
+    -- all are right, where those under e are and the others stay
+    all-right : (t′ : List ℕ) → ((k : ℕ) → under ups m e k ≡ false → SameAt t t′ k) → ((k : ℕ) → k < length ups → under ups m e k ≡ true → RightAt (effectiveSet D U) t′ k)
+        → KeepsSets (length ups) t′ D U
+    unfolding RightAt KeepsSets
+    all-right t′ stays right k p h l =
+        ⊎-elim (λ y. right k h y p l) (λ y. holds-kept t t′ k p l (stays k y) ∙ unchanged k h y p l) (true-or-false (under ups m e k))
+
+-- ---- a user or object: nobody is below it, and its own set is all
+
+module _ (ups own slots : List ℕ) (e up : ℕ) (t t′ marks marks′ : List ℕ) (none : Marks ups slots e 0) (long : length t ≡ 4 * length ups) (by : up ≡ getD ups e 0)
+    (b : Stored own slots e up t t′) (c : Told marks marks′ t t′) where
+  under-none : (k : ℕ) → under ups 0 e k ≡ eqb k e
+  unfolding under meets
+  under-none k =
+      ap (λ (x : Bool). eqb k e || x) (any-at 64 (λ q. bit (getD ups k 0) q && bit 0 q) (λ q l. ap (λ (x : Bool). bit (getD ups k 0) q && x) (bit-none q) ∙ and-false (bit (getD ups k 0) q)))
+      ∙ or-false (eqb k e)
+
+  one-stays : (k : ℕ) → under ups 0 e k ≡ false → SameAt t t′ k
+  one-stays k off = others-same b k (λ x. true≢false (sym (eq-eqb k e x) ∙ sym (under-none k) ∙ off))
+
+  pub rewritten-alone : Rewritten ups own slots e t t′ marks marks′
+  rewritten-alone = record {
+    right = λ D T U edit room was. all-right ups slots e 0 none own t D T U edit room was t′ one-stays
+        (λ k h on. subst (RightAt (effectiveSet D U) t′) (sym (eqb-true k e (sym (under-none k) ∙ on)))
+        (stored-right ups own slots e up (effectiveSet D U) (solved ups slots e 0 none own t D T U edit room was)
+        (subst (λ (x : ℕ). x < length ups) (eqb-true k e (sym (under-none k) ∙ on)) h) long by b
+        (λ q l u o. group-right ups slots e 0 none own t D T U edit room was q l u (bit-none q))));
+    told = λ distinct. c;
+    elsewhere = stays-elsewhere ups slots e 0 none t t′ one-stays;
+  }
+
+-- ---- a group: the groups of the mask are settled anew, and then the others under e are stored
+
+module _ (ups own slots : List ℕ) (e m : ℕ) (marks : Marks ups slots e m) (small : m < 2 ^ 64) (t t₁ t₂ m₀ m₁ m₂ holders wanted : List ℕ) (d₁ : ℕ)
+    (h : (k : ℕ) → member holders k ≡ (member (replicate 16 0) k || ltb k (length ups) && under ups m e k))
+    (w : (k : ℕ) → member wanted k ≡ (member holders k && not (isGroup (length ups) slots k)))
+    (a : Settled ups own slots t t₁ m₀ m₁ (2 ^ 64 - 1 - m) d₁ (AllDeep ups slots) (λ g. g < 64)) (b : StoredEach ups own slots wanted t₁ t₂ m₁ m₂ (length ups)) where
+  g : ℕ → Bool
+  g k = ltb k (length ups) && under ups m e k
+
+  by-g : (k : ℕ) → member wanted k ≡ (g k && not (isGroup (length ups) slots k))
+  unfolding g
+  by-g k = w k ∙ ap (λ (x : Bool). x && not (isGroup (length ups) slots k)) (h k ∙ ap (λ (x : Bool). x || ltb k (length ups) && under ups m e k) (no-numbers k))
+
+  g-off : (k : ℕ) → under ups m e k ≡ false → g k ≡ false
+  unfolding g
+  g-off k y = ap (λ (x : Bool). ltb k (length ups) && x) y ∙ and-false (ltb k (length ups))
+
+  g-on : (k : ℕ) → k < length ups → under ups m e k ≡ true → g k ≡ true
+  unfolding g
+  g-on k l y = both (lt-ltb k (length ups) l) y
+
+  not-done : (q : ℕ) → q < 64 → bit (2 ^ 64 - 1 - m) q ≡ not (bit m q)
+  not-done q l = bit-not 64 m q small l
+
+  below-stays : (k : ℕ) → under ups m e k ≡ false → SameAt t t₂ k
+  below-stays k off j at =
+      b .others j (λ on l. true≢false (sym on ∙ ap (member wanted) at ∙ by-g k ∙ ap (λ (x : Bool). x && not (isGroup (length ups) slots k)) (g-off k off)))
+      ∙ a .others j (λ q l u off₁ on₁ x. true≢false (sym (marked-under ups slots e m marks q l (not-false (bit m q) (sym (not-done q l) ∙ off₁))) ∙ ap (under ups m e) (sym x ∙ at) ∙ off))
+
+  -- a group is settled, another holder is stored
+  settled-or-stored : (k : ℕ) → SameAt t t₁ k ⊎ SameAt t₁ t₂ k
+  settled-or-stored k = ⊎-elim
+      (λ y. inr (λ j at. b .others j (λ on l. true≢false (sym on ∙ ap (member wanted) at ∙ w k ∙ off (member holders k) (isGroup (length ups) slots k) y))))
+      (λ y. inl (λ j at. a .others j (λ q l u off₁ on₁ x. true≢false (sym (ap (isGroup (length ups) slots) (sym (sym x ∙ at)) ∙ slot-group (length ups) slots q l u) ∙ y))))
+      (true-or-false (isGroup (length ups) slots k))
+    where
+      off : (x y : Bool) → y ≡ true → (x && not y) ≡ false
+      off true y e = ap not e
+      off false y e = refl
+
+  pub rewritten : Rewritten ups own slots e t t₂ m₀ m₂
+  unfolding Right
+  rewritten = record {
+    right = λ D T U edit room was.
+        let s = solved ups slots e m marks own t D T U edit room was in
+        let r = groups-right (effectiveSet D U) a s
+        (λ q l u on. group-right ups slots e m marks own t D T U edit room was q l u (not-true (bit m q) (sym (not-done q l) ∙ on)))
+        (all-deep ups own slots D U (edit .after) (edit .kept) room) in
+        all-right ups slots e m marks own t D T U edit room was t₂ below-stays (λ k l y. each-right (effectiveSet D U) g by-g s r b k l (g-on k l y));
+    told = λ distinct. told-more (a .told distinct) (b .told) settled-or-stored;
+    elsewhere = stays-elsewhere ups slots e m marks t t₂ below-stays;
+  }
+
+-- ---- how many changed
+
+module _ (ups own slots : List ℕ) (e : ℕ) (t t′ changed : List ℕ) (r : ℕ) (few : length ups ≤ 1024) (long : length t ≡ 4 * length ups) (long′ : length t′ ≡ 4 * length ups)
+    (fit : (j : ℕ) → getD t′ j 0 < 2 ^ 64) (b : Rewritten ups own slots e t t′ (replicate 16 0) changed) (n : r ≡ countBelow 1024 (member changed)) where
+  module _ (D : Declarations) (T U : Ties) (edit : EditedAt ups own slots e D T U) (room : Room D (length ups)) (was : KeepsSets (length ups) t D T) where
+    now : KeepsSets (length ups) t′ D U
+    now = b .right D T U edit room was
+
+    -- a holder's sets, by the table's words and by the specification
+    unlike-differs : (k : ℕ) → k < length ups → unlike t t′ k ≡ anyBelow (length (D .pairs)) (λ p. not (Bool·beq (effectiveSet D T k p) (effectiveSet D U k p)))
+    unfolding unlike KeepsSets
+    unlike-differs k h =
+        any-ext 256 (λ p. not (Bool·beq (holds t k p) (holds t′ k p))) (λ p. not (Bool·beq (effectiveSet D T k p) (effectiveSet D U k p)))
+        (λ p l. ap₂ (λ (x y : Bool). not (Bool·beq x y)) (was k p h l) (now k p h l))
+        ∙ any-rest (length (D .pairs)) 256 (λ p. not (Bool·beq (effectiveSet D T k p) (effectiveSet D U k p))) (model.pairs-fit (edit .before))
+        (λ p l m. same-beq (effectiveSet D T k p) (effectiveSet D U k p) (none T (edit .before) k p l ∙ sym (none U (edit .after) k p l)))
+      where
+        none : (S : Ties) → Standing (record { declared = D; ties = S }) → (k p : ℕ) → length (D .pairs) ≤ p → effectiveSet D S k p ≡ false
+        none S st k p l = ⊎-elim (λ e. absurd (omega (arith, pair-declared D S st k p e))) (λ e. e) (true-or-false (effectiveSet D S k p))
+
+    -- there is no other
+    unlike-none : (k : ℕ) → length (D .holders) ≤ k → unlike t t′ k ≡ false
+    unlike-none k l = go (decLt k (length ups))
+      where
+        go : Dec (k < length ups) → unlike t t′ k ≡ false
+        go (yes h) = unlike-differs k h ∙ any-at (length (D .pairs)) _ (λ p x.
+            same-beq (effectiveSet D T k p) (effectiveSet D U k p) (no-holder D T (edit .before) k p l ∙ sym (no-holder D U (edit .after) k p l)))
+        go (no h) = unlike-past t t′ k (omega arith) (long′ ∙ sym long)
+
+    counted : r ≡ changes D T U
+    unfolding changes differs holderNumbersOf countBelow anyBelow
+    counted =
+        n ∙ count-ext 1024 (member changed) (unlike t t′) (λ k l. b .told (edit .kept .distinct) .marks k ∙ ap (λ (x : Bool). x || unlike t t′ k) (no-numbers k))
+        ∙ count-rest (length (D .holders)) 1024 (unlike t t′) (le-trans (model.room-length D (length ups) room) few) (λ k l h. unlike-none k l)
+        ∙ count-ext (length (D .holders)) (unlike t t′) (differs D T U) (λ k l. unlike-differs k (lt-of-lt-of-le l (model.room-length D (length ups) room)))
+
+  pub refreshed : Refreshed ups own slots e t t′ r
+  refreshed = record {
+    pairs = λ D T U edit room was. (now D T U edit room was, counted D T U edit room was);
+    whole = λ D T U edit size was.
+        let room : Room D (length ups) = model.length-room D (length ups) (omega (arith, model.holders-fit (edit .before))) in
+        let sets = subst (λ (n : ℕ). KeepsSets n t D T) (sym size) (table-sets D T (edit .before) t was) in (
+          sets-table D U (edit .after) t′ (omega arith) fit (subst (λ (n : ℕ). KeepsSets n t′ D U) size (now D T U edit room sets)),
+          counted D T U edit room sets,
+        );
+    elsewhere = b .elsewhere;
+  }
