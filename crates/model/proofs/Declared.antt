@@ -318,3 +318,18 @@ nothing-well = record {
     one : (P : Holder → Type 0) → P (record { sort = Sort.admin; name = bytes "admin" }) → (k : ℕ) (h : Holder) → holderOf nothingDeclared k ≡ some h → P h
     one P p zero h e = rw (Option·some-injective _ _ e) at p
     one P p (suc k) h e = none-is-some e
+
+-- a pair's attribute, by its number
+pub record PairDeclared (D : Declarations) (p : Pair) : Type 0 where
+  pub number : ℕ
+  pub attribute : Attribute
+  pub number-is : attributeNumber D (p .source) (p .name) ≡ some number
+  pub attribute-is : nth (D .attributes) number ≡ some attribute
+  pub typed : typeOf (p .atom) ≡ attribute .type
+
+pub pair-declared : {D : Declarations} → WellDeclared D → (i : ℕ) (p : Pair) → nth (D .pairs) i ≡ some p → PairDeclared D p
+unfolding attributeOf
+pair-declared {D} well i p e =
+    let stands = well .pairs .each i p e in
+    let (k, q, r) = bind-some (attributeNumber D (p .source) (p .name)) (nth (D .attributes)) (stands .declared) in
+    record { number = k; attribute = stands .attribute; number-is = q; attribute-is = r; typed = sym (stands .typed) }

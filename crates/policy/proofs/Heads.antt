@@ -1,115 +1,139 @@
 -- How a term begins: the code's heads, and what a term is from its head.
 use Prim.Native.Nat.{ℕ, zero, suc, _+_, _-_, _*_, _≤_, _<_, min, max}
 use mathlib.Core.Path.{_≡_, refl, sym, ap, ap₂, subst, _∙_}
-use mathlib.Core.Bool.{Bool, true, false}
+use mathlib.Core.Bool.{Bool, true, false, _&&_}
 use mathlib.Core.List.{List, [], _∷_}
-use mathlib.Core.Option.{Option, none, some}
+use mathlib.Core.Option.{Option, none, some, Option·some-injective}
 use native.Mathlib.Omega.{arith}
-use lib.ListN.{length}
+use lib.Dec.{leb}
+use lib.ListN.{length, getD}
+use borrow.Author.Tests.{le-leb, leb-true}
 use Rattle.model.specs.Notation.{_>>=_, _or-else_, onlyIf}
 use Rattle.model.specs.Bytes.{Bytes}
 use Rattle.model.specs.Truth as truth
+use Rattle.model.specs.Atoms.{Atom}
 use Rattle.model.specs.Tokens as model
 use Rattle.model.specs.Tokens.{Mark, Operator}
 use Rattle.model.specs.Grammar as grammar
-use Rattle.model.specs.Grammar.{Policy, constant, lone, compare, atomsIn, isMark, behindMark, readOperator, readVar, readComparison, readSimple, readTerm, closed, termWithin, policyWithin}
+use Rattle.model.specs.Grammar.{Policy, constant, lone, compare, constants, attribute, atomsIn, oneType, isMark, behindMark, readOperator, readItems, readSet, readVar, readComparison, readSimple, readTerm, closed, termWithin, policyWithin}
 use Rattle.model.proofs.Results.{case-so}
-use Rattle.model.proofs.Words.{false-is-true}
-use Rattle.tokens.specs.declared.Token.{Token}
-use Rattle.tokens.specs.Codes.{markCode, operatorCode}
-use Rattle.tokens.specs.Reading.{From, tokenAt}
-use Rattle.values.specs.declared.Truth.{Truth}
-use Rattle.values.specs.declared.Truth.the-variants.{False, Undef, True}
+use Rattle.model.proofs.Words.{false-is-true, none-is-some}
+use Rattle.model.proofs.Options.{bind-some, parts, both}
+use Rattle.model.proofs.Complete.{above}
+use Rattle.codes.specs.Codes.{markCode, operatorCode, truthCode}
+use Rattle.codes.proofs.TokenKinds.{mark-range, truth-range, operator-range}
+use Rattle.tokens.proofs.RuleCode.{truth-here, name-here}
+use Rattle.truth.specs.declared.Truth.{Truth}
+use Rattle.truth.specs.declared.Truth.the-variants.{False, Undef, True}
+use Rattle.truth.specs.Truths.{truthOf}
 use Rattle.values.specs.declared.Operand.{Operand}
-use Rattle.values.specs.Truths.{truthOf}
-use Rattle.values.specs.Operands.{Stands, Compared, Lone}
-use Rattle.session.specs.Lent.{Looked}
+use Rattle.values.specs.Compared.{Compared, Lone}
 use Rattle.policy.specs.declared.Part.{Part}
 use Rattle.policy.specs.declared.Reading.{Reading}
 use Rattle.policy.specs.declared.Reading.the-variants.{Read, Malformed}
 use Rattle.policy.specs.declared.Head.{Head}
 use Rattle.policy.specs.declared.Head.the-variants.{Leaf, Open, Neither}
 use Rattle.policy.specs.declared.Var.{Var}
-use Rattle.policy.specs.Starts.{Start, whole, opened, neither, simpleStart, negatedStart, readOr, comparisonStart, termStart, negatedIf, closedBy}
-use Rattle.policy.specs.Readers.{Lending, Reads, Answers, Ahead, Reader, Terms, Policies, Closes, Starts, Further, Heads, NegatedHead, Spoken, VarAnswers, Vars, leafPart}
-use Rattle.policy.proofs.Tokens.{Told, Front, told, grows, mark-range, truth-range, operator-range, source-range, isnt-mark, mark-on, mark-off, operator-on, operator-off}
-use Rattle.policy.proofs.Values.{found, operator-number}
+use Rattle.policy.specs.Starts.{Start, whole, opened, neither, simpleStart, negatedStart, readOr, plainStart, termStart, aloneStart, negatedIf, closedBy}
+use Rattle.policy.specs.Readers.{Lending, lending, lentWith, Asked, From, Reads, Answers, Ahead, Reader, Terms, Policies, Closes, Starts, Further, Heads, NegatedHead, Spoken, VarReads, VarAnswers, Vars, Alone, VarHeads, leafPart}
+use Rattle.policy.proofs.Fronts.{inside, told, ended, is-mark, isnt-mark, mark-on, mark-off, operator-on, operator-off}
 use Rattle.policy.proofs.Parts.{negated-starts, not-further}
-use Rattle.model.proofs.Complete.{above}
 use Rattle.policy.proofs.Shorter.{mark-fewer}
+
+-- ---- a var alone
+
+module _ (code : Bytes) (pairs session : List ℕ) (entries : Bytes) (v : Var) where
+  pub alone-none : (v .atoms ≡ 0 → ⊥) → Alone code pairs session entries v Neither
+  alone-none n = record { further = λ at l. tt; starts = λ rows A w rest r. go rows A w rest r }
+    where
+      go : (rows : List ℕ) (A : Asked) (w : grammar.Var) (rest : List model.Token) → VarReads code (lending rows pairs session entries) A v w rest
+          → Starts code (lending rows pairs session entries) A Neither (aloneStart w rest)
+      go rows A (constants l) rest r = tt
+      go rows A (attribute s m) rest r = n (r .atom-count)
+
+  pub alone-on : (t : Truth) → v .atoms ≡ 0 → Lone (lentWith code (lending [] pairs session entries)) (v .operand) t → (x : Part) → x ≡ leafPart t (v .next) 0
+      → Alone code pairs session entries v (Leaf x)
+  alone-on t z o x e = subst (λ (y : Part). Alone code pairs session entries v (Leaf y)) (sym e) (record { further = λ at l. l; starts = λ rows A w rest r. go rows A w rest r })
+    where
+      go : (rows : List ℕ) (A : Asked) (w : grammar.Var) (rest : List model.Token) → VarReads code (lending rows pairs session entries) A v w rest
+          → Starts code (lending rows pairs session entries) A (Leaf (leafPart t (v .next) 0)) (aloneStart w rest)
+      go rows A (constants l) rest r = absurd (omega (arith, r .atom-count, r .some-atoms, z))
+      go rows A (attribute s m) rest r =
+          record { behind = r .behind; term-count = refl; deepest = refl; largest-set = refl; truth = λ u read f. o .lone-value _ (r .stands u read f) }
+
+-- what a var is that was read, as a simple term
+set-constants : (ts : List model.Token) (y : grammar.Var × List model.Token) → readSet ts ≡ some y → neither ≡ aloneStart (y .0) (y .1)
+unfolding readSet
+set-constants ts y e =
+    let (x, f, g) = bind-some (readItems ts) (λ x. onlyIf (oneType (x .0)) (constants (x .0), x .1)) e in
+    go x (oneType (x .0)) g
+  where
+    go : (x : List Atom × List model.Token) (b : Bool) → onlyIf b (constants (x .0), x .1) ≡ some y → neither ≡ aloneStart (y .0) (y .1)
+    go x true g = ap (λ (z : grammar.Var × List model.Token). aloneStart (z .0) (z .1)) (Option·some-injective _ _ g)
+    go x false g = none-is-some g
+
+alone-start : (ts : List model.Token) (y : grammar.Var × List model.Token) → readVar ts ≡ some y → simpleStart ts ≡ aloneStart (y .0) (y .1)
+alone-start [] y e = none-is-some e
+alone-start (model.Token.name s n ∷ ts) y e = ap (λ (z : grammar.Var × List model.Token). aloneStart (z .0) (z .1)) (Option·some-injective _ _ e)
+alone-start (model.Token.int n ∷ ts) y e = ap (λ (z : grammar.Var × List model.Token). aloneStart (z .0) (z .1)) (Option·some-injective _ _ e)
+alone-start (model.Token.str n ∷ ts) y e = ap (λ (z : grammar.Var × List model.Token). aloneStart (z .0) (z .1)) (Option·some-injective _ _ e)
+alone-start (model.Token.truth n ∷ ts) y e = none-is-some e
+alone-start (model.Token.operator n ∷ ts) y e = none-is-some e
+alone-start (model.Token.mark m ∷ ts) y e = go (isMark Mark.lbrace m) refl e
+  where
+    go : (b : Bool) → isMark Mark.lbrace m ≡ b → (onlyIf b ts >>= readSet) ≡ some y → simpleStart (model.Token.mark m ∷ ts) ≡ aloneStart (y .0) (y .1)
+    go true f g =
+        subst (λ (k : Mark). simpleStart (model.Token.mark k ∷ ts) ≡ aloneStart (y .0) (y .1)) (is-mark Mark.lbrace m f) (set-constants ts y g)
+    go false f g = none-is-some g
 
 -- ---- simple terms
 
-module _ (s : Bytes) (L : Lending) (t : Token) where
-  truth-starts : (v : Truth) → Spoken (t .kind) v → 10 ≤ t .kind → t .kind ≤ 12 → (ts : List model.Token) → Front s t ts
-      → Starts s L (Leaf (leafPart v (t .next) 0)) (simpleStart ts)
-  truth-starts v p a b [] f = absurd (omega (arith, f))
-  truth-starts v p a b (model.Token.name x n ∷ ts) f = absurd (omega (arith, f .kind-is))
-  truth-starts v p a b (model.Token.int n ∷ ts) f = absurd (omega (arith, f .kind-is))
-  truth-starts v p a b (model.Token.str n ∷ ts) f = absurd (omega (arith, f .kind-is))
-  truth-starts v p a b (model.Token.truth w ∷ ts) f =
-      record { behind = f .behind; term-count = refl; deepest = refl; largest-set = refl; truth = λ l S b g. p w (f .kind-is) }
-  truth-starts v p a b (model.Token.operator o ∷ ts) f = absurd (omega (arith, f .kind-is, operator-range o))
-  truth-starts v p a b (model.Token.mark m ∷ ts) f = absurd (omega (arith, f .kind-is, mark-range m))
+module _ (code : Bytes) (L : Lending) (at k : ℕ) (e : k ≡ getD code at 0) where
+  pub here : 0 < k → at < length code
+  here h = inside code at (omega arith)
 
-  name-starts : (x : Operand) (v : Truth)
-      → Looked (L .attributes) (L .user) (L .object) (L .mask) (L .entries) (t .kind - 30) (t .low) (t .high) x
-      → Lone (L .pairs) (L .table) x v → 31 ≤ t .kind → (ts : List model.Token) → Front s t ts
-      → Starts s L (Leaf (leafPart v (t .next) 0)) (simpleStart ts)
-  name-starts x v h k a [] f = absurd (omega (arith, f))
-  name-starts x v h k a (model.Token.name y n ∷ ts) f = record {
-    behind = f .behind;
-    term-count = refl;
-    deepest = refl;
-    largest-set = refl;
-    truth = λ l S b g. k .lone-value _ (found h S b g y n (f .written) (omega (arith, f .kind-is)) (f .low-is) (f .high-is));
-  }
-  name-starts x v h k a (model.Token.int n ∷ ts) f = absurd (omega (arith, f .kind-is))
-  name-starts x v h k a (model.Token.str n ∷ ts) f = absurd (omega (arith, f .kind-is))
-  name-starts x v h k a (model.Token.truth w ∷ ts) f = absurd (omega (arith, f .kind-is, truth-range w))
-  name-starts x v h k a (model.Token.operator o ∷ ts) f = absurd (omega (arith, f .kind-is, operator-range o))
-  name-starts x v h k a (model.Token.mark m ∷ ts) f = absurd (omega (arith, f .kind-is, mark-range m))
-
-  other-starts : (t .kind ≡ 2 → ⊥) → (10 ≤ t .kind → t .kind ≤ 12 → ⊥) → (31 ≤ t .kind → t .kind ≤ 35 → ⊥) → (ts : List model.Token) → Front s t ts
-      → Starts s L Neither (simpleStart ts)
-  other-starts a b d [] f = tt
-  other-starts a b d (model.Token.name x n ∷ ts) f = d (omega (arith, f .kind-is, source-range x)) (omega (arith, f .kind-is, source-range x))
-  other-starts a b d (model.Token.int n ∷ ts) f = tt
-  other-starts a b d (model.Token.str n ∷ ts) f = tt
-  other-starts a b d (model.Token.truth w ∷ ts) f = b (omega (arith, f .kind-is, truth-range w)) (omega (arith, f .kind-is, truth-range w))
-  other-starts a b d (model.Token.operator o ∷ ts) f = tt
-  other-starts a b d (model.Token.mark m ∷ ts) f =
-      subst (λ (k : Bool). Starts s L Neither (elim k as (λ _. Start) [ true ↦ opened false ts | false ↦ neither ]))
-      (sym (isnt-mark Mark.lparen m (λ e. a (f .kind-is ∙ e)))) tt
-
-module _ (s : Bytes) (L : Lending) (at : ℕ) (t : Token) (h : t ≡ tokenAt s at) where
-  pub simple-open : t .kind ≡ 2 → Heads (λ ts. simpleStart ts) s L at (Open false (t .next))
-  simple-open k = record {
-    further = grows s at t h (omega (arith, k));
-    starts = λ ts f.
-        let m = mark-on Mark.lparen s t ts (told s at t h ts f) k in
-        subst (λ us. Starts s L (Open false (t .next)) (simpleStart us)) (sym (m .split)) (refl, m .behind);
+  pub simple-open : k ≡ 5 → Heads (λ ts. simpleStart ts) code L at (Open false (at + 1))
+  simple-open z = record {
+    further = let w = here (omega arith) in omega arith;
+    starts = λ A ts f.
+        let m = mark-on Mark.lparen code A at ts f (sym e ∙ z) in
+        subst (λ us. Starts code L A (Open false (at + 1)) (simpleStart us)) (sym (m .split)) (refl, m .behind);
   }
 
-  pub simple-truth : (v : Truth) → Spoken (t .kind) v → 10 ≤ t .kind → t .kind ≤ 12 → Heads (λ ts. simpleStart ts) s L at (Leaf (leafPart v (t .next) 0))
-  simple-truth v p a b = record {
-    further = let w = grows s at t h (omega (arith)) in omega (arith, w .0);
-    starts = λ ts f. truth-starts s L t v p a b ts (told s at t h ts f);
+  pub simple-truth : (v : Truth) → Spoken k v → 13 ≤ k → k ≤ 15 → (x : Part) → x ≡ leafPart v (at + 1) 0 → Heads (λ ts. simpleStart ts) code L at (Leaf x)
+  simple-truth v p lo hi x q = subst (λ (y : Part). Heads (λ ts. simpleStart ts) code L at (Leaf y)) (sym q) (record {
+    further = omega arith;
+    starts = λ A ts f.
+        let (t, us, c, s, g) = truth-here (f .coded) (omega arith) (omega arith) in
+        subst (λ us. Starts code L A (Leaf (leafPart v (at + 1) 0)) (simpleStart us)) (sym s)
+        (record { behind = told (subst (From code A at) s f) .behind; term-count = refl; deepest = refl; largest-set = refl; truth = λ u read r. p t (e ∙ c) });
+  })
+
+  other-starts : (k ≡ 5 → ⊥) → (13 ≤ k → k ≤ 15 → ⊥) → (k ≡ 4 → ⊥) → (A : Asked) (ts : List model.Token) → From code A at ts → Starts code L A Neither (simpleStart ts)
+  other-starts a b d A [] f = tt
+  other-starts a b d A (model.Token.name x n ∷ ts) f = d (e ∙ told f .kind-is)
+  other-starts a b d A (model.Token.int n ∷ ts) f = tt
+  other-starts a b d A (model.Token.str n ∷ ts) f = tt
+  other-starts a b d A (model.Token.truth w ∷ ts) f = b (omega (arith, e, told f .kind-is, truth-range w)) (omega (arith, e, told f .kind-is, truth-range w))
+  other-starts a b d A (model.Token.operator o ∷ ts) f = tt
+  other-starts a b d A (model.Token.mark m ∷ ts) f =
+      subst (λ (k : Bool). Starts code L A Neither (elim k as (λ _. Start) [ true ↦ opened false ts | false ↦ neither ]))
+      (sym (isnt-mark Mark.lparen m (λ q. a (e ∙ told f .kind-is ∙ q)))) tt
+
+  pub simple-neither : (k ≡ 5 → ⊥) → (13 ≤ k → k ≤ 15 → ⊥) → (k ≡ 4 → ⊥) → Heads (λ ts. simpleStart ts) code L at Neither
+  simple-neither a b d = record { further = tt; starts = λ A ts f. other-starts a b d A ts f }
+
+  -- an attribute
+  pub simple-name : k ≡ 4 → (v : Var) (h : Head) → Vars code (L .attributes) at v → Alone code (L .pairs) (L .session) (L .entries) v h → Heads (λ ts. simpleStart ts) code L at h
+  simple-name z v h X O = record {
+    further = O .further at (X .further);
+    starts = λ A ts f.
+        let (s, n, us, g, c) = name-here (f .coded) (sym e ∙ z) in
+        let a : VarAnswers code L A v (some (attribute s n, us)) = subst (λ w. VarAnswers code L A v (readVar w)) g (X .answers L refl A ts f) in
+        subst (λ w. Starts code L A h (simpleStart w)) (sym g) (O .starts (L .attributes) A (attribute s n) us (a .1));
   }
 
-  pub simple-name : (x : Operand) (v : Truth)
-      → Looked (L .attributes) (L .user) (L .object) (L .mask) (L .entries) (t .kind - 30) (t .low) (t .high) x
-      → Lone (L .pairs) (L .table) x v → 31 ≤ t .kind → Heads (λ ts. simpleStart ts) s L at (Leaf (leafPart v (t .next) 0))
-  simple-name x v o k a = record {
-    further = let w = grows s at t h (omega (arith)) in omega (arith, w .0);
-    starts = λ ts f. name-starts s L t x v o k a ts (told s at t h ts f);
-  }
-
-  pub simple-neither : (t .kind ≡ 2 → ⊥) → (10 ≤ t .kind → t .kind ≤ 12 → ⊥) → (31 ≤ t .kind → t .kind ≤ 35 → ⊥)
-      → Heads (λ ts. simpleStart ts) s L at Neither
-  simple-neither a b d = record { further = tt; starts = λ ts f. other-starts s L t a b d ts (told s at t h ts f) }
-
--- ---- comparisons
+-- ---- what begins with a var
 
 -- what follows the first var, and what follows the operator
 abbrev behindOperator : grammar.Var → Operator → Option (grammar.Var × List model.Token) → grammar.Reading
@@ -121,129 +145,97 @@ behindVar v r = r >>= λ (o, rest). behindOperator v o (readVar rest)
 abbrev fromVar : Option (grammar.Var × List model.Token) → grammar.Reading
 fromVar r = r >>= λ (v, rest). behindVar v (readOperator rest)
 
-module _ (s : Bytes) (L : Lending) (at : ℕ) (v : Var) (first : Vars s L at v) where
-  -- a head that fits what is read from the first var fits the comparison
-  compared-heads : (h : Head) → Further s at h
-      → ((r : Option (grammar.Var × List model.Token)) → VarAnswers s L v r → Starts s L h (readOr neither (fromVar r)))
-      → Heads (λ ts. comparisonStart ts) s L at h
-  unfolding comparisonStart readComparison
-  compared-heads h a f = record { further = a; starts = λ ts g. f (readVar ts) (first .answers ts g) }
-
-  pub first-off : v .ok ≡ false → Heads (λ ts. comparisonStart ts) s L at Neither
-  first-off e = compared-heads Neither tt go
+module _ (code : Bytes) (L : Lending) (v : Var) (k : ℕ) (e : k ≡ getD code (v .next) 0) where
+  -- a head that fits what is read behind the var fits what begins with it
+  var-heads : (h : Head) → ((at : ℕ) → at ≤ v .next → Further code at h)
+      → ((A : Asked) (w : grammar.Var) (rest : List model.Token) → VarReads code L A v w rest → Starts code L A h (readOr (aloneStart w rest) (behindVar w (readOperator rest))))
+      → VarHeads code L v h
+  unfolding plainStart readComparison
+  var-heads h a f at X ok = record { further = a at (X .further); starts = λ A ts g. go A ts (readVar ts) refl (X .answers L refl A ts g) }
     where
-      go : (r : Option (grammar.Var × List model.Token)) → VarAnswers s L v r → Starts s L Neither (readOr neither (fromVar r))
-      go none a = tt
-      go (some y) a = false-is-true (sym e ∙ a .0)
+      go : (A : Asked) (ts : List model.Token) (r : Option (grammar.Var × List model.Token)) → readVar ts ≡ r → VarAnswers code L A v r
+          → Starts code L A h (readOr (simpleStart ts) (fromVar r))
+      go A ts none q b = false-is-true (sym b ∙ ok)
+      go A ts (some y) q b =
+          subst (λ (x : Start). Starts code L A h (readOr x (behindVar (y .0) (readOperator (y .1))))) (sym (alone-start ts y q)) (f A (y .0) (y .1) (b .1))
 
-  module _ (t : Token) (h : t ≡ tokenAt s (v .next)) where
-    pub operator-none : (16 ≤ t .kind → t .kind ≤ 23 → ⊥) → Heads (λ ts. comparisonStart ts) s L at Neither
-    operator-none n = compared-heads Neither tt go
-      where
-        go : (r : Option (grammar.Var × List model.Token)) → VarAnswers s L v r → Starts s L Neither (readOr neither (fromVar r))
-        go none a = tt
-        go (some (x, rest)) a =
-            subst (λ r. Starts s L Neither (readOr neither (behindVar x r)))
-            (sym (operator-off s t rest (told s (v .next) t h rest (a .1 .behind)) n)) tt
+  pub not-compared : (h : Head) → (16 ≤ k → k ≤ 23 → ⊥) → Alone code (L .pairs) (L .session) (L .entries) v h → VarHeads code L v h
+  not-compared h n O = var-heads h (O .further) λ A w rest r.
+      subst (λ o. Starts code L A h (readOr (aloneStart w rest) (behindVar w o)))
+      (sym (operator-off code A (v .next) rest (r .behind) (λ x y. n (omega arith) (omega arith)))) (O .starts (L .attributes) A w rest r)
 
-    module _ (w : Var) (second : Vars s L (t .next) w) (lo : 16 ≤ t .kind) (hi : t .kind ≤ 23) where
-      pub second-off : w .ok ≡ false → Heads (λ ts. comparisonStart ts) s L at Neither
-      second-off e = compared-heads Neither tt go
+  module _ (lo : 16 ≤ k) where
+    pub operator-within : v .next < length code
+    operator-within = inside code (v .next) (omega arith)
+
+    module _ (w : Var) (W : Vars code (L .attributes) (v .next + 1) w) where
+      pub no-second : (h : Head) → w .ok ≡ false → Alone code (L .pairs) (L .session) (L .entries) v h → VarHeads code L v h
+      no-second h z O = var-heads h (O .further) λ A x rest r.
+          let (o, left, c, s, g) = operator-on code A (v .next) rest (r .behind) (omega arith) in
+          subst (λ us. Starts code L A h (readOr (aloneStart x rest) (behindVar x (readOperator us)))) (sym s)
+          (last A x rest r o (readVar left) (W .answers L refl A left g))
         where
-          last : (x : grammar.Var) (o : Operator) (r : Option (grammar.Var × List model.Token)) → VarAnswers s L w r
-              → Starts s L Neither (readOr neither (behindOperator x o r))
-          last x o none a = tt
-          last x o (some y) a = false-is-true (sym e ∙ a .0)
+          last : (A : Asked) (x : grammar.Var) (rest : List model.Token) → VarReads code L A v x rest → (o : Operator)
+              (q : Option (grammar.Var × List model.Token)) → VarAnswers code L A w q → Starts code L A h (readOr (aloneStart x rest) (behindOperator x o q))
+          last A x rest r o none b = O .starts (L .attributes) A x rest r
+          last A x rest r o (some y) b = false-is-true (sym z ∙ b .0)
 
-          go : (r : Option (grammar.Var × List model.Token)) → VarAnswers s L v r → Starts s L Neither (readOr neither (fromVar r))
-          go none a = tt
-          go (some (x, rest)) a =
-              let (o, left, e, f) = operator-on s t rest (told s (v .next) t h rest (a .1 .behind)) lo hi in
-              subst (λ us. Starts s L Neither (readOr neither (behindVar x (readOperator us)))) (sym e)
-              (last x o (readVar left) (second .answers left (f .behind)))
-
-      pub compared-on : v .ok ≡ true → w .ok ≡ true → (r : Truth) → Compared (L .pairs) (L .table) (t .kind) (v .operand) (w .operand) r
-          → (k : ℕ) → k ≡ max (v .atoms) (w .atoms) → Heads (λ ts. comparisonStart ts) s L at (Leaf (leafPart r (w .next) k))
-      compared-on vo wo r C k m = compared-heads (Leaf (leafPart r (w .next) k)) further go
+      pub compared : w .ok ≡ true → (t : Truth) → Compared (lentWith code L) k (v .operand) (w .operand) t
+          → (n : ℕ) → n ≡ max (v .atoms) (w .atoms) → (x : Part) → x ≡ leafPart t (w .next) n → VarHeads code L v (Leaf x)
+      compared ok t C n m x q =
+          subst (λ (y : Part). VarHeads code L v (Leaf y)) (sym q)
+          (var-heads (Leaf (leafPart t (w .next) n)) (λ at l. let g = W .further in omega arith) λ A y rest r.
+          let (o, left, c, s, g) = operator-on code A (v .next) rest (r .behind) (omega arith) in
+          subst (λ us. Starts code L A (Leaf (leafPart t (w .next) n)) (readOr (aloneStart y rest) (behindVar y (readOperator us)))) (sym s)
+          (last A y rest r o (e ∙ c) (readVar left) (W .answers L refl A left g)))
         where
-          further : at ≤ w .next
-          further =
-              let g = grows s (v .next) t h (omega (arith)) in
-              omega (arith, first .further vo, second .further wo, g .0)
-
-          last : (x : grammar.Var) (rest left : List model.Token) (o : Operator) → t .kind ≡ operatorCode o → VarAnswers s L v (some (x, rest))
-              → (q : Option (grammar.Var × List model.Token)) → VarAnswers s L w q
-              → Starts s L (Leaf (leafPart r (w .next) k)) (readOr neither (behindOperator x o q))
-          last x rest left o n a none b = false-is-true (sym b ∙ wo)
-          last x rest left o n a (some (y, more)) b = record {
+          last : (A : Asked) (y : grammar.Var) (rest : List model.Token) → VarReads code L A v y rest → (o : Operator) → k ≡ operatorCode o
+              → (q : Option (grammar.Var × List model.Token)) → VarAnswers code L A w q
+              → Starts code L A (Leaf (leafPart t (w .next) n)) (readOr (aloneStart y rest) (behindOperator y o q))
+          last A y rest r o c none b = false-is-true (sym b ∙ ok)
+          last A y rest r o c (some (z, more)) b = record {
             behind = b .1 .behind;
             term-count = refl;
             deepest = refl;
-            largest-set = omega (arith, m, a .1 .atom-count, b .1 .atom-count);
-            truth = λ l S d g. C .by-operator o _ _ (n ∙ operator-number o) (a .1 .stands (omega arith) S d g) (b .1 .stands (omega arith) S d g);
+            largest-set = omega (arith, m, r .atom-count, b .1 .atom-count);
+            truth = λ u read f. C .by-operator o _ _ c (r .stands u read f) (b .1 .stands u read f);
           }
-
-          go : (q : Option (grammar.Var × List model.Token)) → VarAnswers s L v q → Starts s L (Leaf (leafPart r (w .next) k)) (readOr neither (fromVar q))
-          go none a = false-is-true (sym a ∙ vo)
-          go (some (x, rest)) a =
-              let (o, left, e, f) = operator-on s t rest (told s (v .next) t h rest (a .1 .behind)) lo hi in
-              subst (λ us. Starts s L (Leaf (leafPart r (w .next) k)) (readOr neither (behindVar x (readOperator us)))) (sym e)
-              (last x rest left o (f .kind-is) a (readVar left) (second .answers left (f .behind)))
 
 -- ---- terms
 
-further-later : (s : Bytes) (at n : ℕ) (h : Head) → at ≤ n → Further s n h → Further s at h
-further-later s at n (Leaf x) l a = omega arith
-further-later s at n (Open b m) l a = omega arith
-further-later s at n Neither l a = tt
+further-later : (code : Bytes) (at n : ℕ) (h : Head) → at ≤ n → Further code n h → Further code at h
+further-later code at n (Leaf x) l a = omega arith
+further-later code at n (Open b m) l a = omega arith
+further-later code at n Neither l a = tt
 
-module _ (s : Bytes) (L : Lending) (at : ℕ) (t : Token) (e : t ≡ tokenAt s at) where
-  pub term-not : (h k : Head) → t .kind ≡ 9 → Heads (λ ts. simpleStart ts) s L (t .next) h → NegatedHead h k → Heads (λ ts. termStart ts) s L at k
+module _ (code : Bytes) (L : Lending) (at k : ℕ) (e : k ≡ getD code at 0) where
+  pub term-not : (h r : Head) → k ≡ 12 → Heads (λ ts. simpleStart ts) code L (at + 1) h → NegatedHead h r → Heads (λ ts. termStart ts) code L at r
   unfolding termStart
-  term-not h k z H n = record {
-    further =
-        let w = grows s at t e (omega (arith, z)) in
-        not-further s at h k n (further-later s at (t .next) h (omega (arith, w .0)) (H .further));
-    starts = λ ts f.
-        let m = mark-on Mark.NOT s t ts (told s at t e ts f) z in
-        subst (λ us. Starts s L k (termStart us)) (sym (m .split)) (negated-starts s L h k (simpleStart (m .rest)) n (H .starts (m .rest) (m .behind)));
+  term-not h r z H n = record {
+    further = not-further code at h r n (further-later code at (at + 1) h (omega arith) (H .further));
+    starts = λ A ts f.
+        let m = mark-on Mark.NOT code A at ts f (sym e ∙ z) in
+        subst (λ us. Starts code L A r (termStart us)) (sym (m .split)) (negated-starts code L A h r (simpleStart (m .rest)) n (H .starts A (m .rest) (m .behind)));
   }
 
-  module _ (z : t .kind ≡ 9 → ⊥) (h : Head) (C : Heads (λ ts. comparisonStart ts) s L at h) where
-    -- a term without NOT is a comparison or a simple term
-    plain-heads : (k : Head) → Further s at k
-        → ((ts : List model.Token) → From s at ts → (r : grammar.Reading) → Starts s L h (readOr neither r) → Starts s L k (readOr (simpleStart ts) r))
-        → Heads (λ ts. termStart ts) s L at k
-    unfolding termStart comparisonStart
-    plain-heads k a g = record {
-      further = a;
-      starts = λ ts f.
-          subst (λ w. Starts s L k (elim w as (λ _. Start) [ some rest ↦ negatedStart (simpleStart rest) | none ↦ readOr (simpleStart ts) (readComparison ts) ]))
-          (sym (mark-off Mark.NOT s t ts (told s at t e ts f) z)) (g ts f (readComparison ts) (C .starts ts f));
+  module _ (z : k ≡ 12 → ⊥) (h : Head) where
+    pub term-plain : Heads (λ ts. plainStart ts) code L at h → Heads (λ ts. termStart ts) code L at h
+    unfolding termStart
+    term-plain H = record {
+      further = H .further;
+      starts = λ A ts f.
+          subst (λ w. Starts code L A h (elim w as (λ _. Start) [ some rest ↦ negatedStart (simpleStart rest) | none ↦ plainStart ts ]))
+          (sym (mark-off Mark.NOT code A at ts f (λ q. z (e ∙ q)))) (H .starts A ts f);
     }
 
-    pub term-leaf : (x : Part) → h ≡ Leaf x → Heads (λ ts. termStart ts) s L at (Leaf x)
-    term-leaf x q = plain-heads (Leaf x) (subst (Further s at) q (C .further)) λ ts f r a.
-        go ts r (subst (λ (k : Head). Starts s L k (readOr neither r)) q a)
+    pub term-simple : (v : Var) → Vars code (L .attributes) at v → v .ok ≡ false → Heads (λ ts. simpleStart ts) code L at h → Heads (λ ts. termStart ts) code L at h
+    unfolding plainStart readComparison
+    term-simple v X o H = term-plain (record { further = H .further; starts = λ A ts f. go A ts (H .starts A ts f) (readVar ts) (X .answers L refl A ts f) })
       where
-        go : (ts : List model.Token) (r : grammar.Reading) → Starts s L (Leaf x) (readOr neither r) → Starts s L (Leaf x) (readOr (simpleStart ts) r)
-        go ts none a = absurd a
-        go ts (some (p, rest)) a = a
-
-    pub term-open : (b : Bool) (n : ℕ) → h ≡ Open b n → Heads (λ ts. termStart ts) s L at Neither
-    term-open b n q = plain-heads Neither tt λ ts f r a. go ts r (subst (λ (k : Head). Starts s L k (readOr neither r)) q a)
-      where
-        go : (ts : List model.Token) (r : grammar.Reading) → Starts s L (Open b n) (readOr neither r) → Starts s L Neither (readOr (simpleStart ts) r)
-        go ts none a = absurd a
-        go ts (some (p, rest)) a = absurd a
-
-    pub term-simple : (k : Head) → h ≡ Neither → Heads (λ ts. simpleStart ts) s L at k → Heads (λ ts. termStart ts) s L at k
-    term-simple k q H = plain-heads k (H .further) λ ts f r a. go ts (H .starts ts f) r (subst (λ (k : Head). Starts s L k (readOr neither r)) q a)
-      where
-        go : (ts : List model.Token) → Starts s L k (simpleStart ts) → (r : grammar.Reading) → Starts s L Neither (readOr neither r)
-            → Starts s L k (readOr (simpleStart ts) r)
-        go ts b none a = b
-        go ts b (some (p, rest)) a = absurd a
+        go : (A : Asked) (ts : List model.Token) → Starts code L A h (simpleStart ts) → (r : Option (grammar.Var × List model.Token)) → VarAnswers code L A v r
+            → Starts code L A h (readOr (simpleStart ts) (fromVar r))
+        go A ts s none a = s
+        go A ts s (some y) a = false-is-true (sym o ∙ a .0)
 
 -- what is read from a start: `inner` reads the policy in parentheses
 abbrev finished : (List model.Token → grammar.Reading) → Start → grammar.Reading
@@ -289,7 +281,7 @@ module _ (inner : List model.Token → grammar.Reading) where
       go false = refl
 
   term-finished : (ts : List model.Token) → readTerm inner ts ≡ finished inner (termStart ts)
-  unfolding readTerm termStart
+  unfolding readTerm termStart plainStart
   term-finished ts = go (behindMark Mark.NOT ts) (readComparison ts)
     where
       go : (w : Option (List model.Token)) (r : grammar.Reading)
@@ -324,7 +316,7 @@ not-fewer ts us (opened b rest) l a = omega arith
 not-fewer ts us neither l a = tt
 
 start-fewer : (ts : List model.Token) → FewerIn ts (termStart ts)
-unfolding termStart
+unfolding termStart plainStart
 start-fewer ts =
     case-so (λ rest. length rest < length ts) (FewerIn ts) (λ rest. negatedStart (simpleStart rest)) (readOr (simpleStart ts) (readComparison ts))
     (behindMark Mark.NOT ts) (mark-fewer Mark.NOT ts)
@@ -335,72 +327,76 @@ start-fewer ts =
     other (some y) = tt
 
 -- A term, from its head
-module _ (s : Bytes) (L : Lending) (at : ℕ) (h : Head) (H : Heads (λ ts. termStart ts) s L at h) where
+module _ (code : Bytes) (L : Lending) (at : ℕ) (h : Head) (H : Heads (λ ts. termStart ts) code L at h) where
   -- an answer that fits what is read from each start fits the term
   term-from : (r : Reading) → Ahead at r
-      → ((ts : List model.Token) (n : ℕ) → 3 * length ts ≤ n → (x : Start) → FewerIn ts x → Starts s L h x → Answers s L r (finished (λ rest. policyWithin n rest) x))
-      → Terms s L at r
+      → ((A : Asked) (ts : List model.Token) (n : ℕ) → 3 * length ts ≤ n → (x : Start) → FewerIn ts x → Starts code L A h x → Answers code L A r (finished (λ rest. policyWithin n rest) x))
+      → Terms code L at r
   unfolding policyWithin
   term-from r a f = record {
     ahead = a;
-    answers = λ ts g n l.
-        above (λ (k : ℕ). Answers s L r (termWithin k ts)) (3 * length ts) n (omega arith)
-        (λ k m. subst (Answers s L r) (sym (term-finished (λ rest. policyWithin k rest) ts)) (f ts k m (termStart ts) (start-fewer ts) (H .starts ts g)));
+    answers = λ A ts g n l.
+        above (λ (k : ℕ). Answers code L A r (termWithin k ts)) (3 * length ts) n (omega arith)
+        (λ k m. subst (Answers code L A r) (sym (term-finished (λ rest. policyWithin k rest) ts)) (f A ts k m (termStart ts) (start-fewer ts) (H .starts A ts g)));
   }
 
-  pub head-none : h ≡ Neither → Terms s L at Malformed
-  head-none e = term-from Malformed tt λ ts n l x a b. go n x (subst (λ (k : Head). Starts s L k x) e b)
+  pub head-none : h ≡ Neither → Terms code L at Malformed
+  head-none e = term-from Malformed tt λ A ts n l x a b. go A n x (subst (λ (k : Head). Starts code L A k x) e b)
     where
-      go : (n : ℕ) (x : Start) → Starts s L Neither x → Answers s L Malformed (finished (λ rest. policyWithin n rest) x)
-      go n (whole p rest) b = absurd b
-      go n (opened c rest) b = absurd b
-      go n neither b = tt
+      go : (A : Asked) (n : ℕ) (x : Start) → Starts code L A Neither x → Answers code L A Malformed (finished (λ rest. policyWithin n rest) x)
+      go A n (whole p rest) b = absurd b
+      go A n (opened c rest) b = absurd b
+      go A n neither b = tt
 
-  pub head-leaf : (x : Part) → h ≡ Leaf x → Terms s L at (Read x)
-  head-leaf x e = term-from (Read x) (subst (Further s at) e (H .further)) λ ts n l y a b. go n y (subst (λ (k : Head). Starts s L k y) e b)
+  pub head-leaf : (x : Part) → h ≡ Leaf x → Terms code L at (Read x)
+  head-leaf x e = term-from (Read x) (subst (Further code at) e (H .further)) λ A ts n l y a b. go A n y (subst (λ (k : Head). Starts code L A k y) e b)
     where
-      go : (n : ℕ) (y : Start) → Starts s L (Leaf x) y → Answers s L (Read x) (finished (λ rest. policyWithin n rest) y)
-      go n (whole p rest) b = b
-      go n (opened c rest) b = absurd b
-      go n neither b = absurd b
+      go : (A : Asked) (n : ℕ) (y : Start) → Starts code L A (Leaf x) y → Answers code L A (Read x) (finished (λ rest. policyWithin n rest) y)
+      go A n (whole p rest) b = b
+      go A n (opened c rest) b = absurd b
+      go A n neither b = absurd b
 
   module _ (b : Bool) (n : ℕ) (e : h ≡ Open b n) where
-    pub head-falls : (at < n) × (at < length s)
-    head-falls = subst (Further s at) e (H .further)
+    pub head-falls : (at < n) × (at < length code)
+    head-falls = subst (Further code at) e (H .further)
 
-    pub head-open : (q r : Reading) → Policies s L n q → Closes s b q r → Terms s L at r
+    pub head-open : (q r : Reading) → Policies code L n q → Closes code b q r → Terms code L at r
     head-open q r P C =
-        term-from r (C .ahead at (later q (P .ahead))) λ ts k l x a d. go ts k l x a (subst (λ (k : Head). Starts s L k x) e d)
+        term-from r (C .ahead at (later q (P .ahead))) λ A ts k l x a d. go A ts k l x a (subst (λ (k : Head). Starts code L A k x) e d)
       where
         later : (q : Reading) → Ahead n q → Ahead at q
         later (Read y) a = let w = head-falls in omega (arith, w .0)
         later Malformed a = tt
 
-        go : (ts : List model.Token) (k : ℕ) → 3 * length ts ≤ k → (x : Start) → FewerIn ts x → Starts s L (Open b n) x
-            → Answers s L r (finished (λ rest. policyWithin k rest) x)
-        go ts k l (whole p rest) a d = absurd d
-        go ts k l (opened c rest) a d =
-            subst (λ (i : Bool). Answers s L r (closedBy i (policyWithin k rest))) (d .0)
-            (C .answers L (policyWithin k rest) (P .answers rest (d .1) k (omega arith)))
-        go ts k l neither a d = absurd d
-
--- a head whose part is known by an equation
-pub leaf-as : {start : List model.Token → Start} {s : Bytes} {L : Lending} {at : ℕ} (x y : Part) → x ≡ y → Heads start s L at (Leaf y) → Heads start s L at (Leaf x)
-leaf-as {start} {s} {L} {at} x y e h = subst (λ (z : Part). Heads start s L at (Leaf z)) (sym e) h
+        go : (A : Asked) (ts : List model.Token) (k : ℕ) → 3 * length ts ≤ k → (x : Start) → FewerIn ts x → Starts code L A (Open b n) x
+            → Answers code L A r (finished (λ rest. policyWithin k rest) x)
+        go A ts k l (whole p rest) a d = absurd d
+        go A ts k l (opened c rest) a d =
+            subst (λ (i : Bool). Answers code L A r (closedBy i (policyWithin k rest))) (d .0)
+            (C .answers L A (policyWithin k rest) (P .answers A rest (d .1) k (omega arith)))
+        go A ts k l neither a d = absurd d
 
 -- truth values by their words
 module _ (k : ℕ) where
-  pub spoken-false : k ≡ 10 → Spoken k False
+  pub spoken-false : k ≡ 13 → Spoken k False
   spoken-false e truth.FALSE f = refl
   spoken-false e truth.UNDEF f = absurd (omega arith)
   spoken-false e truth.TRUE f = absurd (omega arith)
 
-  pub spoken-undef : k ≡ 11 → Spoken k Undef
+  pub spoken-undef : k ≡ 14 → Spoken k Undef
   spoken-undef e truth.FALSE f = absurd (omega arith)
   spoken-undef e truth.UNDEF f = refl
   spoken-undef e truth.TRUE f = absurd (omega arith)
 
-  pub spoken-true : (k ≡ 10 → ⊥) → (k ≡ 11 → ⊥) → Spoken k True
+  pub spoken-true : (k ≡ 13 → ⊥) → (k ≡ 14 → ⊥) → Spoken k True
   spoken-true a b truth.FALSE f = absurd (a f)
   spoken-true a b truth.UNDEF f = absurd (b f)
   spoken-true a b truth.TRUE f = refl
+
+-- operators by their numbers
+module _ (k : ℕ) where
+  pub no-operator : (leb 16 k && leb k 23) ≡ false → 16 ≤ k → k ≤ 23 → ⊥
+  no-operator e a b = false-is-true (sym e ∙ both (le-leb 16 k a) (le-leb k 23 b))
+
+  pub an-operator : (leb 16 k && leb k 23) ≡ true → 16 ≤ k
+  an-operator e = leb-true 16 k (parts (leb 16 k) (leb k 23) e .0)

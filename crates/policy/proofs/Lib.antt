@@ -1,8 +1,7 @@
-pub mod Written
 pub mod Shorter
-pub mod Tokens
-pub mod Levels
+pub mod Fronts
 pub mod Parts
-pub mod Values
-pub mod Heads
+pub mod Levels
 pub mod Sets
+pub mod Heads
+pub mod Wholes

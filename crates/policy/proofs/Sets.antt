@@ -1,296 +1,471 @@
--- The constants of a set, one after another.
+-- Constants, sets and attributes in rule code.
 use Prim.Native.Nat.{ℕ, zero, suc, _+_, _-_, _≤_, _<_, min}
 use mathlib.Core.Path.{_≡_, refl, sym, ap, ap₂, subst, _∙_}
-use mathlib.Core.Bool.{Bool, true, false, _||_}
-use mathlib.Core.List.{List, [], _∷_, _++_, append-assoc}
+use mathlib.Core.Bool.{Bool, true, false}
+use mathlib.Core.List.{List, [], _∷_}
 use mathlib.Core.Option.{Option, none, some, Option·some-injective}
 use native.Mathlib.Omega.{arith}
-use lib.Dec.{eqb}
-use lib.ListN.{length, length-append}
-use borrow.Author.Tests.{eqb-true, eq-eqb}
-use Rattle.model.specs.Notation.{_>>=_, onlyIf, all}
+use lib.Dec.{eqb, leb}
+use lib.ListN.{length, getD, take, drop}
+use borrow.Author.Tests.{eq-eqb, ne-eqb, leb-true}
+use Rattle.model.specs.Notation.{_>>=_, onlyIf, all, map, isNone}
 use Rattle.model.specs.Bytes.{Bytes}
+use Rattle.model.specs.Limits.{largestInt, textBytes}
+use Rattle.model.specs.Block.{byteAt, valueAt}
 use Rattle.model.specs.Attributes.{AtomType, sameType}
-use Rattle.model.specs.Atoms.{Atom, isAtom, typeOf}
-use Rattle.model.specs.Tokens as model
-use Rattle.model.specs.Tokens.{Mark, asConstant}
+use Rattle.model.specs.Atoms.{Atom, isAtom, isText, typeOf}
+use Rattle.model.specs.Tokens.{Token, name, int, str, truth, operator, mark, Mark, asConstant, isToken}
+use Rattle.model.specs.Declarations.{Declarations, attributeNumber}
 use Rattle.model.specs.Grammar as grammar
 use Rattle.model.specs.Grammar.{constants, attribute, oneType, behindMark, readItems, readSet, readVar}
 use Rattle.model.proofs.Words.{false-is-true, none-is-some}
-use Rattle.model.proofs.Lists.{all-append}
-use Rattle.text.specs.Codes.{typeCode}
-use Rattle.text.specs.Values.{value, atomValue}
-use Rattle.tokens.specs.declared.Token.{Token}
-use Rattle.tokens.specs.Reading.{From, tokenAt}
+use Rattle.model.proofs.Lists.{all-cons}
+use Rattle.model.proofs.Options.{parts}
+use Rattle.codes.specs.Codes.{kindOf, typeCode}
+use Rattle.codes.proofs.TokenKinds.{truth-range, operator-range, mark-range, int-kind, str-kind}
+use Rattle.text.specs.declared.Words.{Words}
+use Rattle.text.specs.Packing.{threeWords}
+use Rattle.text.specs.Values.{words, atomWords}
+use Rattle.rows.specs.Rows.{numberOr}
+use Rattle.tokens.specs.RuleCode.{Coded, size, unknownNumber}
+use Rattle.tokens.proofs.RuleCode.{coded-within, some-here, name-here, name-number, int-value, str-length, str-text}
 use Rattle.values.specs.declared.Operand.{Operand}
-use Rattle.values.specs.Kept.{Keeps, Extended}
-use Rattle.values.proofs.Kept.{keeps-stands}
-use Rattle.session.specs.Lent.{Looked}
+use Rattle.values.specs.Operands.{found, nothing, operand, constantAt, constantsFrom, Stands, valuesFrom, firstOf, attributeOperand}
+use Rattle.values.proofs.Constants.{int-short, int-whole, str-short, str-whole, as-int, as-str, constants-find}
 use Rattle.policy.specs.declared.Var.{Var}
-use Rattle.policy.specs.Starts.{readSetAfter}
-use Rattle.policy.specs.Readers.{Lending, VarReads, VarAnswers, Vars, Gathered, Items, kindFor}
-use Rattle.policy.proofs.Tokens.{Told, Front, told, grows, mark-range, truth-range, operator-range, source-range, mark-on, mark-off, Constant, constant-on, constant-off}
-use Rattle.policy.proofs.Values.{found}
+use Rattle.policy.specs.declared.Constants.{Constants}
+use Rattle.policy.specs.Readers.{Lending, lentWith, Asked, From, ReadsAs, VarReads, VarAnswers, Vars, SetVars, ConstantEnds, ofKind, ItemsRead, ItemsAnswers, ItemsFrom}
+use Rattle.policy.proofs.Fronts.{inside, told, ended, mark-on, mark-off, constant-off}
 
--- types by their numbers
-same-type : (a b : AtomType) → typeCode a ≡ typeCode b → sameType a b ≡ true
-same-type AtomType.int AtomType.int e = refl
-same-type AtomType.int AtomType.str e = absurd (omega arith)
-same-type AtomType.int AtomType.bool e = absurd (omega arith)
-same-type AtomType.str AtomType.int e = absurd (omega arith)
-same-type AtomType.str AtomType.str e = refl
-same-type AtomType.str AtomType.bool e = absurd (omega arith)
-same-type AtomType.bool AtomType.int e = absurd (omega arith)
-same-type AtomType.bool AtomType.str e = absurd (omega arith)
-same-type AtomType.bool AtomType.bool e = refl
+-- ---- one constant
 
-other-type : (a b : AtomType) → (typeCode a ≡ typeCode b → ⊥) → sameType a b ≡ false
-other-type AtomType.int AtomType.int n = absurd (n refl)
-other-type AtomType.int AtomType.str n = refl
-other-type AtomType.int AtomType.bool n = refl
-other-type AtomType.str AtomType.int n = refl
-other-type AtomType.str AtomType.str n = absurd (n refl)
-other-type AtomType.str AtomType.bool n = refl
-other-type AtomType.bool AtomType.int n = refl
-other-type AtomType.bool AtomType.str n = refl
-other-type AtomType.bool AtomType.bool n = absurd (n refl)
+-- what a token says of its constant
+module _ (a : Atom) where
+  kind-of : (t : Token) → asConstant t ≡ some a → kindOf t ≡ typeCode (typeOf a)
+  kind-of (name x n) e = none-is-some e
+  kind-of (int n) e = ap (λ (b : Atom). typeCode (typeOf b)) (Option·some-injective (Atom.int n) a e)
+  kind-of (str s) e = ap (λ (b : Atom). typeCode (typeOf b)) (Option·some-injective (Atom.str s) a e)
+  kind-of (truth v) e = none-is-some e
+  kind-of (operator o) e = none-is-some e
+  kind-of (mark m) e = none-is-some e
 
--- one constant more, of the type of those before
-one-type-more : (l : List Atom) (a : Atom) → oneType l ≡ true → (eqb (kindFor l) 0 || eqb (kindFor l) (12 + typeCode (typeOf a))) ≡ true
-    → oneType (l ++ a ∷ []) ≡ true
-one-type-more [] a o e = refl
-one-type-more (b ∷ l) a o e = go (eqb (kindFor (b ∷ l)) 0) (eqb (kindFor (b ∷ l)) (12 + typeCode (typeOf a))) refl refl e
-  where
-    go : (x y : Bool) → eqb (kindFor (b ∷ l)) 0 ≡ x → eqb (kindFor (b ∷ l)) (12 + typeCode (typeOf a)) ≡ y → (x || y) ≡ true → oneType ((b ∷ l) ++ a ∷ []) ≡ true
-    go true y p q e = absurd (omega (arith, eqb-true (kindFor (b ∷ l)) 0 p))
-    go false true p q e =
-        let t : sameType (typeOf b) (typeOf a) ≡ true = same-type (typeOf b) (typeOf a) (omega (arith, eqb-true (kindFor (b ∷ l)) (12 + typeCode (typeOf a)) q)) in
-        all-append (λ c. sameType (typeOf b) (typeOf c)) l (a ∷ []) o (ap (λ (x : Bool). elim x as (λ _. Bool) [ true ↦ true | false ↦ false ]) t)
-    go false false p q e = false-is-true e
+  written-atom : (t : Token) → asConstant t ≡ some a → isToken t ≡ true → isAtom a ≡ true
+  written-atom (name x n) e w = none-is-some e
+  written-atom (int n) e w = subst (λ (b : Atom). isAtom b ≡ true) (Option·some-injective (Atom.int n) a e) w
+  written-atom (str s) e w = subst (λ (b : Atom). isAtom b ≡ true) (Option·some-injective (Atom.str s) a e) w
+  written-atom (truth v) e w = none-is-some e
+  written-atom (operator o) e w = none-is-some e
+  written-atom (mark m) e w = none-is-some e
 
--- one of another type: whatever follows, the set is of two types
-two-types : (l : List Atom) (a : Atom) (more : List Atom) → (eqb (kindFor l) 0 || eqb (kindFor l) (12 + typeCode (typeOf a))) ≡ false
-    → oneType (l ++ a ∷ more) ≡ false
-two-types [] a more e = false-is-true (sym e)
-two-types (b ∷ l) a more e = among l
-  where
-    differs : (x : Bool) → eqb (kindFor (b ∷ l)) 0 ≡ x → (x || eqb (kindFor (b ∷ l)) (12 + typeCode (typeOf a))) ≡ false → typeCode (typeOf b) ≡ typeCode (typeOf a) → ⊥
-    differs true p f g = false-is-true (sym f)
-    differs false p f g = false-is-true (sym f ∙ eq-eqb (kindFor (b ∷ l)) (12 + typeCode (typeOf a)) (omega (arith, g)))
+module _ (code : Bytes) (A : Asked) (at end : ℕ) (m : end ≤ length code) (v : A .valued ≡ true) where
+  int-found : (n : ℕ) (rest : List Token) → From code A at (int n ∷ rest) → at + 5 ≤ end → constantAt 1 code end at ≡ found (words n 0 0) (at + 5 + 1)
+  int-found n rest f l =
+      let s : at + 6 ≡ at + 5 + 1 = omega arith in
+      sym (as-int 1 code end at (λ e. omega arith)) ∙ sym (int-whole code end at m l)
+      ∙ ap₂ found (ap (λ (w : ℕ). words w 0 0) (int-value (leb-true n largestInt (told f .written v)) (f .coded))) s
 
-    among : (k : List Atom) → all (λ c. sameType (typeOf b) (typeOf c)) (k ++ a ∷ more) ≡ false
-    among [] =
-        ap (λ (x : Bool). elim x as (λ _. Bool) [ true ↦ all (λ c. sameType (typeOf b) (typeOf c)) more | false ↦ false ])
-        (other-type (typeOf b) (typeOf a) (differs (eqb (kindFor (b ∷ l)) 0) refl e))
-    among (c ∷ k) = step (sameType (typeOf b) (typeOf c)) (among k)
-      where
-        step : (x : Bool) → all (λ c. sameType (typeOf b) (typeOf c)) (k ++ a ∷ more) ≡ false
-            → elim x as (λ _. Bool) [ true ↦ all (λ c. sameType (typeOf b) (typeOf c)) (k ++ a ∷ more) | false ↦ false ] ≡ false
-        step true h = h
-        step false h = refl
+  str-found : (s : Bytes) (rest : List Token) → From code A at (str s ∷ rest) → at + (length s + 2) ≤ end
+      → constantAt 2 code end at ≡ found (threeWords s) (at + (length s + 2) + 1)
+  unfolding isText
+  str-found s rest f l =
+      let b : byteAt code (at + 1) ≡ length s = str-length (f .coded) in
+      let q : at + 2 + byteAt code (at + 1) - (at + 2) ≡ length s = omega arith in
+      let p : at + 2 + byteAt code (at + 1) + 1 ≡ at + (length s + 2) + 1 = omega arith in
+      let t : length s ≤ textBytes = leb-true (length s) textBytes (parts (leb (length s) textBytes) _ (told f .written v) .0) in
+      let e : threeWords s ≡ threeWords (take (at + 2 + byteAt code (at + 1) - (at + 2)) (drop (at + 2) code)) =
+      ap threeWords (sym (ap (λ (k : ℕ). take k (drop (at + 2) code)) q ∙ str-text (f .coded))) in
+      sym (as-str 2 code end at refl) ∙ sym (str-whole code end at (threeWords s) m (omega arith) (omega arith) (omega arith) e) ∙ ap (found (threeWords s)) p
 
--- the constants that are read behind those of l, and one more before them
-abbrev checked : List Atom → List Atom × List model.Token → Option (grammar.Var × List model.Token)
-checked l (more, left) = onlyIf (oneType (l ++ more)) (constants (l ++ more), left)
+  constant-found : (a : Atom) (t : Token) (rest : List Token) → asConstant t ≡ some a → From code A at (t ∷ rest) → at + size t ≤ end
+      → constantAt (kindOf t) code end at ≡ found (atomWords a) (at + size t + 1)
+  constant-found a (name x n) rest e f l = none-is-some e
+  constant-found a (int n) rest e f l =
+      int-found n rest f l ∙ ap (λ (b : Atom). found (atomWords b) (at + 5 + 1)) (Option·some-injective (Atom.int n) a e)
+  constant-found a (str s) rest e f l =
+      str-found s rest f l ∙ ap (λ (b : Atom). found (atomWords b) (at + (length s + 2) + 1)) (Option·some-injective (Atom.str s) a e)
+  constant-found a (truth x) rest e f l = none-is-some e
+  constant-found a (operator o) rest e f l = none-is-some e
+  constant-found a (mark x) rest e f l = none-is-some e
 
-abbrev after : Atom → List Atom × List model.Token → Option (List Atom × List model.Token)
-after a (k, left) = some (a ∷ k, left)
+  -- the values from a constant on: its own, and those from the next place on
+  constant-first : (a : Atom) (t : Token) (rest : List Token) → asConstant t ≡ some a → From code A at (t ∷ rest) → at + size t ≤ end
+      → constantsFrom (kindOf t) code end at ≡ atomWords a ∷ constantsFrom (kindOf t) code end (at + size t + 1)
+  constant-first a t rest e f l =
+      constants-find (kindOf t) code end at (found (atomWords a) (at + size t + 1)) (sym (constant-found a t rest e f l)) .more refl
 
--- the steps of the reading, behind the constants of l
-module _ (l : List Atom) where
-  set-none : (u : model.Token) (ts : List model.Token) → asConstant u ≡ none → readSetAfter l (u ∷ ts) ≡ none
-  unfolding readSetAfter
-  set-none u [] e = refl
-  set-none u (v ∷ ts) e = rw e
+-- behind the end there is none
+none-behind : (code : Bytes) (end i : ℕ) → end ≤ length code → end < i → (a : Atom) (t : Token) → asConstant t ≡ some a → constantsFrom (kindOf t) code end i ≡ []
+none-behind code end i m l a (name x n) e = none-is-some e
+none-behind code end i m l a (int n) e =
+    constants-find 1 code end i nothing (int-short code end i m (omega arith) ∙ as-int 1 code end i (λ z. omega arith)) .none refl
+none-behind code end i m l a (str s) e =
+    constants-find 2 code end i nothing (str-short code end i m (omega arith) ∙ as-str 2 code end i refl) .none refl
+none-behind code end i m l a (truth x) e = none-is-some e
+none-behind code end i m l a (operator o) e = none-is-some e
+none-behind code end i m l a (mark x) e = none-is-some e
 
-  module _ (u : model.Token) (a : Atom) (e : asConstant u ≡ some a) where
-    set-last : (rest : List model.Token) → readSetAfter l (u ∷ model.Token.mark Mark.rbrace ∷ rest) ≡ onlyIf (oneType (l ++ a ∷ [])) (constants (l ++ a ∷ []), rest)
-    unfolding readSetAfter
-    set-last rest = rw e
-
-    set-more : (rest : List model.Token) → readSetAfter l (u ∷ model.Token.mark Mark.comma ∷ rest) ≡ readSetAfter (l ++ a ∷ []) rest
-    unfolding readSetAfter
-    set-more rest = rw e (go (readItems rest))
-      where
-        go : (r : Option (List Atom × List model.Token))
-            → (r >>= after a >>= checked l) ≡ (r >>= checked (l ++ a ∷ []))
-        go none = refl
-        go (some (k, left)) = ap (λ (m : List Atom). onlyIf (oneType m) (constants m, left)) (sym (append-assoc l (a ∷ []) k))
-
-    -- what is read behind the constant, from what stands there
-    abbrev items-behind : Option (List model.Token) → Option (List model.Token) → Option (List Atom × List model.Token) → Option (List Atom × List model.Token)
-    items-behind w x y = elim w [ some rest ↦ some (a ∷ [], rest) | none ↦ x >>= λ rest. y >>= after a ]
-
-    set-other : (ts : List model.Token) → behindMark Mark.rbrace ts ≡ none → behindMark Mark.comma ts ≡ none → readSetAfter l (u ∷ ts) ≡ none
-    unfolding readSetAfter
-    set-other [] f g = refl
-    set-other (v ∷ ts) f g = rw e (ap₂ (λ w x. items-behind w x (readItems ts) >>= checked l) f g)
-
-    set-two : (ts : List model.Token) → ((more : List Atom) → oneType (l ++ a ∷ more) ≡ false) → readSetAfter l (u ∷ ts) ≡ none
-    unfolding readSetAfter
-    set-two [] h = refl
-    set-two (v ∷ ts) h = rw e (go (behindMark Mark.rbrace (v ∷ ts)) (behindMark Mark.comma (v ∷ ts)) (readItems ts))
-      where
-        go : (w x : Option (List model.Token)) (y : Option (List Atom × List model.Token))
-            → (items-behind w x y >>= checked l) ≡ none
-        go (some rest) x y = ap (λ (b : Bool). onlyIf b (constants (l ++ a ∷ []), rest)) (h [])
-        go none none y = refl
-        go none (some rest) none = refl
-        go none (some rest) (some (k, left)) = ap (λ (b : Bool). onlyIf b (constants (l ++ a ∷ k), left)) (h k)
-
--- a constant that is gathered
-module _ (s : Bytes) (at kind : ℕ) (o : Operand) (atoms : ℕ) (t : Token) (h : t ≡ tokenAt s at) where
-  -- no constant, or one of another type
-  pub items-none : (v : Var) → v .ok ≡ false → (13 ≤ t .kind → t .kind ≤ 14 → ⊥) → Items s at kind o atoms v
-  unfolding readSetAfter
-  items-none v e n = record { further = λ f. false-is-true (sym e ∙ f); answers = λ L l g ts f. go L l ts (told s at t h ts f) }
+-- where a constant ends
+module _ (code : Bytes) (kind at : ℕ) where
+  pub end-int : (kind ≡ 2 → ⊥) → ConstantEnds code kind at (at + 5)
+  end-int n = record { further = omega arith; ends = λ D t ts c e lo hi. go t e lo hi }
     where
-      go : (L : Lending) (l : List Atom) (ts : List model.Token) → Front s t ts → VarAnswers s L v (readSetAfter l ts)
-      go L l [] f = e
-      go L l (u ∷ ts) f = subst (VarAnswers s L v) (sym (set-none l u ts (constant-off s t u ts f n))) e
+      go : (t : Token) → kind ≡ kindOf t → 1 ≤ kind → kind ≤ 2 → at + 5 ≡ at + size t
+      go (name x y) e lo hi = absurd (omega arith)
+      go (int x) e lo hi = refl
+      go (str x) e lo hi = absurd (n e)
+      go (truth x) e lo hi = absurd (omega (arith, truth-range x))
+      go (operator x) e lo hi = absurd (omega (arith, operator-range x))
+      go (mark x) e lo hi = absurd (omega (arith, mark-range x))
 
-  module _ (lo : 13 ≤ t .kind) (hi : t .kind ≤ 14) where
-    found-constant : (ts : List model.Token) → From s at ts → Constant s t ts
-    found-constant ts f = constant-on s t ts (told s at t h ts f) lo hi
+  pub end-str : (n : ℕ) → kind ≡ 2 → n ≡ getD code (at + 1) 0 → ConstantEnds code kind at (at + 2 + n)
+  end-str n z q = record { further = omega arith; ends = λ D t ts c e lo hi. go D t ts c e }
+    where
+      go : (D : Declarations) (t : Token) (ts : List Token) → Coded D code at (t ∷ ts) → kind ≡ kindOf t → at + 2 + n ≡ at + size t
+      go D (name x y) ts c e = absurd (omega arith)
+      go D (int x) ts c e = absurd (omega arith)
+      go D (str x) ts c e = omega (arith, q ∙ str-length c)
+      go D (truth x) ts c e = absurd (omega (arith, truth-range x))
+      go D (operator x) ts c e = absurd (omega (arith, operator-range x))
+      go D (mark x) ts c e = absurd (omega (arith, mark-range x))
 
-    pub items-two : (v : Var) → v .ok ≡ false → (eqb kind 0 || eqb kind (t .kind)) ≡ false → Items s at kind o atoms v
-    items-two v e n = record {
-      further = λ f. false-is-true (sym e ∙ f);
-      answers = λ L l g ts f.
-          let k = found-constant ts f in
-          subst (λ us. VarAnswers s L v (readSetAfter l us)) (sym (k .split))
-          (subst (VarAnswers s L v) (sym (set-two l (k .token) (k .atom) (k .is) (k .rest) (λ more. two-types l (k .atom) more
-          (ap₂ (λ (x y : ℕ). eqb x 0 || eqb x y) (sym (g .of-kind)) (sym (k .kind-is)) ∙ n)))) e);
+-- a constant at the front, by its number
+record Constant (code : Bytes) (A : Asked) (kind at end : ℕ) (ts : List Token) : Type 0 where
+  pub token : Token
+  pub atom : Atom
+  pub rest : List Token
+  pub split : ts ≡ token ∷ rest
+  pub is : asConstant token ≡ some atom
+  pub kind-is : kind ≡ kindOf token
+  pub ends : end ≡ at + size token
+  pub from : From code A at (token ∷ rest)
+  pub behind : From code A end rest
+
+module _ (code : Bytes) (kind at end : ℕ) (q : kind ≡ getD code at 0) (E : ConstantEnds code kind at end) (lo : 1 ≤ kind) (hi : kind ≤ 2) (A : Asked) where
+  constant-of : (t : Token) (rest : List Token) → From code A at (t ∷ rest) → (a : Atom) × (asConstant t ≡ some a)
+  constant-of (name x n) rest f = absurd (omega (arith, q, told f .kind-is))
+  constant-of (int n) rest f = (Atom.int n, refl)
+  constant-of (str s) rest f = (Atom.str s, refl)
+  constant-of (truth x) rest f = absurd (omega (arith, q, told f .kind-is, truth-range x))
+  constant-of (operator x) rest f = absurd (omega (arith, q, told f .kind-is, operator-range x))
+  constant-of (mark x) rest f = absurd (omega (arith, q, told f .kind-is, mark-range x))
+
+  constant-on : (ts : List Token) → From code A at ts → Constant code A kind at end ts
+  constant-on [] f = absurd (omega (arith, q, ended f))
+  constant-on (t ∷ rest) f =
+      let (a, e) = constant-of t rest f in
+      let k = q ∙ told f .kind-is in
+      let n : end ≡ at + size t = E .ends (A .declared) t rest (f .coded) k lo hi in
+      record {
+        token = t;
+        atom = a;
+        rest = rest;
+        split = refl;
+        is = e;
+        kind-is = k;
+        ends = n;
+        from = f;
+        behind = subst (λ (i : ℕ). From code A i rest) (sym n) (told f .behind);
+      }
+
+-- ---- the constants of a set
+
+-- what is read from a constant on begins with it
+items-from : (t : Token) (a : Atom) → asConstant t ≡ some a → (P : Option (List Atom × List Token) → Type 0)
+    → P none → ((l : List Atom) (rest : List Token) → P (some (a ∷ l, rest))) → (ts : List Token) → P (readItems (t ∷ ts))
+items-from t a e P p q [] = p
+items-from t a e P p q (u ∷ ts) = rw e (go (behindMark Mark.rbrace (u ∷ ts)) (behindMark Mark.comma (u ∷ ts)) (readItems ts))
+  where
+    go : (w x : Option (List Token)) (y : Option (List Atom × List Token))
+        → P (elim w as (λ _. Option (List Atom × List Token)) [ some rest ↦ some (a ∷ [], rest) | none ↦ x >>= λ rest. y >>= λ (l, rest). some (a ∷ l, rest) ])
+    go (some rest) x y = q [] rest
+    go none none y = p
+    go none (some rest) none = p
+    go none (some rest) (some (l, left)) = q l left
+
+items-not : (t : Token) (ts : List Token) → asConstant t ≡ none → readItems (t ∷ ts) ≡ none
+items-not t [] e = refl
+items-not t (u ∷ ts) e = rw e
+
+module _ (t : Token) (a : Atom) (e : asConstant t ≡ some a) where
+  items-end : (rest : List Token) → readItems (t ∷ mark Mark.rbrace ∷ rest) ≡ some (a ∷ [], rest)
+  items-end rest = rw e
+
+  items-next : (rest : List Token) → readItems (t ∷ mark Mark.comma ∷ rest) ≡ (readItems rest >>= λ (l, left). some (a ∷ l, left))
+  items-next rest = rw e
+
+  items-neither : (ts : List Token) → behindMark Mark.rbrace ts ≡ none → behindMark Mark.comma ts ≡ none → readItems (t ∷ ts) ≡ none
+  items-neither [] f g = refl
+  items-neither (u ∷ ts) f g =
+      rw e (ap₂ (λ (w x : Option (List Token)). elim w as (λ _. Option (List Atom × List Token)) [ some rest ↦ some (a ∷ [], rest) | none ↦ x >>= λ rest. readItems ts >>= λ (l, rest). some (a ∷ l, rest) ]) f g)
+
+-- an atom of the kind is followed by others of it
+of-kind-cons : (kind : ℕ) (a : Atom) (l : List Atom) → kind ≡ typeCode (typeOf a) → all (ofKind kind) (a ∷ l) ≡ all (ofKind kind) l
+of-kind-cons kind a l e =
+    ap (λ (b : Bool). elim b as (λ _. Bool) [ true ↦ all (ofKind kind) l | false ↦ false ]) (eq-eqb (typeCode (typeOf a)) kind (sym e))
+
+module _ (code : Bytes) (kind at : ℕ) where
+  pub items-short : (r : Constants) → r .ok ≡ false → length code ≤ at → ItemsFrom code kind at r
+  items-short r e l = record { further = λ t. false-is-true (sym e ∙ t); answers = λ lo hi A ts f. absurd (omega (arith, coded-within (f .coded))) }
+
+  pub items-other : (r : Constants) → r .ok ≡ false → (getD code at 0 ≡ kind → ⊥) → ItemsFrom code kind at r
+  items-other r e n = record { further = λ t. false-is-true (sym e ∙ t); answers = λ lo hi A ts f. go A ts f }
+    where
+      go : (A : Asked) (ts : List Token) → From code A at ts → ItemsAnswers code A kind at r (readItems ts)
+      go A [] f = e
+      go A (t ∷ ts) f = case (asConstant t) refl
+        where
+          case : (o : Option Atom) → asConstant t ≡ o → ItemsAnswers code A kind at r (readItems (t ∷ ts))
+          case none q = subst (ItemsAnswers code A kind at r) (sym (items-not t ts q)) e
+          case (some a) q = items-from t a q (ItemsAnswers code A kind at r) e (λ l rest. (
+            e ∙ sym (ap (λ (b : Bool). elim b as (λ _. Bool) [ true ↦ all (ofKind kind) l | false ↦ false ]) (ne-eqb (typeCode (typeOf a)) kind (λ z. n (told f .kind-is ∙ kind-of a t q ∙ z)))),
+            λ z. false-is-true (sym e ∙ z),
+          )) ts
+
+  module _ (q : getD code at 0 ≡ kind) (end k : ℕ) (E : ConstantEnds code kind at end) (h : k ≡ getD code end 0) where
+    pub items-within : 0 < k → end < length code
+    items-within z = inside code end (omega arith)
+
+    front : 1 ≤ kind → kind ≤ 2 → (A : Asked) (ts : List Token) → From code A at ts → Constant code A kind at end ts
+    front lo hi A ts f = constant-on code kind at end (sym q) E lo hi A ts f
+
+    pub items-last : k ≡ 8 → ItemsFrom code kind at (record { ok = true; atoms = 1; end = end })
+    items-last z = record {
+      further = λ _. (E .further, items-within (omega arith));
+      answers = λ lo hi A ts f.
+          let r : Constants = record { ok = true; atoms = 1; end = end } in
+          let c = front lo hi A ts f in
+          let b = mark-on Mark.rbrace code A end (c .rest) (c .behind) (sym h ∙ z) in
+          let w = items-within (omega arith) in
+          let k : kind ≡ typeCode (typeOf (c .atom)) = c .kind-is ∙ kind-of (c .atom) (c .token) (c .is) in
+          let o : all (ofKind kind) (c .atom ∷ []) ≡ true = of-kind-cons kind (c .atom) [] k in
+          subst (λ us. ItemsAnswers code A kind at r (readItems us)) (sym (c .split ∙ ap (λ us. c .token ∷ us) (b .split)))
+          (subst (ItemsAnswers code A kind at r) (sym (items-end (c .token) (c .atom) (c .is) (b .rest))) (
+            sym o,
+            λ _. record {
+              behind = b .behind;
+              atom-count = refl;
+              some-atoms = omega arith;
+              of-kind = o;
+              coded = λ v.
+                  subst (λ (i : ℕ). constantsFrom i code end at ≡ atomWords (c .atom) ∷ []) (sym (c .kind-is))
+                  (constant-first code A at end (omega arith) v (c .atom) (c .token) (c .rest) (c .is) (c .from) (omega (arith, c .ends))
+                  ∙ ap (λ (l : List Words). atomWords (c .atom) ∷ l) (none-behind code end (at + size (c .token) + 1) (omega arith) (omega (arith, c .ends)) (c .atom) (c .token) (c .is)));
+              written = λ v. all-cons isAtom (c .atom) [] (written-atom (c .atom) (c .token) (c .is) (told (c .from) .written v)) refl;
+            },
+          ));
     }
 
-    module _ (fit : (eqb kind 0 || eqb kind (t .kind)) ≡ true) (p : Operand) (n : ℕ) (W : Extended o (t .kind - 12) (t .low) (t .high) p)
-        (m : n ≡ min 9 (atoms + 1)) (u : Token) (hu : u ≡ tokenAt s (t .next)) where
-      of-kind-more : (l : List Atom) (a : Atom) → kind ≡ kindFor l → t .kind ≡ 12 + typeCode (typeOf a) → t .kind ≡ kindFor (l ++ a ∷ [])
-      of-kind-more [] a e f = f
-      of-kind-more (b ∷ l) a e f = go (eqb kind 0) refl fit
-        where
-          go : (x : Bool) → eqb kind 0 ≡ x → (x || eqb kind (t .kind)) ≡ true → t .kind ≡ 12 + typeCode (typeOf b)
-          go true q r = absurd (omega (arith, eqb-true kind 0 q, e))
-          go false q r = omega (arith, eqb-true kind (t .kind) r, e)
+    pub items-more : (r : Constants) (n : ℕ) → k ≡ 9 → ItemsFrom code kind (end + 1) r → n ≡ min 9 (r .atoms + 1)
+        → ItemsFrom code kind at (record { ok = r .ok; atoms = n; end = r .end })
+    items-more r n z R m = record {
+      further = λ t. let (x, y) = R .further t in (omega (arith, E .further), y);
+      answers = λ lo hi A ts f.
+          let p : Constants = record { ok = r .ok; atoms = n; end = r .end } in
+          let c = front lo hi A ts f in
+          let b = mark-on Mark.comma code A end (c .rest) (c .behind) (sym h ∙ z) in
+          subst (λ us. ItemsAnswers code A kind at p (readItems us)) (sym (c .split ∙ ap (λ us. c .token ∷ us) (b .split)))
+          (subst (ItemsAnswers code A kind at p) (sym (items-next (c .token) (c .atom) (c .is) (b .rest)))
+          (go A ts c (readItems (b .rest)) (R .answers lo hi A (b .rest) (b .behind))));
+    }
+      where
+        go : (A : Asked) (ts : List Token) (c : Constant code A kind at end ts) (o : Option (List Atom × List Token)) → ItemsAnswers code A kind (end + 1) r o
+            → ItemsAnswers code A kind at (record { ok = r .ok; atoms = n; end = r .end }) (o >>= λ (l, left). some (c .atom ∷ l, left))
+        go A ts c none a = a
+        go A ts c (some (l, left)) a =
+            let k : kind ≡ typeCode (typeOf (c .atom)) = c .kind-is ∙ kind-of (c .atom) (c .token) (c .is) in (
+              a .0 ∙ sym (of-kind-cons kind (c .atom) l k),
+              λ t.
+                  let (x, y) = R .further t in
+                  let i = a .1 t in
+                  let s : at + size (c .token) + 1 ≡ end + 1 = omega (arith, c .ends) in
+                  record {
+                    behind = i .behind;
+                    atom-count = omega (arith, m, i .atom-count);
+                    some-atoms = omega arith;
+                    of-kind = of-kind-cons kind (c .atom) l k ∙ i .of-kind;
+                    coded = λ v.
+                        subst (λ (j : ℕ). constantsFrom j code (r .end) at ≡ atomWords (c .atom) ∷ constantsFrom j code (r .end) (at + size (c .token) + 1)) (sym (c .kind-is))
+                        (constant-first code A at (r .end) (omega arith) v (c .atom) (c .token) (c .rest) (c .is) (c .from) (omega (arith, c .ends)))
+                        ∙ ap (λ (l : List Words). atomWords (c .atom) ∷ l) (ap (constantsFrom kind code (r .end)) s ∙ i .coded v);
+                    written = λ v. all-cons isAtom (c .atom) l (written-atom (c .atom) (c .token) (c .is) (told (c .from) .written v)) (i .written v);
+                  },
+            )
 
-      gathered : (l : List Atom) (ts : List model.Token) → Gathered kind o atoms l → (k : Constant s t ts) → Gathered (t .kind) p n (l ++ k .atom ∷ [])
-      gathered l ts g k =
-          let one = one-type-more l (k .atom) (g .one-type) (ap₂ (λ (x y : ℕ). eqb x 0 || eqb x y) (sym (g .of-kind)) (sym (k .kind-is)) ∙ fit) in
-          let len : length (l ++ k .atom ∷ []) ≡ length l + 1 = length-append l (k .atom ∷ []) in
+    pub items-off : (r : Constants) → r .ok ≡ false → (k ≡ 8 → ⊥) → (k ≡ 9 → ⊥) → ItemsFrom code kind at r
+    items-off r e x y = record {
+      further = λ t. false-is-true (sym e ∙ t);
+      answers = λ lo hi A ts f.
+          let c = front lo hi A ts f in
+          subst (λ us. ItemsAnswers code A kind at r (readItems us)) (sym (c .split))
+          (subst (ItemsAnswers code A kind at r) (sym (items-neither (c .token) (c .atom) (c .is) (c .rest)
+          (mark-off Mark.rbrace code A end (c .rest) (c .behind) (λ w. x (h ∙ w))) (mark-off Mark.comma code A end (c .rest) (c .behind) (λ w. y (h ∙ w))))) e);
+    }
+
+-- ---- a set
+
+same-type : (s t : AtomType) → sameType s t ≡ eqb (typeCode t) (typeCode s)
+same-type AtomType.int AtomType.int = refl
+same-type AtomType.int AtomType.str = refl
+same-type AtomType.int AtomType.bool = refl
+same-type AtomType.str AtomType.int = refl
+same-type AtomType.str AtomType.str = refl
+same-type AtomType.str AtomType.bool = refl
+same-type AtomType.bool AtomType.int = refl
+same-type AtomType.bool AtomType.str = refl
+same-type AtomType.bool AtomType.bool = refl
+
+same-types : (a : Atom) (l : List Atom) → all (λ b. sameType (typeOf a) (typeOf b)) l ≡ all (ofKind (typeCode (typeOf a))) l
+same-types a [] = refl
+same-types a (b ∷ l) =
+    ap₂ (λ (x y : Bool). elim x as (λ _. Bool) [ true ↦ y | false ↦ false ]) (same-type (typeOf a) (typeOf b)) (same-types a l)
+
+module _ (code : Bytes) (at k : ℕ) (e : k ≡ getD code at 0) where
+  abbrev Same : Option (List Atom × List Token) → Type 0
+  Same o = (y : List Atom × List Token) → o ≡ some y → oneType (y .0) ≡ all (ofKind k) (y .0)
+
+  -- the constants of a set are of one type where they are all of the first one's kind
+  one-type : 1 ≤ k → k ≤ 2 → (A : Asked) (ts : List Token) → From code A at ts → Same (readItems ts)
+  one-type lo hi A [] f = λ y q. none-is-some q
+  one-type lo hi A (t ∷ ts) f = case (asConstant t) refl
+    where
+      case : (o : Option Atom) → asConstant t ≡ o → Same (readItems (t ∷ ts))
+      case none q = subst Same (sym (items-not t ts q)) (λ y z. none-is-some z)
+      case (some a) q =
+          let s : k ≡ typeCode (typeOf a) = e ∙ told f .kind-is ∙ kind-of a t q in
+          items-from t a q Same (λ y z. none-is-some z) (λ l rest y z.
+          subst (λ (x : List Atom × List Token). oneType (x .0) ≡ all (ofKind k) (x .0)) (Option·some-injective (a ∷ l, rest) y z)
+          (same-types a l ∙ ap (λ (i : ℕ). all (ofKind i) l) (sym s) ∙ sym (of-kind-cons k a l s))) ts
+
+  pub set-none : (v : Var) → (v .ok ≡ false) × (v .next ≡ at) → (1 ≤ k → k ≤ 2 → ⊥) → SetVars code at v
+  unfolding readSet
+  set-none v x n = record { further = omega (arith, x .1); answers = λ L A ts f. go L A ts f }
+    where
+      go : (L : Lending) (A : Asked) (ts : List Token) → From code A at ts → VarAnswers code L A v (readSet ts)
+      go L A [] f = x .0
+      go L A (t ∷ ts) f =
+          subst (λ o. VarAnswers code L A v (o >>= λ (l, rest). onlyIf (oneType l) (constants l, rest)))
+          (sym (items-not t ts (constant-off code A at t ts f (λ a b. n (omega arith) (omega arith))))) (x .0)
+
+  module _ (lo : 1 ≤ k) (hi : k ≤ 2) (r : Constants) (R : ItemsFrom code k at r) where
+    pub set-off : (v : Var) → (v .ok ≡ false) × (v .next ≡ at) → r .ok ≡ false → SetVars code at v
+    unfolding readSet
+    set-off v x z = record { further = omega (arith, x .1); answers = λ L A ts f. go L A (readItems ts) (R .answers lo hi A ts f) (one-type lo hi A ts f) }
+      where
+        go : (L : Lending) (A : Asked) (o : Option (List Atom × List Token)) → ItemsAnswers code A k at r o
+            → ((y : List Atom × List Token) → o ≡ some y → oneType (y .0) ≡ all (ofKind k) (y .0))
+            → VarAnswers code L A v (o >>= λ (l, rest). onlyIf (oneType l) (constants l, rest))
+        go L A none a s = x .0
+        go L A (some y) a s =
+            subst (λ (b : Bool). VarAnswers code L A v (onlyIf b (constants (y .0), y .1))) (sym (s y refl ∙ sym (a .0) ∙ z)) (x .0)
+
+    pub set-on : (o : Operand) → o ≡ operand k 2 at (r .end) → r .ok ≡ true → SetVars code at (record { ok = true; operand = o; atoms = r .atoms; next = r .end + 1 })
+    unfolding readSet valuesFrom firstOf
+    set-on o p z = record {
+      further = let w = R .further z in omega (arith, w .0);
+      answers = λ L A ts f. go L A (readItems ts) (R .answers lo hi A ts f) (one-type lo hi A ts f);
+    }
+      where
+        go : (L : Lending) (A : Asked) (w : Option (List Atom × List Token)) → ItemsAnswers code A k at r w
+            → ((y : List Atom × List Token) → w ≡ some y → oneType (y .0) ≡ all (ofKind k) (y .0))
+            → VarAnswers code L A (record { ok = true; operand = o; atoms = r .atoms; next = r .end + 1 }) (w >>= λ (l, rest). onlyIf (oneType l) (constants l, rest))
+        go L A none a s = false-is-true (sym a ∙ z)
+        go L A (some y) a s =
+            let i = a .1 z in
+            subst (λ (b : Bool). VarAnswers code L A (record { ok = true; operand = o; atoms = r .atoms; next = r .end + 1 }) (onlyIf b (constants (y .0), y .1)))
+            (sym (s y refl ∙ i .of-kind)) (
+              refl,
+              record {
+                behind = i .behind;
+                atom-count = i .atom-count;
+                some-atoms = i .some-atoms;
+                stands = λ v read g. subst (λ (j : Operand). Stands (lentWith code L) j (y .0)) (sym p) (record { coded = i .coded v; typed = i .of-kind; written = i .written v });
+              },
+            )
+
+-- ---- a var
+
+constant-read : (code : Bytes) (L : Lending) (A : Asked) (v : Var) → v .ok ≡ true → (t : Token) (a : Atom) (rest : List Token) → asConstant t ≡ some a
+    → VarReads code L A v (constants (a ∷ [])) rest → VarAnswers code L A v (readVar (t ∷ rest))
+constant-read code L A v o (name x n) a rest q r = none-is-some q
+constant-read code L A v o (int n) a rest q r =
+    (o, subst (λ (b : Atom). VarReads code L A v (constants (b ∷ [])) rest) (sym (Option·some-injective (Atom.int n) a q)) r)
+constant-read code L A v o (str n) a rest q r =
+    (o, subst (λ (b : Atom). VarReads code L A v (constants (b ∷ [])) rest) (sym (Option·some-injective (Atom.str n) a q)) r)
+constant-read code L A v o (truth x) a rest q r = none-is-some q
+constant-read code L A v o (operator x) a rest q r = none-is-some q
+constant-read code L A v o (mark x) a rest q r = none-is-some q
+
+module _ (code : Bytes) (rows : List ℕ) (at k : ℕ) (e : k ≡ getD code at 0) where
+  pub var-within : 0 < k → at < length code
+  var-within h = inside code at (omega arith)
+
+  pub var-constant : 1 ≤ k → k ≤ 2 → (end : ℕ) → ConstantEnds code k at end → (o : Operand) → o ≡ operand k 2 at end
+      → Vars code rows at (record { ok = true; operand = o; atoms = 1; next = end })
+  unfolding valuesFrom firstOf
+  var-constant lo hi end E o p = record {
+    further = let w = E .further in omega arith;
+    answers = λ L q A ts f.
+        let c = constant-on code k at end e E lo hi A ts f in
+        let s : k ≡ typeCode (typeOf (c .atom)) = c .kind-is ∙ kind-of (c .atom) (c .token) (c .is) in
+        subst (λ us. VarAnswers code L A (record { ok = true; operand = o; atoms = 1; next = end }) (readVar us)) (sym (c .split))
+        (constant-read code L A (record { ok = true; operand = o; atoms = 1; next = end }) refl (c .token) (c .atom) (c .rest) (c .is) (record {
+          behind = c .behind;
+          atom-count = refl;
+          some-atoms = omega arith;
+          stands = λ v read g. subst (λ (j : Operand). Stands (lentWith code L) j (c .atom ∷ [])) (sym p) (record {
+            coded =
+                let w : at + size (c .token) < length code = told (c .from) .within in
+                subst (λ (i : ℕ). constantsFrom i code end at ≡ atomWords (c .atom) ∷ []) (sym (c .kind-is))
+                (constant-first code A at end (omega (arith, c .ends)) v (c .atom) (c .token) (c .rest) (c .is) (c .from) (omega (arith, c .ends))
+                ∙ ap (λ (l : List Words). atomWords (c .atom) ∷ l) (none-behind code end (at + size (c .token) + 1) (omega (arith, c .ends)) (omega (arith, c .ends)) (c .atom) (c .token) (c .is)));
+            typed = of-kind-cons k (c .atom) [] s;
+            written = all-cons isAtom (c .atom) [] (written-atom (c .atom) (c .token) (c .is) (told (c .from) .written v)) refl;
+          });
+        }));
+  }
+
+  pub var-name : k ≡ 4 → (n : ℕ) → n ≡ getD code (at + 1) 0 → (o : Operand) → o ≡ attributeOperand rows n
+      → Vars code rows at (record { ok = true; operand = o; atoms = 0; next = at + 2 })
+  var-name z n m o p = record {
+    further = omega arith;
+    answers = λ L q A ts f.
+        let (s, x, us, g, c) = name-here (f .coded) (sym e ∙ z) in
+        let h : From code A at (name s x ∷ us) = subst (From code A at) g f in
+        subst (λ us. VarAnswers code L A (record { ok = true; operand = o; atoms = 0; next = at + 2 }) (readVar us)) (sym g) (
+          refl,
           record {
-            of-kind = of-kind-more l (k .atom) (g .of-kind) (k .kind-is);
-            one-type = one;
-            counted = omega (arith, m, g .counted, len);
-            kept = λ le. W .one-more l (k .atom) (g .kept (omega (arith, le, len))) (k .coded) (k .written) one (omega (arith, le, len));
-          }
+            behind = told h .behind;
+            atom-count = refl;
+            some-atoms = tt;
+            stands = λ v read r.
+                let (i, j) = declared (attributeNumber (A .declared) s x) (told h .known v) in
+                let d : n ≡ i = m ∙ name-number (h .coded) ∙ ap (numberOr unknownNumber) j in
+                subst (λ (w : Operand). Stands (lentWith code L) w (read s x)) (sym (p ∙ ap₂ attributeOperand (sym q) d)) (r s x i j);
+          },
+        );
+  }
+    where
+      declared : (o : Option ℕ) → isNone o ≡ false → (i : ℕ) × (o ≡ some i)
+      declared none w = false-is-true (sym w)
+      declared (some i) w = (i, refl)
 
-      pub items-last : u .kind ≡ 5 → Items s at kind o atoms (record { ok = true; operand = p; atoms = n; next = u .next })
-      items-last z = record {
-        further = λ _. let w = grows s at t h (omega (arith)) in let x = grows s (t .next) u hu (omega (arith, z)) in omega (arith, w .0, x .0);
-        answers = λ L l g ts f.
-            let v : Var = record { ok = true; operand = p; atoms = n; next = u .next } in
-            let k = found-constant ts f in
-            let b = mark-on Mark.rbrace s u (k .rest) (told s (t .next) u hu (k .rest) (k .behind)) z in
-            let d = gathered l ts g k in
-            let l₁ = l ++ k .atom ∷ [] in
-            subst (λ us. VarAnswers s L v (readSetAfter l us)) (sym (k .split ∙ ap (λ us. k .token ∷ us) (b .split)))
-            (subst (VarAnswers s L v) (sym (set-last l (k .token) (k .atom) (k .is) (b .rest) ∙ ap (λ (x : Bool). onlyIf x (constants l₁, b .rest)) (d .one-type)))
-            (refl, record { behind = b .behind; atom-count = d .counted; stands = λ le S c r. keeps-stands (d .kept le) (L .pairs) (L .table) }));
-      }
-
-      pub items-falls : u .kind ≡ 6 → (at < u .next) × (at < length s)
-      items-falls z = let w = grows s at t h (omega (arith)) in let x = grows s (t .next) u hu (omega (arith, z)) in omega (arith, w .0, w .1, x .0)
-
-      pub items-more : (v : Var) → u .kind ≡ 6 → Items s (u .next) (t .kind) p n v → Items s at kind o atoms v
-      items-more v z I = record {
-        further = λ e. let w = items-falls z in omega (arith, w .0, I .further e);
-        answers = λ L l g ts f.
-            let k = found-constant ts f in
-            let b = mark-on Mark.comma s u (k .rest) (told s (t .next) u hu (k .rest) (k .behind)) z in
-            subst (λ us. VarAnswers s L v (readSetAfter l us)) (sym (k .split ∙ ap (λ us. k .token ∷ us) (b .split)))
-            (subst (VarAnswers s L v) (sym (set-more l (k .token) (k .atom) (k .is) (b .rest)))
-            (I .answers L (l ++ k .atom ∷ []) (gathered l ts g k) (b .rest) (b .behind)));
-      }
-
-      pub items-off : (v : Var) → v .ok ≡ false → (u .kind ≡ 5 → ⊥) → (u .kind ≡ 6 → ⊥) → Items s at kind o atoms v
-      items-off v e x y = record {
-        further = λ f. false-is-true (sym e ∙ f);
-        answers = λ L l g ts f.
-            let k = found-constant ts f in
-            let q = told s (t .next) u hu (k .rest) (k .behind) in
-            subst (λ us. VarAnswers s L v (readSetAfter l us)) (sym (k .split))
-            (subst (VarAnswers s L v) (sym (set-other l (k .token) (k .atom) (k .is) (k .rest) (mark-off Mark.rbrace s u (k .rest) q x) (mark-off Mark.comma s u (k .rest) q y))) e);
-      }
-
--- ---- vars
-
-module _ (s : Bytes) (L : Lending) (t : Token) where
-  name-var : (x : Operand) → Looked (L .attributes) (L .user) (L .object) (L .mask) (L .entries) (t .kind - 30) (t .low) (t .high) x
-      → 31 ≤ t .kind → (ts : List model.Token) → Front s t ts → VarAnswers s L (record { ok = true; operand = x; atoms = 0; next = t .next }) (readVar ts)
-  name-var x h a [] f = absurd (omega (arith, f))
-  name-var x h a (model.Token.name y n ∷ ts) f = (
-    refl,
-    record {
-      behind = f .behind;
-      atom-count = refl;
-      stands = λ l S b g. found h S b g y n (f .written) (omega (arith, f .kind-is)) (f .low-is) (f .high-is);
-    },
-  )
-  name-var x h a (model.Token.int n ∷ ts) f = absurd (omega (arith, f .kind-is))
-  name-var x h a (model.Token.str n ∷ ts) f = absurd (omega (arith, f .kind-is))
-  name-var x h a (model.Token.truth w ∷ ts) f = absurd (omega (arith, f .kind-is, truth-range w))
-  name-var x h a (model.Token.operator o ∷ ts) f = absurd (omega (arith, f .kind-is, operator-range o))
-  name-var x h a (model.Token.mark m ∷ ts) f = absurd (omega (arith, f .kind-is, mark-range m))
-
-  other-var : (v : Var) → v .ok ≡ false → (t .kind ≡ 4 → ⊥) → (13 ≤ t .kind → t .kind ≤ 14 → ⊥) → (31 ≤ t .kind → t .kind ≤ 35 → ⊥)
-      → (ts : List model.Token) → Front s t ts → VarAnswers s L v (readVar ts)
-  other-var v e a b d [] f = e
-  other-var v e a b d (model.Token.name x n ∷ ts) f = absurd (d (omega (arith, f .kind-is, source-range x)) (omega (arith, f .kind-is, source-range x)))
-  other-var v e a b d (model.Token.int n ∷ ts) f = absurd (b (omega (arith, f .kind-is)) (omega (arith, f .kind-is)))
-  other-var v e a b d (model.Token.str n ∷ ts) f = absurd (b (omega (arith, f .kind-is)) (omega (arith, f .kind-is)))
-  other-var v e a b d (model.Token.truth w ∷ ts) f = e
-  other-var v e a b d (model.Token.operator o ∷ ts) f = e
-  other-var v e a b d (model.Token.mark m ∷ ts) f =
-      subst (λ w. VarAnswers s L v (w >>= readSet)) (sym (mark-off Mark.lbrace s t (model.Token.mark m ∷ ts) f a)) e
-
-constant-var : (s : Bytes) (L : Lending) (v : Var) (u : model.Token) (a : Atom) (rest : List model.Token) → asConstant u ≡ some a → v .ok ≡ true
-    → VarReads s L v (constants (a ∷ [])) rest → VarAnswers s L v (readVar (u ∷ rest))
-constant-var s L v (model.Token.name x n) a rest e o r = none-is-some e
-constant-var s L v (model.Token.int n) a rest e o r = (o, subst (λ (b : Atom). VarReads s L v (constants (b ∷ [])) rest) (sym (Option·some-injective _ _ e)) r)
-constant-var s L v (model.Token.str n) a rest e o r = (o, subst (λ (b : Atom). VarReads s L v (constants (b ∷ [])) rest) (sym (Option·some-injective _ _ e)) r)
-constant-var s L v (model.Token.truth w) a rest e o r = none-is-some e
-constant-var s L v (model.Token.operator p) a rest e o r = none-is-some e
-constant-var s L v (model.Token.mark m) a rest e o r = none-is-some e
-
-module _ (s : Bytes) (L : Lending) (at : ℕ) (t : Token) (h : t ≡ tokenAt s at) where
-  pub var-set : (o : Operand) (v : Var) → Keeps o [] → t .kind ≡ 4 → Items s (t .next) 0 o 0 v → Vars s L at v
-  unfolding readSet readSetAfter
-  var-set o v k z I = record {
-    further = λ e. let w = grows s at t h (omega (arith, z)) in omega (arith, w .0, I .further e);
-    answers = λ ts f.
-        let b = mark-on Mark.lbrace s t ts (told s at t h ts f) z in
-        subst (λ us. VarAnswers s L v (readVar us)) (sym (b .split))
-        (I .answers L [] (record { of-kind = refl; one-type = refl; counted = refl; kept = λ _. k }) (b .rest) (b .behind));
+  pub var-set : (v : Var) → k ≡ 7 → SetVars code (at + 1) v → Vars code rows at v
+  var-set v z S = record {
+    further = let w = S .further in omega arith;
+    answers = λ L q A ts f.
+        let b = mark-on Mark.lbrace code A at ts f (sym e ∙ z) in
+        subst (λ us. VarAnswers code L A v (readVar us)) (sym (b .split)) (S .answers L A (b .rest) (b .behind));
   }
 
-  pub var-constant : (o : Operand) → ((a : Atom) → atomValue a ≡ value (t .kind - 12) (t .low) (t .high) → isAtom a ≡ true → Keeps o (a ∷ [])) → 13 ≤ t .kind → t .kind ≤ 14
-      → Vars s L at (record { ok = true; operand = o; atoms = 1; next = t .next })
-  var-constant o K lo hi = record {
-    further = λ _. let w = grows s at t h (omega (arith)) in omega (arith, w .0);
-    answers = λ ts f.
-        let v : Var = record { ok = true; operand = o; atoms = 1; next = t .next } in
-        let k = constant-on s t ts (told s at t h ts f) lo hi in
-        subst (λ us. VarAnswers s L v (readVar us)) (sym (k .split))
-        (constant-var s L v (k .token) (k .atom) (k .rest) (k .is) refl
-        (record { behind = k .behind; atom-count = refl; stands = λ le S b r. keeps-stands (K (k .atom) (k .coded) (k .written)) (L .pairs) (L .table) }));
-  }
-
-  pub var-name : (x : Operand) → Looked (L .attributes) (L .user) (L .object) (L .mask) (L .entries) (t .kind - 30) (t .low) (t .high) x
-      → 31 ≤ t .kind → Vars s L at (record { ok = true; operand = x; atoms = 0; next = t .next })
-  var-name x o a = record {
-    further = λ _. let w = grows s at t h (omega (arith)) in omega (arith, w .0);
-    answers = λ ts f. name-var s L t x o a ts (told s at t h ts f);
-  }
-
-  pub var-none : (v : Var) → v .ok ≡ false → (t .kind ≡ 4 → ⊥) → (13 ≤ t .kind → t .kind ≤ 14 → ⊥) → (31 ≤ t .kind → t .kind ≤ 35 → ⊥) → Vars s L at v
-  var-none v e a b d = record { further = λ f. false-is-true (sym e ∙ f); answers = λ ts f. other-var s L t v e a b d ts (told s at t h ts f) }
+  pub var-none : (v : Var) → (v .ok ≡ false) × (v .next ≡ at) → (1 ≤ k → k ≤ 2 → ⊥) → (k ≡ 4 → ⊥) → (k ≡ 7 → ⊥) → Vars code rows at v
+  var-none v x a b d = record { further = omega (arith, x .1); answers = λ L q A ts f. go L A ts f }
+    where
+      go : (L : Lending) (A : Asked) (ts : List Token) → From code A at ts → VarAnswers code L A v (readVar ts)
+      go L A [] f = x .0
+      go L A (name y n ∷ ts) f = absurd (b (e ∙ told f .kind-is))
+      go L A (int n ∷ ts) f = absurd (a (omega (arith, e, told f .kind-is)) (omega (arith, e, told f .kind-is)))
+      go L A (str n ∷ ts) f = absurd (a (omega (arith, e, told f .kind-is)) (omega (arith, e, told f .kind-is)))
+      go L A (truth y ∷ ts) f = x .0
+      go L A (operator y ∷ ts) f = x .0
+      go L A (mark m ∷ ts) f =
+          subst (λ w. VarAnswers code L A v (w >>= readSet)) (sym (mark-off Mark.lbrace code A at (mark m ∷ ts) f (λ w. d (e ∙ w)))) (x .0)

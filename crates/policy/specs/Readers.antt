@@ -2,68 +2,84 @@
 use Prim.Native.Nat.{ℕ, _+_, _*_, _≤_, _<_, min, max}
 use mathlib.Core.Path.{_≡_}
 use mathlib.Core.Bool.{Bool, true, false}
-use mathlib.Core.List.{List, [], _∷_, _++_}
+use mathlib.Core.List.{List, [], _∷_}
 use mathlib.Core.Option.{Option, none, some}
+use lib.Dec.{eqb}
 use lib.ListN.{length}
+use Rattle.model.specs.Notation.{any, all, map}
 use Rattle.model.specs.Bytes.{Bytes}
-use Rattle.model.specs.Atoms.{Atom, typeOf}
+use Rattle.model.specs.Attributes.{Source}
+use Rattle.model.specs.Atoms.{Atom, typeOf, isAtom}
 use Rattle.model.specs.Truth as model
 use Rattle.model.specs.Truth.{NOT, _AND_, _OR_}
-use Rattle.model.specs.Tokens.{Token}
+use Rattle.model.specs.Tokens.{Token, isToken}
+use Rattle.model.specs.Declarations.{Declarations, attributeNumber}
+use Rattle.model.specs.Refusals.{unknownName}
 use Rattle.model.specs.Grammar as grammar
-use Rattle.model.specs.Grammar.{Policy, oneType, atomsIn, terms, depth, largestSet, readVar, policyWithin, conjunctionWithin, termWithin}
-use Rattle.model.specs.Meaning.{meaning, valuesOf}
-use Rattle.model.specs.State.{State}
-use Rattle.model.specs.Block.{Block}
-use Rattle.model.specs.Session.{readBy}
-use Rattle.text.specs.Codes.{typeCode}
-use Rattle.tokens.specs.Codes.{truthCode}
-use Rattle.tokens.specs.Reading.{From}
-use Rattle.values.specs.declared.Truth.{Truth}
+use Rattle.model.specs.Grammar.{Policy, constants, attribute, atomsIn, terms, depth, largestSet, readItems, readSet, readVar, policyWithin, conjunctionWithin, termWithin}
+use Rattle.model.specs.Meaning.{Values, meaning, valuesOf}
+use Rattle.codes.specs.Codes.{kindOf, typeCode, truthCode}
+use Rattle.text.specs.Values.{atomWords}
+use Rattle.tokens.specs.RuleCode.{Coded, size}
+use Rattle.truth.specs.declared.Truth.{Truth}
+use Rattle.truth.specs.Truths.{truthOf}
 use Rattle.values.specs.declared.Operand.{Operand}
-use Rattle.values.specs.Truths.{truthOf}
-use Rattle.values.specs.Operands.{Stands}
-use Rattle.values.specs.Kept.{Keeps}
-use Rattle.session.specs.Lent.{Lent}
+use Rattle.values.specs.Operands.{Lent, lent, Stands, constantsFrom, attributeOperand}
 use Rattle.policy.specs.declared.Part.{Part}
 use Rattle.policy.specs.declared.Reading.{Reading}
 use Rattle.policy.specs.declared.Reading.the-variants.{Read, Malformed}
 use Rattle.policy.specs.declared.Head.{Head}
 use Rattle.policy.specs.declared.Head.the-variants.{Leaf, Open, Neither}
 use Rattle.policy.specs.declared.Var.{Var}
-use Rattle.policy.specs.Starts.{Start, whole, opened, neither, simpleStart, comparisonStart, termStart, closedBy, joinedTo, readSetAfter}
+use Rattle.policy.specs.declared.Constants.{Constants}
+use Rattle.policy.specs.Starts.{Start, whole, opened, neither, plainStart, aloneStart, closedBy, joinedTo}
 
--- what is lent to every reader beside the policy's bytes
+-- ---- what is lent and what is asked
+
+-- what is lent to every reader beside the code
 pub record Lending : Type 0 where
   pub attributes : List ℕ
   pub pairs : List ℕ
-  pub table : List ℕ
-  pub user : ℕ
-  pub object : ℕ
-  pub mask : ℕ
-  pub entries : List ℕ
+  pub session : List ℕ
+  pub entries : Bytes
 
-abbrev pub lending : List ℕ → List ℕ → List ℕ → ℕ → ℕ → ℕ → List ℕ → Lending
-lending a p t u o m e = record { attributes = a; pairs = p; table = t; user = u; object = o; mask = m; entries = e }
+abbrev pub lending : List ℕ → List ℕ → List ℕ → Bytes → Lending
+lending attributes pairs session entries = record { attributes = attributes; pairs = pairs; session = session; entries = entries }
 
--- what is lent stands for a state and a block
-abbrev pub For : Lending → State → Block → Type 0
-For L S b = Lent S b (L .attributes) (L .pairs) (L .table) (L .user) (L .object) (L .mask) (L .entries)
+abbrev pub lentWith : Bytes → Lending → Lent
+lentWith code L = lent code (L .pairs) (L .session) (L .entries)
 
--- x is the policy p, and behind it stand the tokens of `rest`. The counts go no further than is needed to see that a limit is passed; an
--- operand keeps eight constants, so that a value is promised where no set is larger
-pub record Reads (s : Bytes) (L : Lending) (x : Part) (p : Policy) (rest : List Token) : Type 0 where
-  pub behind : From s (x .next) rest
+-- the declarations that the code was written with, and whether values are asked for: then each token is well formed and no name undeclared
+pub record Asked : Type 0 where
+  pub declared : Declarations
+  pub valued : Bool
+
+-- from `at` on, the code holds the tokens ts
+pub record From (code : Bytes) (A : Asked) (at : ℕ) (ts : List Token) : Type 0 where
+  pub coded : Coded (A .declared) code at ts
+  pub written : A .valued ≡ true → all isToken ts ≡ true
+  pub known : A .valued ≡ true → any (unknownName (A .declared)) ts ≡ false
+
+-- the operand of each declared attribute stands for the values that `read` gives it
+abbrev pub ReadsAs : Bytes → Lending → Declarations → Values → Type 0
+ReadsAs code L D read =
+    (s : Source) (n : Bytes) (k : ℕ) → attributeNumber D s n ≡ some k → Stands (lentWith code L) (attributeOperand (L .attributes) k) (read s n)
+
+-- ---- policies, conjunctions and terms
+
+-- x is the policy p, and behind it stand the tokens of `rest`. The counts go no further than is needed to see that a limit is passed
+pub record Reads (code : Bytes) (L : Lending) (A : Asked) (x : Part) (p : Policy) (rest : List Token) : Type 0 where
+  pub behind : From code A (x .next) rest
   pub term-count : x .terms ≡ min 17 (terms p)
   pub deepest : x .depth ≡ min 9 (depth p)
   pub largest-set : x .largest ≡ min 9 (largestSet p)
-  pub truth : largestSet p ≤ 8 → (S : State) (b : Block) → For L S b → truthOf (x .value) ≡ meaning (readBy S b) p
+  pub truth : A .valued ≡ true → (read : Values) → ReadsAs code L (A .declared) read → truthOf (x .value) ≡ meaning read p
 
-abbrev pub Answers : Bytes → Lending → Reading → grammar.Reading → Type 0
-Answers s L (Read x) none = ⊥
-Answers s L (Read x) (some y) = Reads s L x (y .0) (y .1)
-Answers s L Malformed none = Unit {0}
-Answers s L Malformed (some y) = ⊥
+abbrev pub Answers : Bytes → Lending → Asked → Reading → grammar.Reading → Type 0
+Answers code L A (Read x) none = ⊥
+Answers code L A (Read x) (some y) = Reads code L A x (y .0) (y .1)
+Answers code L A Malformed none = Unit {0}
+Answers code L A Malformed (some y) = ⊥
 
 -- what is read does not end before the position where it begins
 abbrev pub Ahead : ℕ → Reading → Type 0
@@ -71,9 +87,9 @@ Ahead at (Read x) = at ≤ x .next
 Ahead at Malformed = Unit {0}
 
 -- the readers that call each other, at every bound that is large enough for the tokens
-pub record Reader (within : ℕ → List Token → grammar.Reading) (d : ℕ) (s : Bytes) (L : Lending) (at : ℕ) (r : Reading) : Type 0 where
+pub record Reader (within : ℕ → List Token → grammar.Reading) (d : ℕ) (code : Bytes) (L : Lending) (at : ℕ) (r : Reading) : Type 0 where
   pub ahead : Ahead at r
-  pub answers : (ts : List Token) → From s at ts → (n : ℕ) → 3 * length ts + d ≤ n → Answers s L r (within n ts)
+  pub answers : (A : Asked) (ts : List Token) → From code A at ts → (n : ℕ) → 3 * length ts + d ≤ n → Answers code L A r (within n ts)
 
 abbrev pub Terms : Bytes → Lending → ℕ → Reading → Type 0
 Terms = Reader (λ n ts. termWithin n ts) 1
@@ -85,37 +101,101 @@ abbrev pub Policies : Bytes → Lending → ℕ → Reading → Type 0
 Policies = Reader (λ n ts. policyWithin n ts) 3
 
 -- what they do with what was read: the end of a parenthesis, and the joining by AND (true) or OR
-pub record Closes (s : Bytes) (b : Bool) (r q : Reading) : Type 0 where
+pub record Closes (code : Bytes) (b : Bool) (r q : Reading) : Type 0 where
   pub ahead : (at : ℕ) → Ahead at r → Ahead at q
-  pub answers : (L : Lending) (o : grammar.Reading) → Answers s L r o → Answers s L q (closedBy b o)
+  pub answers : (L : Lending) (A : Asked) (o : grammar.Reading) → Answers code L A r o → Answers code L A q (closedBy b o)
 
 pub record Joins (c : Bool) (x : Part) (r q : Reading) : Type 0 where
   pub ahead : (at : ℕ) → Ahead at r → Ahead at q
-  pub answers : (s : Bytes) (L : Lending) (p : Policy) (rest : List Token) (o : grammar.Reading) → Reads s L x p rest → Answers s L r o
-      → Answers s L q (joinedTo c p o)
+  pub answers : (code : Bytes) (L : Lending) (A : Asked) (p : Policy) (rest : List Token) (o : grammar.Reading)
+      → Reads code L A x p rest → Answers code L A r o → Answers code L A q (joinedTo c p o)
 
--- how a term begins
-abbrev pub Starts : Bytes → Lending → Head → Start → Type 0
-Starts s L (Leaf x) (whole p ts) = Reads s L x p ts
-Starts s L (Leaf x) (opened b ts) = ⊥
-Starts s L (Leaf x) neither = ⊥
-Starts s L (Open c n) (whole p ts) = ⊥
-Starts s L (Open c n) (opened b ts) = (c ≡ b) × From s n ts
-Starts s L (Open c n) neither = ⊥
-Starts s L Neither (whole p ts) = ⊥
-Starts s L Neither (opened b ts) = ⊥
-Starts s L Neither neither = Unit {0}
+-- ---- how a term begins
+
+abbrev pub Starts : Bytes → Lending → Asked → Head → Start → Type 0
+Starts code L A (Leaf x) (whole p ts) = Reads code L A x p ts
+Starts code L A (Leaf x) (opened b ts) = ⊥
+Starts code L A (Leaf x) neither = ⊥
+Starts code L A (Open c n) (whole p ts) = ⊥
+Starts code L A (Open c n) (opened b ts) = (c ≡ b) × From code A n ts
+Starts code L A (Open c n) neither = ⊥
+Starts code L A Neither (whole p ts) = ⊥
+Starts code L A Neither (opened b ts) = ⊥
+Starts code L A Neither neither = Unit {0}
 
 abbrev pub Further : Bytes → ℕ → Head → Type 0
-Further s at (Leaf x) = at ≤ x .next
-Further s at (Open c n) = (at < n) × (at < length s)
-Further s at Neither = Unit {0}
+Further code at (Leaf x) = at ≤ x .next
+Further code at (Open c n) = (at < n) × (at < length code)
+Further code at Neither = Unit {0}
 
-pub record Heads (start : List Token → Start) (s : Bytes) (L : Lending) (at : ℕ) (h : Head) : Type 0 where
-  pub further : Further s at h
-  pub starts : (ts : List Token) → From s at ts → Starts s L h (start ts)
+pub record Heads (start : List Token → Start) (code : Bytes) (L : Lending) (at : ℕ) (h : Head) : Type 0 where
+  pub further : Further code at h
+  pub starts : (A : Asked) (ts : List Token) → From code A at ts → Starts code L A h (start ts)
 
--- parts made of parts
+-- ---- vars
+
+-- a set is not empty
+abbrev pub SomeAtoms : grammar.Var → Type 0
+SomeAtoms (constants l) = 0 < length l
+SomeAtoms (attribute s n) = Unit {0}
+
+-- a var that was read
+pub record VarReads (code : Bytes) (L : Lending) (A : Asked) (v : Var) (w : grammar.Var) (rest : List Token) : Type 0 where
+  pub behind : From code A (v .next) rest
+  pub atom-count : v .atoms ≡ min 9 (atomsIn w)
+  pub some-atoms : SomeAtoms w
+  pub stands : A .valued ≡ true → (read : Values) → ReadsAs code L (A .declared) read → Stands (lentWith code L) (v .operand) (valuesOf read w)
+
+abbrev pub VarAnswers : Bytes → Lending → Asked → Var → Option (grammar.Var × List Token) → Type 0
+VarAnswers code L A v none = v .ok ≡ false
+VarAnswers code L A v (some y) = (v .ok ≡ true) × VarReads code L A v (y .0) (y .1)
+
+pub record Vars (code : Bytes) (rows : List ℕ) (at : ℕ) (v : Var) : Type 0 where
+  pub further : at ≤ v .next
+  pub answers : (L : Lending) → L .attributes ≡ rows → (A : Asked) (ts : List Token) → From code A at ts → VarAnswers code L A v (readVar ts)
+
+-- a set, behind its first brace
+pub record SetVars (code : Bytes) (at : ℕ) (v : Var) : Type 0 where
+  pub further : at ≤ v .next
+  pub answers : (L : Lending) (A : Asked) (ts : List Token) → From code A at ts → VarAnswers code L A v (readSet ts)
+
+-- the place behind a constant
+pub record ConstantEnds (code : Bytes) (kind at r : ℕ) : Type 0 where
+  pub further : at < r
+  pub ends : (D : Declarations) (t : Token) (ts : List Token) → Coded D code at (t ∷ ts) → kind ≡ kindOf t → 1 ≤ kind → kind ≤ 2 → r ≡ at + size t
+
+-- the constants of a set: all of one kind
+abbrev pub ofKind : ℕ → Atom → Bool
+ofKind kind a = eqb (typeCode (typeOf a)) kind
+
+pub record ItemsRead (code : Bytes) (A : Asked) (kind at : ℕ) (r : Constants) (l : List Atom) (rest : List Token) : Type 0 where
+  pub behind : From code A (r .end + 1) rest
+  pub atom-count : r .atoms ≡ min 9 (length l)
+  pub some-atoms : 0 < length l
+  pub of-kind : all (ofKind kind) l ≡ true
+  pub coded : A .valued ≡ true → constantsFrom kind code (r .end) at ≡ map atomWords l
+  pub written : A .valued ≡ true → all isAtom l ≡ true
+
+abbrev pub ItemsAnswers : Bytes → Asked → ℕ → ℕ → Constants → Option (List Atom × List Token) → Type 0
+ItemsAnswers code A kind at r none = r .ok ≡ false
+ItemsAnswers code A kind at r (some y) = (r .ok ≡ all (ofKind kind) (y .0)) × (r .ok ≡ true → ItemsRead code A kind at r (y .0) (y .1))
+
+pub record ItemsFrom (code : Bytes) (kind at : ℕ) (r : Constants) : Type 0 where
+  pub further : r .ok ≡ true → (at < r .end) × (r .end < length code)
+  pub answers : 1 ≤ kind → kind ≤ 2 → (A : Asked) (ts : List Token) → From code A at ts → ItemsAnswers code A kind at r (readItems ts)
+
+-- what a var comes to without an operator behind it
+pub record Alone (code : Bytes) (pairs session : List ℕ) (entries : Bytes) (v : Var) (h : Head) : Type 0 where
+  pub further : (at : ℕ) → at ≤ v .next → Further code at h
+  pub starts : (rows : List ℕ) (A : Asked) (w : grammar.Var) (rest : List Token)
+      → VarReads code (lending rows pairs session entries) A v w rest → Starts code (lending rows pairs session entries) A h (aloneStart w rest)
+
+-- what begins with a var, wherever it was read
+abbrev pub VarHeads : Bytes → Lending → Var → Head → Type 0
+VarHeads code L v h = (at : ℕ) → Vars code (L .attributes) at v → v .ok ≡ true → Heads (λ ts. plainStart ts) code L at h
+
+-- ---- parts made of parts
+
 pub record Negated (x y : Part) : Type 0 where
   pub same-next : y .next ≡ x .next
   pub same-terms : y .terms ≡ x .terms
@@ -133,20 +213,6 @@ NegatedHead (Open b n) Neither = ⊥
 NegatedHead Neither (Leaf y) = ⊥
 NegatedHead Neither (Open c m) = ⊥
 NegatedHead Neither Neither = Unit {0}
-
--- a var that was read
-pub record VarReads (s : Bytes) (L : Lending) (v : Var) (w : grammar.Var) (rest : List Token) : Type 0 where
-  pub behind : From s (v .next) rest
-  pub atom-count : v .atoms ≡ min 9 (atomsIn w)
-  pub stands : atomsIn w ≤ 8 → (S : State) (b : Block) → For L S b → Stands (L .pairs) (L .table) (v .operand) (valuesOf (readBy S b) w)
-
-abbrev pub VarAnswers : Bytes → Lending → Var → Option (grammar.Var × List Token) → Type 0
-VarAnswers s L v none = v .ok ≡ false
-VarAnswers s L v (some y) = (v .ok ≡ true) × VarReads s L v (y .0) (y .1)
-
-pub record Vars (s : Bytes) (L : Lending) (at : ℕ) (v : Var) : Type 0 where
-  pub further : v .ok ≡ true → at ≤ v .next
-  pub answers : (ts : List Token) → From s at ts → VarAnswers s L v (readVar ts)
 
 abbrev pub leafPart : Truth → ℕ → ℕ → Part
 leafPart t n l = record { next = n; value = t; terms = 1; depth = 0; largest = l }
@@ -176,20 +242,3 @@ pub record JoinedPart (c : Bool) (x y z : Part) : Type 0 where
 -- r is the truth value whose word has this kind
 abbrev pub Spoken : ℕ → Truth → Type 0
 Spoken kind r = (t : model.Truth) → kind ≡ truthCode t → truthOf r ≡ t
-
--- the kind of token that the constants of a set are; 0 before the first
-abbrev pub kindFor : List Atom → ℕ
-kindFor [] = 0
-kindFor (a ∷ l) = 12 + typeCode (typeOf a)
-
--- an operand gathers the constants of a set, as many as it can keep
-pub record Gathered (kind : ℕ) (o : Operand) (atoms : ℕ) (l : List Atom) : Type 0 where
-  pub of-kind : kind ≡ kindFor l
-  pub one-type : oneType l ≡ true
-  pub counted : atoms ≡ min 9 (length l)
-  pub kept : length l ≤ 8 → Keeps o l
-
--- the rest of a set, behind the constants that were gathered
-pub record Items (s : Bytes) (at kind : ℕ) (o : Operand) (atoms : ℕ) (v : Var) : Type 0 where
-  pub further : v .ok ≡ true → at ≤ v .next
-  pub answers : (L : Lending) (l : List Atom) → Gathered kind o atoms l → (ts : List Token) → From s at ts → VarAnswers s L v (readSetAfter l ts)

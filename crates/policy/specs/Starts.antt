@@ -1,11 +1,10 @@
 -- How a term begins: what its tokens say before any policy in parentheses is read.
 use mathlib.Core.Bool.{Bool, true, false}
-use mathlib.Core.List.{List, [], _∷_, _++_}
+use mathlib.Core.List.{List, [], _∷_}
 use mathlib.Core.Option.{Option, none, some}
-use Rattle.model.specs.Notation.{_>>=_, onlyIf}
-use Rattle.model.specs.Atoms.{Atom}
+use Rattle.model.specs.Notation.{_>>=_}
 use Rattle.model.specs.Tokens.{Token, Mark}
-use Rattle.model.specs.Grammar.{Var, constants, Policy, constant, lone, not, and, or, isMark, behindMark, oneType, readItems, Reading, readComparison, closed}
+use Rattle.model.specs.Grammar.{Var, constants, attribute, Policy, constant, lone, not, and, or, isMark, behindMark, Reading, readComparison, closed}
 
 -- a term without parentheses, and the tokens behind it; a parenthesis, after NOT or not, and the tokens of its policy; or neither
 pub data Start : Type 0 where
@@ -32,12 +31,17 @@ abbrev pub readOr : Start → Reading → Start
 readOr x none = x
 readOr x (some (p, ts)) = whole p ts
 
-unfoldable pub comparisonStart : List Token → Start
-comparisonStart ts = readOr neither (readComparison ts)
+-- a term without NOT: a comparison, or else a simple term
+unfoldable pub plainStart : List Token → Start
+plainStart ts = readOr (simpleStart ts) (readComparison ts)
 
 unfoldable pub termStart : List Token → Start
-termStart ts =
-    elim (behindMark Mark.NOT ts) [ some rest ↦ negatedStart (simpleStart rest) | none ↦ readOr (simpleStart ts) (readComparison ts) ]
+termStart ts = elim (behindMark Mark.NOT ts) [ some rest ↦ negatedStart (simpleStart rest) | none ↦ plainStart ts ]
+
+-- a var that no operator follows
+abbrev pub aloneStart : Var → List Token → Start
+aloneStart (constants l) ts = neither
+aloneStart (attribute s n) ts = whole (lone s n) ts
 
 -- a policy, after NOT or not
 abbrev pub negatedIf : Bool → Policy → Policy
@@ -55,7 +59,3 @@ joinOf false = or
 
 abbrev pub joinedTo : Bool → Policy → Reading → Reading
 joinedTo c p o = o >>= λ (q, rest). some (joinOf c p q, rest)
-
--- the constants of a set, where those of l were read before
-unfoldable pub readSetAfter : List Atom → List Token → Option (Var × List Token)
-readSetAfter l ts = readItems ts >>= λ (more, rest). onlyIf (oneType (l ++ more)) (constants (l ++ more), rest)

@@ -1,60 +1,42 @@
-// Reads a policy and evaluates it while reading. Lent to every reader: the policy's bytes `s`, and what it takes to find the values of an
-// attribute and to compare them.
+// Reads a policy from its rule code and evaluates it while reading. Lent to every reader: the code, the rows of attributes and of pairs, the
+// session's words and the entries of the block.
 ghost use mathlib.Core.Path.{_≡_};
-ghost use Prim.Native.Nat.{_+_, min, max};
-ghost use mathlib.Core.Bool.{_||_, false};
-ghost use lib.Dec.{eqb};
-ghost use Rattle.policy.specs.Starts.{simpleStart, comparisonStart, termStart};
-ghost use Rattle.policy.specs.Readers.{lending, Policies, Conjunctions, Terms, Heads, NegatedHead, Closes, ClosedPart, Joins, JoinedPart, Vars, Items, Spoken, leafPart};
+ghost use mathlib.Core.Bool.{_&&_, _||_, false};
+ghost use Prim.Native.Nat.{_+_, _*_, _<_, _≤_, min, max};
+ghost use lib.Dec.{leb, ltb};
+ghost use lib.ListN.{length, getD};
+ghost use Rattle.policy.specs.Starts.{simpleStart, termStart};
+ghost use Rattle.policy.specs.Readers.{lending, Policies, Conjunctions, Terms, Heads, NegatedHead, Closes, ClosedPart, Joins, JoinedPart};
+ghost use Rattle.policy.specs.Readers.{Vars, SetVars, ItemsFrom, ConstantEnds, Alone, VarHeads, Spoken, leafPart};
+ghost use Rattle.policy.specs.Judgements.{Ends, Refuses, Judges, Evaluated};
+use codes::AND;
+use codes::AT_LEAST;
+use codes::COMMA;
+use codes::END;
+use codes::EQUAL;
+use codes::FALSE;
+use codes::INT;
+use codes::LBRACE;
+use codes::LPAREN;
+use codes::NAME;
+use codes::NOT;
+use codes::OR;
+use codes::RBRACE;
+use codes::RPAREN;
+use codes::STR;
+use codes::TRUE;
+use codes::UNDEF;
+use truth::Truth;
 use values::Operand;
-use values::Truth;
-
-// The kinds of tokens: marks, truth values, the constants, the first and last operator, and names, which follow
-// NAMES by their source, as constants follow TRUE by their type.
-const LPAREN: u8 = 2;
-
-const RPAREN: u8 = 3;
-
-const LBRACE: u8 = 4;
-
-const RBRACE: u8 = 5;
-
-const COMMA: u8 = 6;
-
-const AND: u8 = 7;
-
-const OR: u8 = 8;
-
-const NOT: u8 = 9;
-
-const FALSE: u8 = 10;
-
-const UNDEF: u8 = 11;
-
-const TRUE: u8 = 12;
-
-const INT: u8 = 13;
-
-const STR: u8 = 14;
-
-const EQUAL: u8 = 16;
-
-const AT_LEAST: u8 = 23;
-
-const NAMES: u8 = 30;
-
-const USER: u8 = 31;
-
-const CONNECT: u8 = 35;
 
 // What a part of a policy comes to: where it ends, its value, its terms (17 for more than 16), the depth of its parentheses (9 for more
 // than 8) and the atoms of its largest set (9 for more than 8).
 pub struct Part {
     pub next: usize,
     pub value: Truth,
-    pub terms: usize,
-    pub depth: usize,
-    pub largest: usize,
+    pub terms: u8,
+    pub depth: u8,
+    pub largest: u8,
 }
 
 pub enum Reading {
@@ -69,15 +51,23 @@ pub enum Head {
     Neither,
 }
 
-// A constant, a set or an attribute, if there is one: what it stands for, the atoms of a set (9 for more than 8), and where it ends.
+// A constant, a set or an attribute, if there is one: what it stands for, its atoms as written (9 for more than 8, 0 of an attribute), and
+// where it ends.
 pub struct Var {
     pub ok: bool,
     pub operand: Operand,
-    pub atoms: usize,
+    pub atoms: u8,
     pub next: usize,
 }
 
-fn add_terms(a: usize, b: usize) -> usize
+// The constants of a set, if they are well formed: how many (9 for more than 8), and where the brace is that ends them.
+pub struct Constants {
+    pub ok: bool,
+    pub atoms: u8,
+    pub end: usize,
+}
+
+fn add_terms(a: u8, b: u8) -> u8
     ensures { λ r. ⌜ r ≡ min 17 (a + b) ⌝ }
 {
     if 17 <= a {
@@ -92,7 +82,7 @@ fn add_terms(a: usize, b: usize) -> usize
     a + b
 }
 
-fn one_more(d: usize) -> usize
+fn one_more(d: u8) -> u8
     ensures { λ r. ⌜ r ≡ min 9 (d + 1) ⌝ }
 {
     if 9 <= d {
@@ -101,14 +91,14 @@ fn one_more(d: usize) -> usize
     d + 1
 }
 
-fn larger(a: usize, b: usize) -> usize
+fn larger(a: u8, b: u8) -> u8
     ensures { λ r. ⌜ r ≡ max a b ⌝ }
 {
     if a <= b { b } else { a }
 }
 
 // A term without parentheses.
-fn leaf(value: Truth, next: usize, largest: usize) -> Part
+fn leaf(value: Truth, next: usize, largest: u8) -> Part
     ensures { λ r. ⌜ r ≡ leafPart value next largest ⌝ }
 {
     Part {
@@ -128,7 +118,7 @@ fn not_head(h: Head) -> Head
             let v = x.value;
             Head::Leaf(Part {
                 next: x.next,
-                value: values::not(v),
+                value: truth::not(v),
                 terms: x.terms,
                 depth: x.depth,
                 largest: x.largest,
@@ -148,7 +138,7 @@ fn closed_part(negated: bool, x: Part, n: usize) -> Part
     if negated {
         Part {
             next: n,
-            value: values::not(v),
+            value: truth::not(v),
             terms: x.terms,
             depth: d,
             largest: x.largest,
@@ -160,23 +150,6 @@ fn closed_part(negated: bool, x: Part, n: usize) -> Part
             terms: x.terms,
             depth: d,
             largest: x.largest,
-        }
-    }
-}
-
-// After the policy of a parenthesis: its end.
-fn close(s: &[u8], negated: bool, r: Reading) -> Reading
-    ensures { λ q. ⌜ Closes (now (s .entry)) negated r q ⌝ }
-{
-    match r {
-        Reading::Malformed => Reading::Malformed,
-        Reading::Read(x) => {
-            let t = tokens::token_at(s, x.next);
-            if t.kind == RPAREN {
-                Reading::Read(closed_part(negated, x, t.next))
-            } else {
-                Reading::Malformed
-            }
         }
     }
 }
@@ -193,7 +166,7 @@ fn joined_part(both: bool, x: Part, y: Part) -> Part
     if both {
         Part {
             next: y.next,
-            value: values::and(a, b),
+            value: truth::and(a, b),
             terms: t,
             depth: d,
             largest: l,
@@ -201,7 +174,7 @@ fn joined_part(both: bool, x: Part, y: Part) -> Part
     } else {
         Part {
             next: y.next,
-            value: values::or(a, b),
+            value: truth::or(a, b),
             terms: t,
             depth: d,
             largest: l,
@@ -218,6 +191,33 @@ fn join(both: bool, x: Part, r: Reading) -> Reading
     }
 }
 
+// The byte at a place of the code, the kind of a token where one begins there; END behind the last byte.
+fn kind_at(code: &[u8], at: usize) -> u8
+    ensures { λ r. ⌜ r ≡ getD (now (code .entry)) at 0 ⌝ }
+{
+    if code.len() <= at {
+        return END;
+    }
+    code[at]
+}
+
+// After the policy of a parenthesis: its end.
+fn close(code: &[u8], negated: bool, r: Reading) -> Reading
+    ensures { λ q. ⌜ Closes (now (code .entry)) negated r q ⌝ }
+{
+    match r {
+        Reading::Malformed => Reading::Malformed,
+        Reading::Read(x) => {
+            let k = kind_at(code, x.next);
+            if k == RPAREN {
+                Reading::Read(closed_part(negated, x, x.next + 1))
+            } else {
+                Reading::Malformed
+            }
+        }
+    }
+}
+
 // The truth value of its word.
 fn truth_of(kind: u8) -> Truth
     ensures { λ r. ⌜ Spoken kind r ⌝ }
@@ -229,260 +229,248 @@ fn truth_of(kind: u8) -> Truth
     }
 }
 
+fn is_operator(kind: u8) -> bool
+    ensures { λ r. ⌜ r ≡ (leb 16 kind && leb kind 23) ⌝ }
+{
+    if kind < EQUAL {
+        return false;
+    }
+    kind <= AT_LEAST
+}
+
+fn place(x: u8) -> usize
+    ensures { λ r. ⌜ (r ≡ x) × (r < 256) ⌝ }
+{
+    x as usize
+}
+
 // Neither a constant, a set nor an attribute.
-fn no_var() -> Var
-    ensures { λ r. ⌜ r .ok ≡ false ⌝ }
+fn no_var(next: usize) -> Var
+    ensures { λ r. ⌜ (r .ok ≡ false) × (r .next ≡ next) ⌝ }
 {
     let o = values::no_values();
     Var {
         ok: false,
         operand: o,
         atoms: 0,
-        next: 0,
+        next,
     }
 }
 
-// Whether a constant is of the kind of those before it in its set.
-fn fits(before: u8, kind: u8) -> bool
-    ensures { λ r. ⌜ r ≡ (eqb before 0 || eqb before kind) ⌝ }
+fn no_constants() -> Constants
+    ensures { λ r. ⌜ r .ok ≡ false ⌝ }
 {
-    if before == 0 {
-        return true;
+    Constants {
+        ok: false,
+        atoms: 0,
+        end: 0,
     }
-    before == kind
 }
 
-// The constants of a set up to its last brace, parted by commas and of one type; behind those that `operand` has gathered.
-fn items(s: &[u8], at: usize, kind: u8, operand: Operand, atoms: usize) -> Var
-    ensures { λ r. ⌜ Items (now (s .entry)) at kind operand atoms r ⌝ }
+// The place behind the constant of that kind at a place: an int has four bytes, a str its length and as many.
+fn constant_end(code: &[u8], kind: u8, at: usize) -> usize
+    requires { ⌜ at < length (now code) ⌝ }
+    ensures { λ r. ⌜ ConstantEnds (now (code .entry)) kind at r ⌝ }
 {
-    let t = tokens::token_at(s, at);
-    if t.kind < INT {
-        return no_var();
+    if kind != STR {
+        return at + 5;
     }
-    if STR < t.kind {
-        return no_var();
+    at + 2 + place(kind_at(code, at + 1))
+}
+
+// The constants of one kind, parted by commas up to the brace that ends their set.
+fn items(code: &[u8], kind: u8, at: usize) -> Constants
+    ensures { λ r. ⌜ ItemsFrom (now (code .entry)) kind at r ⌝ }
+{
+    if code.len() <= at {
+        return no_constants();
     }
-    if !fits(kind, t.kind) {
-        return no_var();
+    if code[at] != kind {
+        return no_constants();
     }
-    let o = values::with_constant(operand, t.kind - TRUE, t.low, t.high);
-    let n = one_more(atoms);
-    let u = tokens::token_at(s, t.next);
-    if u.kind == RBRACE {
-        return Var {
+    let end = constant_end(code, kind, at);
+    let k = kind_at(code, end);
+    if k == RBRACE {
+        return Constants {
             ok: true,
-            operand: o,
-            atoms: n,
-            next: u.next,
+            atoms: 1,
+            end,
         };
     }
-    if u.kind == COMMA {
-        return items(s, u.next, t.kind, o, n);
+    if k != COMMA {
+        return no_constants();
     }
-    no_var()
+    let rest = items(code, kind, end + 1);
+    Constants {
+        ok: rest.ok,
+        atoms: one_more(rest.atoms),
+        end: rest.end,
+    }
 }
 
-// A constant, a set or an attribute.
-fn var_at(
-    s: &[u8],
-    attributes: &[u64; 128],
-    pairs: &[u64; 1024],
-    table: &[u64],
-    user: u8,
-    object: u8,
-    mask: u32,
-    entries: &[u8],
-    at: usize,
-) -> Var
-    ensures { λ r. ⌜ Vars (now (s .entry)) (lending (now (attributes .entry)) (now (pairs .entry)) (now (table .entry)) user object mask (now (entries .entry))) at r ⌝ }
+// A set, behind its first brace.
+fn set_var(code: &[u8], at: usize) -> Var
+    ensures { λ r. ⌜ SetVars (now (code .entry)) at r ⌝ }
 {
-    let t = tokens::token_at(s, at);
-    let k = t.kind;
-    let n = t.next;
-    match k {
-        LBRACE => items(s, n, 0, values::no_values(), 0),
+    let kind = kind_at(code, at);
+    match kind {
         INT..=STR => {
-            let o = values::constant(k - TRUE, t.low, t.high);
+            let l = items(code, kind, at);
+            if !l.ok {
+                return no_var(at);
+            }
+            let o = values::constant(kind, at, l.end);
+            Var {
+                ok: true,
+                operand: o,
+                atoms: l.atoms,
+                next: l.end + 1,
+            }
+        }
+        _ => no_var(at),
+    }
+}
+
+// A constant, a set or an attribute, by the kind of its first token.
+fn var_at(code: &[u8], attributes: &[u64], kind: u8, at: usize) -> Var
+    requires { ⌜ (length (now attributes) ≡ 256) × (kind ≡ getD (now code) at 0) ⌝ }
+    ensures { λ r. ⌜ Vars (now (code .entry)) (now (attributes .entry)) at r ⌝ }
+{
+    match kind {
+        INT..=STR => {
+            let end = constant_end(code, kind, at);
+            let o = values::constant(kind, at, end);
             Var {
                 ok: true,
                 operand: o,
                 atoms: 1,
-                next: n,
+                next: end,
             }
         }
-        USER..=CONNECT => {
-            let o = session::operand_of(
-                attributes,
-                user,
-                object,
-                mask,
-                entries,
-                k - NAMES,
-                t.low,
-                t.high,
-            );
+        NAME => {
+            let k = place(kind_at(code, at + 1));
+            let o = values::attribute(attributes, k);
             Var {
                 ok: true,
                 operand: o,
                 atoms: 0,
-                next: n,
+                next: at + 2,
             }
         }
-        _ => no_var(),
+        LBRACE => set_var(code, at + 1),
+        _ => no_var(at),
     }
 }
 
-// A var, an operator and a var.
-fn comparison_head(
-    s: &[u8],
-    attributes: &[u64; 128],
-    pairs: &[u64; 1024],
-    table: &[u64],
-    user: u8,
-    object: u8,
-    mask: u32,
-    entries: &[u8],
-    at: usize,
-) -> Head
-    ensures { λ r. ⌜ Heads comparisonStart (now (s .entry)) (lending (now (attributes .entry)) (now (pairs .entry)) (now (table .entry)) user object mask (now (entries .entry))) at r ⌝ }
+// An attribute without an operator behind it is a term; constants are none.
+fn alone(code: &[u8], pairs: &[u64], session: &[u64; 128], entries: &[u8], v: Var) -> Head
+    requires { ⌜ length (now pairs) ≡ 1024 ⌝ }
+    ensures { λ h. ⌜ Alone (now (code .entry)) (now (pairs .entry)) (now (session .entry)) (now (entries .entry)) v h ⌝ }
 {
-    let v = var_at(s, attributes, pairs, table, user, object, mask, entries, at);
-    if !v.ok {
+    if v.atoms != 0 {
         return Head::Neither;
     }
-    let o = tokens::token_at(s, v.next);
-    if o.kind < EQUAL {
-        return Head::Neither;
-    }
-    if AT_LEAST < o.kind {
-        return Head::Neither;
-    }
-    let w = var_at(
-        s,
-        attributes,
-        pairs,
-        table,
-        user,
-        object,
-        mask,
-        entries,
-        o.next,
-    );
-    if !w.ok {
-        return Head::Neither;
-    }
-    let left = v.operand;
-    let right = w.operand;
-    let value = values::compare(pairs, table, o.kind, left, right);
-    Head::Leaf(leaf(value, w.next, larger(v.atoms, w.atoms)))
+    let o = v.operand;
+    Head::Leaf(leaf(values::lone(code, pairs, session, entries, o), v.next, 0))
 }
 
-// TRUE, FALSE, UNDEF, an attribute or a parenthesis.
+// TRUE, FALSE, UNDEF, an attribute or a parenthesis, by the kind of its first token.
 fn simple_head(
-    s: &[u8],
-    attributes: &[u64; 128],
-    pairs: &[u64; 1024],
-    table: &[u64],
-    user: u8,
-    object: u8,
-    mask: u32,
+    code: &[u8],
+    attributes: &[u64],
+    pairs: &[u64],
+    session: &[u64; 128],
     entries: &[u8],
+    kind: u8,
     at: usize,
 ) -> Head
-    ensures { λ r. ⌜ Heads simpleStart (now (s .entry)) (lending (now (attributes .entry)) (now (pairs .entry)) (now (table .entry)) user object mask (now (entries .entry))) at r ⌝ }
+    requires { ⌜ (length (now attributes) ≡ 256) × (length (now pairs) ≡ 1024) × (kind ≡ getD (now code) at 0) ⌝ }
+    ensures { λ h. ⌜ Heads simpleStart (now (code .entry)) (lending (now (attributes .entry)) (now (pairs .entry)) (now (session .entry)) (now (entries .entry))) at h ⌝ }
 {
-    let t = tokens::token_at(s, at);
-    let k = t.kind;
-    let n = t.next;
-    match k {
-        LPAREN => Head::Open(false, n),
-        FALSE..=TRUE => Head::Leaf(leaf(truth_of(k), n, 0)),
-        USER..=CONNECT => {
-            let o = session::operand_of(
-                attributes,
-                user,
-                object,
-                mask,
-                entries,
-                k - NAMES,
-                t.low,
-                t.high,
-            );
-            Head::Leaf(leaf(values::lone(pairs, table, o), n, 0))
+    match kind {
+        LPAREN => Head::Open(false, at + 1),
+        FALSE..=TRUE => Head::Leaf(leaf(truth_of(kind), at + 1, 0)),
+        NAME => {
+            let v = var_at(code, attributes, kind, at);
+            alone(code, pairs, session, entries, v)
         }
         _ => Head::Neither,
     }
 }
 
-// How a term begins: with NOT, with a comparison, or as a simple term.
+// What begins with a var: a comparison where an operator and a var follow, else the var alone.
+fn var_head(
+    code: &[u8],
+    attributes: &[u64],
+    pairs: &[u64],
+    session: &[u64; 128],
+    entries: &[u8],
+    v: Var,
+) -> Head
+    requires { ⌜ (length (now attributes) ≡ 256) × (length (now pairs) ≡ 1024) ⌝ }
+    ensures { λ h. ⌜ VarHeads (now (code .entry)) (lending (now (attributes .entry)) (now (pairs .entry)) (now (session .entry)) (now (entries .entry))) v h ⌝ }
+{
+    let o = kind_at(code, v.next);
+    if !is_operator(o) {
+        return alone(code, pairs, session, entries, v);
+    }
+    let n = v.next + 1;
+    let w = var_at(code, attributes, kind_at(code, n), n);
+    if !w.ok {
+        return alone(code, pairs, session, entries, v);
+    }
+    let left = v.operand;
+    let right = w.operand;
+    let value = values::compare(code, pairs, session, entries, o, left, right);
+    Head::Leaf(leaf(value, w.next, larger(v.atoms, w.atoms)))
+}
+
+// How a term begins: with NOT before a simple term, with a var, or as a simple term.
 fn term_head(
-    s: &[u8],
-    attributes: &[u64; 128],
-    pairs: &[u64; 1024],
-    table: &[u64],
-    user: u8,
-    object: u8,
-    mask: u32,
+    code: &[u8],
+    attributes: &[u64],
+    pairs: &[u64],
+    session: &[u64; 128],
     entries: &[u8],
     at: usize,
 ) -> Head
-    ensures { λ r. ⌜ Heads termStart (now (s .entry)) (lending (now (attributes .entry)) (now (pairs .entry)) (now (table .entry)) user object mask (now (entries .entry))) at r ⌝ }
+    requires { ⌜ (length (now attributes) ≡ 256) × (length (now pairs) ≡ 1024) ⌝ }
+    ensures { λ h. ⌜ Heads termStart (now (code .entry)) (lending (now (attributes .entry)) (now (pairs .entry)) (now (session .entry)) (now (entries .entry))) at h ⌝ }
 {
-    let t = tokens::token_at(s, at);
-    if t.kind == NOT {
-        return not_head(simple_head(
-            s,
-            attributes,
-            pairs,
-            table,
-            user,
-            object,
-            mask,
-            entries,
-            t.next,
-        ));
+    let k = kind_at(code, at);
+    if k == NOT {
+        let n = at + 1;
+        let after = kind_at(code, n);
+        return not_head(simple_head(code, attributes, pairs, session, entries, after, n));
     }
-    match comparison_head(s, attributes, pairs, table, user, object, mask, entries, at) {
-        Head::Leaf(x) => Head::Leaf(x),
-        Head::Open(_, _) => Head::Neither,
-        Head::Neither => simple_head(s, attributes, pairs, table, user, object, mask, entries, at),
+    let v = var_at(code, attributes, k, at);
+    if v.ok {
+        return var_head(code, attributes, pairs, session, entries, v);
     }
+    simple_head(code, attributes, pairs, session, entries, k, at)
 }
 
 // A policy: conjunctions joined by OR.
 pub fn policy(
-    s: &[u8],
-    attributes: &[u64; 128],
-    pairs: &[u64; 1024],
-    table: &[u64],
-    user: u8,
-    object: u8,
-    mask: u32,
+    code: &[u8],
+    attributes: &[u64],
+    pairs: &[u64],
+    session: &[u64; 128],
     entries: &[u8],
     at: usize,
 ) -> Reading
-    ensures { λ r. ⌜ Policies (now (s .entry)) (lending (now (attributes .entry)) (now (pairs .entry)) (now (table .entry)) user object mask (now (entries .entry))) at r ⌝ }
+    requires { ⌜ (length (now attributes) ≡ 256) × (length (now pairs) ≡ 1024) ⌝ }
+    ensures { λ r. ⌜ Policies (now (code .entry)) (lending (now (attributes .entry)) (now (pairs .entry)) (now (session .entry)) (now (entries .entry))) at r ⌝ }
 {
-    match conjunction(s, attributes, pairs, table, user, object, mask, entries, at) {
+    match conjunction(code, attributes, pairs, session, entries, at) {
         Reading::Malformed => Reading::Malformed,
         Reading::Read(x) => {
-            let t = tokens::token_at(s, x.next);
-            if t.kind == OR {
+            let k = kind_at(code, x.next);
+            if k == OR {
                 join(
                     false,
                     x,
-                    policy(
-                        s,
-                        attributes,
-                        pairs,
-                        table,
-                        user,
-                        object,
-                        mask,
-                        entries,
-                        t.next,
-                    ),
+                    policy(code, attributes, pairs, session, entries, x.next + 1),
                 )
             } else {
                 Reading::Read(x)
@@ -493,37 +481,25 @@ pub fn policy(
 
 // A conjunction: terms joined by AND.
 fn conjunction(
-    s: &[u8],
-    attributes: &[u64; 128],
-    pairs: &[u64; 1024],
-    table: &[u64],
-    user: u8,
-    object: u8,
-    mask: u32,
+    code: &[u8],
+    attributes: &[u64],
+    pairs: &[u64],
+    session: &[u64; 128],
     entries: &[u8],
     at: usize,
 ) -> Reading
-    ensures { λ r. ⌜ Conjunctions (now (s .entry)) (lending (now (attributes .entry)) (now (pairs .entry)) (now (table .entry)) user object mask (now (entries .entry))) at r ⌝ }
+    requires { ⌜ (length (now attributes) ≡ 256) × (length (now pairs) ≡ 1024) ⌝ }
+    ensures { λ r. ⌜ Conjunctions (now (code .entry)) (lending (now (attributes .entry)) (now (pairs .entry)) (now (session .entry)) (now (entries .entry))) at r ⌝ }
 {
-    match term(s, attributes, pairs, table, user, object, mask, entries, at) {
+    match term(code, attributes, pairs, session, entries, at) {
         Reading::Malformed => Reading::Malformed,
         Reading::Read(x) => {
-            let t = tokens::token_at(s, x.next);
-            if t.kind == AND {
+            let k = kind_at(code, x.next);
+            if k == AND {
                 join(
                     true,
                     x,
-                    conjunction(
-                        s,
-                        attributes,
-                        pairs,
-                        table,
-                        user,
-                        object,
-                        mask,
-                        entries,
-                        t.next,
-                    ),
+                    conjunction(code, attributes, pairs, session, entries, x.next + 1),
                 )
             } else {
                 Reading::Read(x)
@@ -534,25 +510,107 @@ fn conjunction(
 
 // A term: one without parentheses, or a policy in them.
 fn term(
-    s: &[u8],
-    attributes: &[u64; 128],
-    pairs: &[u64; 1024],
-    table: &[u64],
-    user: u8,
-    object: u8,
-    mask: u32,
+    code: &[u8],
+    attributes: &[u64],
+    pairs: &[u64],
+    session: &[u64; 128],
     entries: &[u8],
     at: usize,
 ) -> Reading
-    ensures { λ r. ⌜ Terms (now (s .entry)) (lending (now (attributes .entry)) (now (pairs .entry)) (now (table .entry)) user object mask (now (entries .entry))) at r ⌝ }
+    requires { ⌜ (length (now attributes) ≡ 256) × (length (now pairs) ≡ 1024) ⌝ }
+    ensures { λ r. ⌜ Terms (now (code .entry)) (lending (now (attributes .entry)) (now (pairs .entry)) (now (session .entry)) (now (entries .entry))) at r ⌝ }
 {
-    match term_head(s, attributes, pairs, table, user, object, mask, entries, at) {
+    match term_head(code, attributes, pairs, session, entries, at) {
         Head::Neither => Reading::Malformed,
         Head::Leaf(x) => Reading::Read(x),
         Head::Open(negated, n) => close(
-            s,
+            code,
             negated,
-            policy(s, attributes, pairs, table, user, object, mask, entries, n),
+            policy(code, attributes, pairs, session, entries, n),
         ),
+    }
+}
+
+// A policy, and nothing behind it.
+fn whole(code: &[u8], r: Reading) -> Reading
+    ensures { λ q. ⌜ Ends (now (code .entry)) r q ⌝ }
+{
+    match r {
+        Reading::Malformed => Reading::Malformed,
+        Reading::Read(x) => {
+            let k = kind_at(code, x.next);
+            if k == END {
+                Reading::Read(x)
+            } else {
+                Reading::Malformed
+            }
+        }
+    }
+}
+
+// "More than 16 terms, depth over 8 or a set over 8."
+fn is_large(x: Part) -> bool
+    ensures { λ r. ⌜ r ≡ (ltb 16 (x .terms) || ltb 8 (x .depth) || ltb 8 (x .largest)) ⌝ }
+{
+    if 16 < x.terms {
+        return true;
+    }
+    if 8 < x.depth {
+        return true;
+    }
+    8 < x.largest
+}
+
+// What is refused of a whole policy, in this order: 6 malformed, 7 over the limits, 8 a name that is not declared; else 0.
+fn refusal(r: Reading, unknown: bool) -> u8
+    ensures { λ n. ⌜ Refuses r unknown n ⌝ }
+{
+    match r {
+        Reading::Malformed => 6,
+        Reading::Read(x) => {
+            if is_large(x) {
+                return 7;
+            }
+            if unknown {
+                return 8;
+            }
+            0
+        }
+    }
+}
+
+// What a policy alone is refused for; its code is written. No values are lent: none is asked for.
+pub fn judge(s: &[u8], attributes: &[u64], code: &mut [u8]) -> u8
+    requires { ⌜ (length (now attributes) ≡ 256) × (3 * length (now s) + 3 ≤ length (now code)) ⌝ }
+    ensures { λ n. ⌜ Judges (now (s .entry)) (now (attributes .entry)) (now (code .entry)) (now (code .exit)) n ⌝ }
+{
+    let c = tokens::encode(s, attributes, code);
+    if c.bad {
+        return 6;
+    }
+    let pairs: [u64; 1024] = [0; 1024];
+    let session: [u64; 128] = [0; 128];
+    let entries: [u8; 1] = [0; 1];
+    let r = policy(code, attributes, &pairs, &session, &entries, 0);
+    refusal(whole(code, r), c.unknown)
+}
+
+// The value of the policy that the code holds; UNDEF where it holds none.
+pub fn evaluate(
+    code: &[u8],
+    attributes: &[u64],
+    pairs: &[u64],
+    session: &[u64; 128],
+    entries: &[u8],
+) -> Truth
+    requires { ⌜ (length (now attributes) ≡ 256) × (length (now pairs) ≡ 1024) ⌝ }
+    ensures { λ r. ⌜ Evaluated (now (code .entry)) (lending (now (attributes .entry)) (now (pairs .entry)) (now (session .entry)) (now (entries .entry))) r ⌝ }
+{
+    match whole(code, policy(code, attributes, pairs, session, entries, 0)) {
+        Reading::Malformed => Truth::Undef,
+        Reading::Read(x) => {
+            let v = x.value;
+            v
+        }
     }
 }

@@ -1,38 +1,19 @@
 -- The pairs of a holder's set, position by position, are its values of an attribute. Assumes nothing.
-use Prim.Native.Nat.{ℕ, zero, suc, _+_, _≤_, _<_}
+use Prim.Native.Nat.{ℕ, zero, suc, _+_, _-_, _≤_, _<_}
 use native.Mathlib.Omega.{arith}
 use mathlib.Core.Path.{_≡_, refl, sym, ap, ap₂, subst, _∙_}
 use mathlib.Core.Bool.{Bool, true, false, _&&_}
 use mathlib.Core.List.{List, [], _∷_, _++_}
 use mathlib.Core.Option.{none, some}
 use lib.ListN.{length}
-use Rattle.model.specs.Notation.{map, filter, below, all, nth, numberedFrom}
-use Rattle.model.specs.Atoms.{Atom, isAtom}
+use Rattle.model.specs.Notation.{map, filter, all, nth, numberedFrom}
+use Rattle.model.specs.Atoms.{Atom}
 use Rattle.model.specs.Declarations.{Pair}
 use Rattle.model.proofs.Lists.{all-cons}
-use Rattle.text.specs.declared.Value.{Value}
-use Rattle.text.specs.Values.{atomValue}
-
-filter-keep : {A : Type 0} (p : A → Bool) (x : A) (xs : List A) → p x ≡ true → filter p (x ∷ xs) ≡ x ∷ filter p xs
-filter-keep {A} p x xs e = ap (λ (t : Bool). elim t as (λ _. List A) [ true ↦ x ∷ filter p xs | false ↦ filter p xs ]) e
-
-filter-drop : {A : Type 0} (p : A → Bool) (x : A) (xs : List A) → p x ≡ false → filter p (x ∷ xs) ≡ filter p xs
-filter-drop {A} p x xs e = ap (λ (t : Bool). elim t as (λ _. List A) [ true ↦ x ∷ filter p xs | false ↦ filter p xs ]) e
-
--- n numbers from k up
-abbrev pub upFrom : ℕ → ℕ → List ℕ
-upFrom k zero = []
-upFrom k (suc n) = k ∷ upFrom (suc k) n
-
-up-last : (k n : ℕ) → upFrom k (suc n) ≡ upFrom k n ++ (k + n) ∷ []
-up-last k zero = let e : k ≡ k + 0 = omega arith in ap (λ (m : ℕ). m ∷ []) e
-up-last k (suc n) =
-    let e : suc k + n ≡ k + suc n = omega arith in
-    ap (λ (l : List ℕ). k ∷ l) (up-last (suc k) n) ∙ ap (λ (m : ℕ). k ∷ (upFrom (suc k) n ++ m ∷ [])) e
-
-pub below-up : (n : ℕ) → below n ≡ upFrom 0 n
-below-up zero = refl
-below-up (suc n) = let e : n ≡ 0 + n = omega arith in ap₂ (λ (l : List ℕ) (m : ℕ). l ++ m ∷ []) (below-up n) e ∙ sym (up-last 0 n)
+use Rattle.text.specs.declared.Words.{Words}
+use Rattle.text.specs.Values.{atomWords}
+use Rattle.values.specs.Operands.{upFrom, chosen}
+use Rattle.values.proofs.Chosen.{filter-keep, filter-drop}
 
 -- the pairs from number k on that are in a set and so named, by their atoms
 module _ (eff : ℕ → Bool) (named : Pair → Bool) where
@@ -54,15 +35,15 @@ module _ (eff : ℕ → Bool) (named : Pair → Bool) where
           (sym (ap (λ (b : Bool). b && named x) q) ∙ e))
       go false q = ap (λ (l : List (ℕ × Pair)). map (λ pair. pair .atom) (filter named (map (λ (p, pair). pair) l))) (filter-drop (λ (p, pair). eff p) (k, x) (numberedFrom (suc k) xs) q)
 
-  -- well-formed atoms stay so; none is there if none is so named
-  pub held-written : (k : ℕ) (xs : List Pair) → ((i : ℕ) (x : Pair) → nth xs i ≡ some x → isAtom (x .atom) ≡ true) → all isAtom (heldFrom k xs) ≡ true
-  held-written k [] f = refl
-  held-written k (x ∷ xs) f = go (eff k) refl (named x) refl (held-written (suc k) xs (λ i y e. f (suc i) y e))
+  -- what is so of the atoms of each pair so named; none is there if none is so named
+  pub held-each : (ok : Atom → Bool) (k : ℕ) (xs : List Pair) → ((i : ℕ) (x : Pair) → nth xs i ≡ some x → named x ≡ true → ok (x .atom) ≡ true) → all ok (heldFrom k xs) ≡ true
+  held-each ok k [] f = refl
+  held-each ok k (x ∷ xs) f = go (eff k) refl (named x) refl (held-each ok (suc k) xs (λ i y e. f (suc i) y e))
     where
-      go : (t : Bool) → eff k ≡ t → (u : Bool) → named x ≡ u → all isAtom (heldFrom (suc k) xs) ≡ true → all isAtom (heldFrom k (x ∷ xs)) ≡ true
-      go true p true q h = ap (all isAtom) (held-keep k x xs p q) ∙ all-cons isAtom (x .atom) (heldFrom (suc k) xs) (f 0 x refl) h
-      go true p false q h = ap (all isAtom) (held-skip k x xs (rw (p, q))) ∙ h
-      go false p u q h = ap (all isAtom) (held-skip k x xs (rw p)) ∙ h
+      go : (t : Bool) → eff k ≡ t → (u : Bool) → named x ≡ u → all ok (heldFrom (suc k) xs) ≡ true → all ok (heldFrom k (x ∷ xs)) ≡ true
+      go true p true q h = ap (all ok) (held-keep k x xs p q) ∙ all-cons ok (x .atom) (heldFrom (suc k) xs) (f 0 x refl q) h
+      go true p false q h = ap (all ok) (held-skip k x xs (rw (p, q))) ∙ h
+      go false p u q h = ap (all ok) (held-skip k x xs (rw p)) ∙ h
 
   pub held-none : (k : ℕ) (xs : List Pair) → ((i : ℕ) (x : Pair) → nth xs i ≡ some x → named x ≡ false) → heldFrom k xs ≡ []
   held-none k [] f = refl
@@ -73,10 +54,10 @@ module _ (eff : ℕ → Bool) (named : Pair → Bool) where
       skipped false = refl
 
   -- positions, of which each is that of a pair, or none is there
-  module _ (here : ℕ → Bool) (value : ℕ → Value) (top : ℕ) where
+  module _ (here : ℕ → Bool) (value : ℕ → Words) (top : ℕ) where
     pub record At (i : ℕ) (x : Pair) : Type 0 where
       pub present : here i ≡ (eff i && named x)
-      pub valued : named x ≡ true → value i ≡ atomValue (x .atom)
+      pub valued : named x ≡ true → value i ≡ atomWords (x .atom)
 
     abbrev Aligned : ℕ → List Pair → Type 0
     Aligned k [] = (i : ℕ) → k ≤ i → i < top → here i ≡ false
@@ -97,27 +78,29 @@ module _ (eff : ℕ → Bool) (named : Pair → Bool) where
     none-here k zero e f = refl
     none-here k (suc n) e f = filter-drop here k (upFrom (suc k) n) (f k (omega arith) (omega arith)) ∙ none-here (suc k) n (omega arith) (λ i h l. f i (omega arith) l)
 
-    held-values : (n k : ℕ) (xs : List Pair) → length xs ≤ n → k + n ≡ top → Aligned k xs → map value (filter here (upFrom k n)) ≡ map atomValue (heldFrom k xs)
+    held-values : (n k : ℕ) (xs : List Pair) → length xs ≤ n → k + n ≡ top → Aligned k xs → map value (filter here (upFrom k n)) ≡ map atomWords (heldFrom k xs)
     held-values n k [] l e f = ap (map value) (none-here k n e f)
     held-values zero k (x ∷ xs) l e f = absurd (omega arith)
     held-values (suc n) k (x ∷ xs) l e f = go (eff k) refl (named x) refl (held-values n (suc k) xs (omega arith) (omega arith) (f .1))
       where
-        skip : (eff k && named x) ≡ false → map value (filter here (upFrom (suc k) n)) ≡ map atomValue (heldFrom (suc k) xs)
-            → map value (filter here (upFrom k (suc n))) ≡ map atomValue (heldFrom k (x ∷ xs))
-        skip q h = ap (map value) (filter-drop here k (upFrom (suc k) n) (f .0 .present ∙ q)) ∙ h ∙ ap (map atomValue) (sym (held-skip k x xs q))
+        skip : (eff k && named x) ≡ false → map value (filter here (upFrom (suc k) n)) ≡ map atomWords (heldFrom (suc k) xs)
+            → map value (filter here (upFrom k (suc n))) ≡ map atomWords (heldFrom k (x ∷ xs))
+        skip q h = ap (map value) (filter-drop here k (upFrom (suc k) n) (f .0 .present ∙ q)) ∙ h ∙ ap (map atomWords) (sym (held-skip k x xs q))
 
-        go : (t : Bool) → eff k ≡ t → (u : Bool) → named x ≡ u → map value (filter here (upFrom (suc k) n)) ≡ map atomValue (heldFrom (suc k) xs)
-            → map value (filter here (upFrom k (suc n))) ≡ map atomValue (heldFrom k (x ∷ xs))
+        go : (t : Bool) → eff k ≡ t → (u : Bool) → named x ≡ u → map value (filter here (upFrom (suc k) n)) ≡ map atomWords (heldFrom (suc k) xs)
+            → map value (filter here (upFrom k (suc n))) ≡ map atomWords (heldFrom k (x ∷ xs))
         go true p true q h =
             ap (map value) (filter-keep here k (upFrom (suc k) n) (f .0 .present ∙ rw (p, q)))
-            ∙ ap₂ (λ (v : Value) (r : List Value). v ∷ r) (f .0 .valued q) h
-            ∙ ap (map atomValue) (sym (held-keep k x xs p q))
+            ∙ ap₂ (λ (v : Words) (r : List Words). v ∷ r) (f .0 .valued q) h
+            ∙ ap (map atomWords) (sym (held-keep k x xs p q))
         go true p false q h = skip (rw (p, q)) h
         go false p u q h = skip (rw p) h
 
     pub held-all : (xs : List Pair) → length xs ≤ top → ((i : ℕ) (x : Pair) → nth xs i ≡ some x → At i x) → ((i : ℕ) → length xs ≤ i → i < top → here i ≡ false)
-        → map value (filter here (below top)) ≡ map atomValue (heldFrom 0 xs)
+        → chosen here value top 0 ≡ map atomWords (heldFrom 0 xs)
+    unfolding chosen
     held-all xs l f g =
-        ap (λ (m : List ℕ). map value (filter here m)) (below-up top)
+        let d : top - 0 ≡ top = omega arith in
+        ap (λ (n : ℕ). map value (filter here (upFrom 0 n))) d
         ∙ held-values top 0 xs l (omega arith)
         (aligned 0 xs (λ i x e. let d : i ≡ 0 + i = omega arith in subst (λ (j : ℕ). At j x) d (f i x e)) (λ i h t. g i (omega arith) t))

@@ -1,4 +1,6 @@
-pub mod Entries
-pub mod Rows
+pub mod Words
 pub mod Held
-pub mod Looked
+pub mod Entries
+pub mod Names
+pub mod Opens
+pub mod Activated

@@ -1,3 +1,3 @@
-pub mod Rows
+pub mod Opened
 pub mod Entries
-pub mod Lent
+pub mod Words

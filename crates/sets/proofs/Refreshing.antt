@@ -1,11 +1,11 @@
 -- An edit's table: the edited holder and those below it anew, and the others as they were. Assumes nothing.
-use Prim.Native.Nat.{ℕ, zero, suc, _+_, _-_, _*_, _/_, _%_, _^_, _≤_, _<_}
+use Prim.Native.Nat.{ℕ, zero, suc, _-_, _*_, _/_, _%_, _^_, _≤_, _<_}
 use mathlib.Core.Path.{_≡_, refl, sym, ap, ap₂, _∙_, subst}
 use mathlib.Core.Logic.{_⊎_, inl, inr, ⊎-elim}
 use mathlib.Core.Bool.{Bool, true, false, not, _&&_, _||_, Bool·beq, true≢false, or-false, and-false}
 use mathlib.Core.List.{List}
 use native.Mathlib.Nat.{eq-or-lt-of-le, le-trans, lt-of-lt-of-le}
-use native.Mathlib.Decide.{ℕ-discrete, decLt}
+use native.Mathlib.Decide.{decLt}
 use native.Mathlib.Omega.{arith}
 use lib.Dec.{eqb, ltb}
 use lib.ListN.{length, getD, replicate, List·getD-eq-default, getD-replicate, length-replicate}
@@ -23,16 +23,16 @@ use Rattle.bits.specs.Bits.{bit, member, holds, anyBelow, countBelow}
 use Rattle.bits.proofs.Bits.{bit-none, bit-not}
 use Rattle.bits.proofs.Sets.{same-beq}
 use Rattle.bits.proofs.Counts.{any-ext, any-suc, any-at, any-find, find-any, count-ext, count-rest}
-use Rattle.ties.specs.TieArrays.{inUse, tied, meets, isGroup, under, Distinct, Room, Under, here, over, Marks}
+use Rattle.ties.specs.TieArrays.{inUse, tied, meets, isGroup, groupOf, under, Room, Under, here, over, Marks}
 use Rattle.ties.proofs.Masks.{in-use-lt}
-use Rattle.ties.proofs.Keeps.{slot-group}
+use Rattle.ties.proofs.Keeps.{slot-group, group-any}
 use Rattle.ties.proofs.Below.{above-meets, holders-fit}
-use Rattle.sets.specs.Settled.{Solves, RightAt, Right, Stored, Told, unlike, Settled, AllDeep, GroupsRight, StoredEach}
+use Rattle.sets.specs.Settled.{Solves, RightAt, Right, Stored, Told, unlike, Settled, AllDeep, StoredEach}
 use Rattle.sets.specs.Filled.{KeepsSets}
 use Rattle.sets.specs.Refreshed.{EditedAt, Elsewhere, Rewritten, Refreshed}
 use Rattle.sets.proofs.Parts.{holds-kept}
 use Rattle.sets.proofs.Telling.{SameAt, unlike-past, others-same, told-more}
-use Rattle.sets.proofs.Laws.{stored-right}
+use Rattle.sets.proofs.Laws.{masked, stored-right}
 use Rattle.sets.proofs.Tables.{sets-table, table-sets, pair-declared, no-holder}
 use Rattle.sets.proofs.Solving.{all-deep, effective-solves, groups-right, each-right}
 
@@ -149,14 +149,19 @@ module _ (ups own slots : List ℕ) (e up : ℕ) (t t′ marks marks′ : List �
 
 module _ (ups own slots : List ℕ) (e m : ℕ) (marks : Marks ups slots e m) (small : m < 2 ^ 64) (t t₁ t₂ m₀ m₁ m₂ holders wanted : List ℕ) (d₁ : ℕ)
     (h : (k : ℕ) → member holders k ≡ (member (replicate 16 0) k || ltb k (length ups) && under ups m e k))
-    (w : (k : ℕ) → member wanted k ≡ (member holders k && not (isGroup (length ups) slots k)))
+    (w : (k : ℕ) → member wanted k ≡ (member holders k && not (groupOf (length ups) slots m k)))
     (a : Settled ups own slots t t₁ m₀ m₁ (2 ^ 64 - 1 - m) d₁ (AllDeep ups slots) (λ g. g < 64)) (b : StoredEach ups own slots wanted t₁ t₂ m₁ m₂ (length ups)) where
   g : ℕ → Bool
   g k = ltb k (length ups) && under ups m e k
 
+  -- the groups that are to be dropped are those of the mask
   by-g : (k : ℕ) → member wanted k ≡ (g k && not (isGroup (length ups) slots k))
   unfolding g
-  by-g k = w k ∙ ap (λ (x : Bool). x && not (isGroup (length ups) slots k)) (h k ∙ ap (λ (x : Bool). x || ltb k (length ups) && under ups m e k) (no-numbers k))
+  by-g k =
+      w k ∙ ap (λ (x : Bool). x && not (groupOf (length ups) slots m k)) (h k ∙ ap (λ (x : Bool). x || ltb k (length ups) && under ups m e k) (no-numbers k))
+      ∙ masked (ltb k (length ups) && under ups m e k) (not (groupOf (length ups) slots m k)) (not (isGroup (length ups) slots k))
+      (λ on. ap not (group-any (length ups) slots m k (λ q l u at.
+      under-marked ups slots e m marks q l u (ap (under ups m e) at ∙ parts (ltb k (length ups)) (under ups m e k) on .1))))
 
   g-off : (k : ℕ) → under ups m e k ≡ false → g k ≡ false
   unfolding g
@@ -177,7 +182,7 @@ module _ (ups own slots : List ℕ) (e m : ℕ) (marks : Marks ups slots e m) (s
   -- a group is settled, another holder is stored
   settled-or-stored : (k : ℕ) → SameAt t t₁ k ⊎ SameAt t₁ t₂ k
   settled-or-stored k = ⊎-elim
-      (λ y. inr (λ j at. b .others j (λ on l. true≢false (sym on ∙ ap (member wanted) at ∙ w k ∙ off (member holders k) (isGroup (length ups) slots k) y))))
+      (λ y. inr (λ j at. b .others j (λ on l. true≢false (sym on ∙ ap (member wanted) at ∙ by-g k ∙ off (g k) (isGroup (length ups) slots k) y))))
       (λ y. inl (λ j at. a .others j (λ q l u off₁ on₁ x. true≢false (sym (ap (isGroup (length ups) slots) (sym (sym x ∙ at)) ∙ slot-group (length ups) slots q l u) ∙ y))))
       (true-or-false (isGroup (length ups) slots k))
     where

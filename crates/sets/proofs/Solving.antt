@@ -21,10 +21,10 @@ use Rattle.model.specs.Standing.{Standing}
 use Rattle.model.proofs.Standing.{among, holders-fit, room-length, length-room}
 use Rattle.bits.specs.Bits.{bit, member, holds, anyBelow}
 use Rattle.bits.proofs.Bits.{bit-none, bit-not}
-use Rattle.ties.specs.TieArrays.{tied, isGroup, KeepsTies, Room}
+use Rattle.ties.specs.TieArrays.{tied, isGroup, groupOf, KeepsTies, Room}
 use Rattle.ties.proofs.Masks.{in-use-lt}
 use Rattle.bits.proofs.Counts.{any-find, find-any}
-use Rattle.ties.proofs.Keeps.{up-slot, slot-up, group-slot, slot-group}
+use Rattle.ties.proofs.Keeps.{up-slot, slot-up, group-slot, slot-group, group-any}
 use Rattle.sets.specs.Settled.{Solves, RightAt, Right, ShortChains, Settled, AllDeep, GroupsRight, NoGroups, StoredEach}
 use Rattle.sets.specs.Filled.{KeepsSets, Filled}
 use Rattle.sets.proofs.Parts.{holds-kept}
@@ -132,13 +132,18 @@ all-numbers k h =
 -- the groups, and then the others
 module _ (ups own slots wanted t t₁ t₂ m m₁ m₂ : List ℕ) (d₁ : ℕ) (few : length ups ≤ 1024) (tall : length t₂ ≡ 4 * length ups) (fit : (j : ℕ) → getD t₂ j 0 < 2 ^ 64)
     (a : Settled ups own slots t t₁ m m₁ 0 d₁ (AllDeep ups slots) (λ g. g < 64)) (b : StoredEach ups own slots wanted t₁ t₂ m₁ m₂ (length ups))
-    (e : (k : ℕ) → member wanted k ≡ (member (replicate 16 18446744073709551615) k && not (isGroup (length ups) slots k))) where
+    (e : (k : ℕ) → member wanted k ≡ (member (replicate 16 18446744073709551615) k && not (groupOf (length ups) slots 18446744073709551615 k))) where
+  all-slots : (k : ℕ) → member wanted k ≡ (member (replicate 16 18446744073709551615) k && not (isGroup (length ups) slots k))
+  all-slots k =
+      e k ∙ ap (λ (b : Bool). member (replicate 16 18446744073709551615) k && not b)
+      (group-any (length ups) slots 18446744073709551615 k (λ q l u at. bit-not 64 0 q (omega arith) l ∙ ap not (bit-none q)))
+
   all-right : (D : Declarations) (T : Ties) → Standing (record { declared = D; ties = T }) → KeepsTies ups own slots T → Room D (length ups) → KeepsSets (length ups) t₂ D T
   unfolding KeepsSets RightAt
   all-right D T standing kept room k p h l =
       let s = effective-solves ups own slots D T standing kept in
       let r = groups-right (effectiveSet D T) a s (right-none (length ups) slots (effectiveSet D T) t) (all-deep ups own slots D T standing kept room) in
-      each-right (effectiveSet D T) (member (replicate 16 18446744073709551615)) e s r b k h (all-numbers k (omega arith)) p l
+      each-right (effectiveSet D T) (member (replicate 16 18446744073709551615)) all-slots s r b k h (all-numbers k (omega arith)) p l
 
   pub filled : Filled ups own slots t₂
   filled = record {

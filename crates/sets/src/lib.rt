@@ -1,7 +1,7 @@
 // The kept table: every holder's effective set in four words, filled from the book's arrays and refreshed after an edit.
 ghost use mathlib.Core.Path.{_≡_};
 ghost use mathlib.Core.Bool.{_||_, _&&_};
-ghost use Prim.Native.Nat.{ℕ, _*_, _%_, _<_, _≤_};
+ghost use Prim.Native.Nat.{_*_, _%_, _<_, _≤_};
 ghost use lib.ListN.{length, getD};
 ghost use Rattle.model.specs.Limits.{groupLimit};
 ghost use Rattle.bits.specs.Bits.{bit, member, holds, differ, Numbers, anyBelow};
@@ -178,7 +178,7 @@ pub fn fill(table: &mut [u64], own: &[u64], ups: &[u64], slots: &[u64])
 {
     let mut marks = [0u64; MARK_WORDS];
     let mut parties = [18446744073709551615u64; MARK_WORDS];
-    ties::drop_groups(&mut parties, slots, ups.len());
+    ties::drop_groups(&mut parties, slots, 18446744073709551615, ups.len());
     settle_groups(table, &mut marks, own, ups, slots, 0);
     store_each(table, &mut marks, own, ups, slots, &parties);
 }
@@ -204,7 +204,7 @@ fn rewrite_below(
     }
     let mut parties = [0u64; MARK_WORDS];
     ties::holders_below(&mut parties, ups, below, edited);
-    ties::drop_groups(&mut parties, slots, ups.len());
+    ties::drop_groups(&mut parties, slots, below, ups.len());
     settle_groups(table, marks, own, ups, slots, !below);
     store_each(table, marks, own, ups, slots, &parties);
 }

@@ -1,5 +1,4 @@
 pub mod Places
-pub mod Codes
 pub mod Numbers
 pub mod Quotes
 pub mod Packing

@@ -20,7 +20,7 @@ use Rattle.model.proofs.Words.{same-eq, same-refl}
 use Rattle.model.proofs.Options.{parts, both}
 use Rattle.model.proofs.Lists.{all-parts, all-cons, all-by, same-truth, or-cases}
 use Rattle.model.proofs.Names.{name-all}
-use Rattle.text.specs.Packing.{wordBytes, packed, packedOf, wordsOf, solid}
+use Rattle.text.specs.Packing.{wordBytes, packed, packedOf, wordsOf, threeWords, listOf, solid}
 use Rattle.text.proofs.Places.{next}
 
 -- the number of bytes, on the way from the end of a list to its front
@@ -98,7 +98,7 @@ packed-same n s t p q h k =
     (λ e. rw (packed-injective n s t p q h k (same-eq _ _ e)) (same-refl t))
     (λ e. rw (same-eq s t e) (same-refl (packed n t)))
 
--- names and texts have such bytes, and fit two words
+-- names and texts have such bytes, names fit two words and texts three
 in-range : (a b x : ℕ) → 1 ≤ a → b ≤ 255 → (leb a x && leb x b) ≡ true → solid x ≡ true
 in-range a b x l h f =
     let (p, q) = parts (leb a x) (leb x b) f in
@@ -140,7 +140,7 @@ pub text-length : (s : Bytes) → isText s ≡ true → length s ≤ 12
 unfolding isText
 text-length s e = leb-true (length s) 12 (parts (leb (length s) textBytes) (all textByte s) e .0)
 
--- two words: names and texts
+-- two words: names; three: texts
 words : (s t : Bytes) → packedOf s ≡ packedOf t → packed 2 s ≡ packed 2 t
 words s t e = ap wordsOf e
 
@@ -150,21 +150,21 @@ name-injective s t p q e =
     let k = name-length t q in
     packed-injective 2 s t (name-solid s p) (name-solid t q) (omega arith) (omega arith) (words s t e)
 
-pub text-injective : (s t : Bytes) → isText s ≡ true → isText t ≡ true → packedOf s ≡ packedOf t → s ≡ t
+pub text-injective : (s t : Bytes) → isText s ≡ true → isText t ≡ true → threeWords s ≡ threeWords t → s ≡ t
 text-injective s t p q e =
     let h = text-length s p in
     let k = text-length t q in
-    packed-injective 2 s t (text-solid s p) (text-solid t q) (omega arith) (omega arith) (words s t e)
+    packed-injective 3 s t (text-solid s p) (text-solid t q) (omega arith) (omega arith) (ap listOf e)
 
--- as tests of the two words
+-- as tests of the words
 pub name-same : (s t : Bytes) → isName s ≡ true → isName t ≡ true → same (wordsOf (packedOf s)) (wordsOf (packedOf t)) ≡ same s t
 name-same s t p q =
     let h = name-length s p in
     let k = name-length t q in
     packed-same 2 s t (name-solid s p) (name-solid t q) (omega arith) (omega arith)
 
-pub text-same : (s t : Bytes) → isText s ≡ true → isText t ≡ true → same (wordsOf (packedOf s)) (wordsOf (packedOf t)) ≡ same s t
+pub text-same : (s t : Bytes) → isText s ≡ true → isText t ≡ true → same (listOf (threeWords s)) (listOf (threeWords t)) ≡ same s t
 text-same s t p q =
     let h = text-length s p in
     let k = text-length t q in
-    packed-same 2 s t (text-solid s p) (text-solid t q) (omega arith) (omega arith)
+    packed-same 3 s t (text-solid s p) (text-solid t q) (omega arith) (omega arith)

@@ -10,7 +10,7 @@ use lib.ListN.{length}
 use lib.Dec.{eqb}
 use Rattle.model.specs.Notation.{_>>=_, _or-else_}
 use Rattle.model.specs.Bytes.{Bytes, same}
-use Rattle.model.specs.Atoms.{Atom, int, str, bool, readInt, readStr, readBool, readAtom, isAtom, isText, sameAtom, boolWord}
+use Rattle.model.specs.Atoms.{Atom, int, str, bool, readInt, readStr, readBool, readAtom, isAtom, isText, typeOf, sameAtom, boolWord}
 use Rattle.model.proofs.Words.{same-eq, same-refl, same-word, bools, reads-bool}
 use Rattle.model.proofs.Options.{parts, both}
 use Rattle.model.proofs.Lists.{same-truth}
@@ -18,24 +18,26 @@ use Rattle.model.proofs.Atoms.{atom-exact, str-exact}
 use Rattle.text.specs.declared.Int.{Int}
 use Rattle.text.specs.declared.Int.the-variants.{Number, Malformed}
 use Rattle.text.specs.declared.Value.{Value}
-use Rattle.text.specs.Codes.{coded, boolCode, boolNumber, codedInt}
-use Rattle.text.specs.Packing.{packed}
-use Rattle.text.specs.Values.{value, truthBit, atomValue, codedAtom, sameValue}
+use Rattle.codes.specs.Codes.{coded, typeCode, boolCode}
+use Rattle.codes.proofs.Codes.{type-injective}
+use Rattle.text.specs.declared.Words.{Words}
+use Rattle.text.specs.Codes.{boolNumber, codedInt}
+use Rattle.text.specs.Values.{words, value, truthBit, atomWords, atomValue, codedAtom, sameWords}
 use Rattle.text.specs.Parts.{inside, Quoted}
-use Rattle.text.proofs.Packing.{packed-injective, text-solid, text-length}
+use Rattle.text.proofs.Packing.{text-injective, text-length}
 
 -- the ways of reading, one after the other
 module _ (s : Bytes) where
-  pub read-int : (n : ℕ) → codedInt (readInt s) ≡ Number n → codedAtom (readAtom s) ≡ value 1 n 0
+  pub read-int : (n : ℕ) → codedInt (readInt s) ≡ Number n → codedAtom (readAtom s) ≡ value 1 (words n 0 0)
   unfolding readAtom
   read-int n e = go (readInt s) e
     where
       rest : Option Atom
       rest = (readStr s >>= λ t. some (str t)) or-else (readBool s >>= λ b. some (bool b))
 
-      go : (o : Option ℕ) → codedInt o ≡ Number n → codedAtom ((o >>= λ m. some (int m)) or-else rest) ≡ value 1 n 0
+      go : (o : Option ℕ) → codedInt o ≡ Number n → codedAtom ((o >>= λ m. some (int m)) or-else rest) ≡ value 1 (words n 0 0)
       go none f = let z : _≡_ {A = ℕ} 0 1 = cc in absurd (omega arith)
-      go (some m) f = let z : m ≡ n = cc in ap (λ (k : ℕ). value 1 k 0) z
+      go (some m) f = let z : m ≡ n = cc in ap (λ (k : ℕ). value 1 (words k 0 0)) z
 
   pub no-int : codedInt (readInt s) ≡ Malformed → readInt s ≡ none
   no-int e = go (readInt s) e
@@ -48,24 +50,24 @@ module _ (s : Bytes) where
   unfolding readAtom
   read-str t e f = rw (e, f)
 
-  pub read-bool : readInt s ≡ none → readStr s ≡ none → (n : ℕ) → n ≡ boolNumber s → (n ≡ 0 → ⊥) → (b : Bool) × (n ≡ boolCode b) × (codedAtom (readAtom s) ≡ value 3 (truthBit b) 0)
+  pub read-bool : readInt s ≡ none → readStr s ≡ none → (n : ℕ) → n ≡ boolNumber s → (n ≡ 0 → ⊥) → (b : Bool) × (n ≡ boolCode b) × (codedAtom (readAtom s) ≡ value 3 (words (truthBit b) 0 0))
   unfolding readAtom boolNumber
   read-bool e f n g k = rw (e, f) (go (readBool s) g)
     where
-      go : (o : Option Bool) → n ≡ coded boolCode o → (b : Bool) × (n ≡ boolCode b) × (codedAtom (o >>= λ c. some (bool c)) ≡ value 3 (truthBit b) 0)
+      go : (o : Option Bool) → n ≡ coded boolCode o → (b : Bool) × (n ≡ boolCode b) × (codedAtom (o >>= λ c. some (bool c)) ≡ value 3 (words (truthBit b) 0 0))
       go none h = absurd (k h)
       go (some b) h = (b, h, refl)
 
-  pub read-none : readInt s ≡ none → readStr s ≡ none → 0 ≡ boolNumber s → codedAtom (readAtom s) ≡ value 0 0 0
+  pub read-none : readInt s ≡ none → readStr s ≡ none → 0 ≡ boolNumber s → codedAtom (readAtom s) ≡ value 0 (words 0 0 0)
   unfolding readAtom boolNumber
   read-none e f g = rw (e, f) (go (readBool s) g)
     where
-      go : (o : Option Bool) → 0 ≡ coded boolCode o → codedAtom (o >>= λ c. some (bool c)) ≡ value 0 0 0
+      go : (o : Option Bool) → 0 ≡ coded boolCode o → codedAtom (o >>= λ c. some (bool c)) ≡ value 0 (words 0 0 0)
       go none h = refl
       go (some true) h = absurd (omega arith)
       go (some false) h = absurd (omega arith)
 
--- the text inside of a str fits two words
+-- the text inside of a str fits its words
 pub inside-length : (s : Bytes) {r : Bool} → Quoted s r → r ≡ true → length (inside s) ≤ 12
 inside-length s q e = text-length (inside s) (str-exact s (inside s) .0 (q .text e) .0)
 
@@ -76,32 +78,37 @@ bit-injective false true e = absurd (omega arith)
 bit-injective true false e = absurd (omega arith)
 bit-injective true true e = refl
 
-pub value-injective : (a b : Atom) → isAtom a ≡ true → isAtom b ≡ true → atomValue a ≡ atomValue b → a ≡ b
-value-injective (int m) (int n) p q e = ap int (ap (λ (v : Value). v .low) e)
-value-injective (int m) (str t) p q e = let z = ap (λ (v : Value). v .kind) e in absurd (omega arith)
-value-injective (int m) (bool b) p q e = let z = ap (λ (v : Value). v .kind) e in absurd (omega arith)
-value-injective (str s) (int n) p q e = let z = ap (λ (v : Value). v .kind) e in absurd (omega arith)
-value-injective (str s) (str t) p q e =
-    let h = text-length s p in
-    let k = text-length t q in
-    ap str (packed-injective 2 s t (text-solid s p) (text-solid t q) (omega arith) (omega arith) (ap (λ (v : Value). v .low ∷ v .high ∷ []) e))
-value-injective (str s) (bool b) p q e = let z = ap (λ (v : Value). v .kind) e in absurd (omega arith)
-value-injective (bool a) (int n) p q e = let z = ap (λ (v : Value). v .kind) e in absurd (omega arith)
-value-injective (bool a) (str t) p q e = let z = ap (λ (v : Value). v .kind) e in absurd (omega arith)
-value-injective (bool a) (bool b) p q e = ap bool (bit-injective a b (ap (λ (v : Value). v .low) e))
+-- atoms of one type and the same words are equal; so are atoms of the same value
+pub words-injective : (a b : Atom) → isAtom a ≡ true → isAtom b ≡ true → typeOf a ≡ typeOf b → atomWords a ≡ atomWords b → a ≡ b
+words-injective a b p q k e = go a b p q (ap typeCode k) e
+  where
+    go : (a b : Atom) → isAtom a ≡ true → isAtom b ≡ true → typeCode (typeOf a) ≡ typeCode (typeOf b) → atomWords a ≡ atomWords b → a ≡ b
+    go (int m) (int n) p q k e = ap int (ap (λ (w : Words). w .first) e)
+    go (int m) (str t) p q k e = absurd (omega arith)
+    go (int m) (bool b) p q k e = absurd (omega arith)
+    go (str s) (int n) p q k e = absurd (omega arith)
+    go (str s) (str t) p q k e = ap str (text-injective s t p q e)
+    go (str s) (bool b) p q k e = absurd (omega arith)
+    go (bool a) (int n) p q k e = absurd (omega arith)
+    go (bool a) (str t) p q k e = absurd (omega arith)
+    go (bool a) (bool b) p q k e = ap bool (bit-injective a b (ap (λ (w : Words). w .first) e))
 
--- a test of the numbers, and the test of the atoms
-pub same-value-eq : (u v : Value) → sameValue u v ≡ true → u ≡ v
-same-value-eq u v e =
+pub value-injective : (a b : Atom) → isAtom a ≡ true → isAtom b ≡ true → atomValue a ≡ atomValue b → a ≡ b
+value-injective a b p q e =
+    words-injective a b p q (type-injective (typeOf a) (typeOf b) (ap (λ (v : Value). v .kind) e)) (ap (λ (v : Value). v .words) e)
+
+-- a test of the words, and the test of the atoms
+pub same-words-eq : (u v : Words) → sameWords u v ≡ true → u ≡ v
+same-words-eq u v e =
     let (p, h) = parts _ _ e in
     let (k, l) = parts _ _ p in
-    let a = eqb-true (u .kind) (v .kind) k in
-    let b = eqb-true (u .low) (v .low) l in
-    let c = eqb-true (u .high) (v .high) h in
-    λ i. record { kind = a i; low = b i; high = c i }
+    let a = eqb-true (u .first) (v .first) k in
+    let b = eqb-true (u .second) (v .second) l in
+    let c = eqb-true (u .third) (v .third) h in
+    λ i. record { first = a i; second = b i; third = c i }
 
-pub same-value-refl : (v : Value) → sameValue v v ≡ true
-same-value-refl v = both (both (eq-eqb (v .kind) (v .kind) refl) (eq-eqb (v .low) (v .low) refl)) (eq-eqb (v .high) (v .high) refl)
+pub same-words-refl : (w : Words) → sameWords w w ≡ true
+same-words-refl w = both (both (eq-eqb (w .first) (w .first) refl) (eq-eqb (w .second) (w .second) refl)) (eq-eqb (w .third) (w .third) refl)
 
 pub same-atom-eq : (a b : Atom) → sameAtom a b ≡ true → a ≡ b
 same-atom-eq (int m) (int n) e = ap int (eqb-true m n e)
@@ -119,8 +126,8 @@ same-atom-refl (int n) = eq-eqb n n refl
 same-atom-refl (str s) = same-refl s
 same-atom-refl (bool b) = same-refl (boolWord b)
 
-pub value-same : (a b : Atom) → isAtom a ≡ true → isAtom b ≡ true → sameValue (atomValue a) (atomValue b) ≡ sameAtom a b
-value-same a b p q =
-    same-truth (sameValue (atomValue a) (atomValue b)) (sameAtom a b)
-    (λ e. rw (value-injective a b p q (same-value-eq (atomValue a) (atomValue b) e)) (same-atom-refl b))
-    (λ e. rw (same-atom-eq a b e) (same-value-refl (atomValue b)))
+pub words-same : (a b : Atom) → isAtom a ≡ true → isAtom b ≡ true → typeOf a ≡ typeOf b → sameWords (atomWords a) (atomWords b) ≡ sameAtom a b
+words-same a b p q k =
+    same-truth (sameWords (atomWords a) (atomWords b)) (sameAtom a b)
+    (λ e. rw (words-injective a b p q k (same-words-eq (atomWords a) (atomWords b) e)) (same-atom-refl b))
+    (λ e. rw (same-atom-eq a b e) (same-words-refl (atomWords b)))

@@ -1,42 +1,18 @@
--- The numbers of sources, types, keys and truth values; 0 stands for none.
-use Prim.Native.Nat.{ℕ, suc}
-use mathlib.Core.Bool.{Bool, true, false, _&&_}
+-- What was read, as numbers: sources, types, keys, truth values and ints; 0 stands for none.
+use Prim.Native.Nat.{ℕ, zero}
+use mathlib.Core.Bool.{Bool, _&&_}
 use mathlib.Core.Option.{Option, none, some}
 use lib.ListN.{length}
 use lib.Dec.{leb}
 use Rattle.model.specs.Notation.{onlyIf, all}
 use Rattle.model.specs.Limits.{largestInt}
 use Rattle.model.specs.Bytes.{Bytes, inRange}
-use Rattle.model.specs.Attributes.{Source, user, object, admin, env, connect, AtomType, int, str, bool, readSource, readType}
-use Rattle.model.specs.Keys.{Key, rank, readKey}
+use Rattle.model.specs.Attributes.{readSource, readType}
+use Rattle.model.specs.Keys.{readKey}
 use Rattle.model.specs.Atoms.{readBool, numberFrom, noLeadingZero}
+use Rattle.codes.specs.Codes.{coded, sourceCode, typeCode, keyCode, boolCode}
 use Rattle.text.specs.declared.Int.{Int}
 use Rattle.text.specs.declared.Int.the-variants.{Number, Malformed}
-
--- the number of what was read
-abbrev pub coded : {A : Type 0} → (A → ℕ) → Option A → ℕ
-coded code none = 0
-coded code (some a) = code a
-
-abbrev pub sourceCode : Source → ℕ
-sourceCode user = 1
-sourceCode object = 2
-sourceCode admin = 3
-sourceCode env = 4
-sourceCode connect = 5
-
-abbrev pub typeCode : AtomType → ℕ
-typeCode int = 1
-typeCode str = 2
-typeCode bool = 3
-
-abbrev pub boolCode : Bool → ℕ
-boolCode false = 1
-boolCode true = 2
-
--- a key's place in their order, from 1
-abbrev pub keyCode : Key → ℕ
-keyCode k = suc (rank k)
 
 unfoldable pub sourceNumber : Bytes → ℕ
 sourceNumber s = coded sourceCode (readSource s)

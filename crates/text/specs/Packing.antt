@@ -7,6 +7,7 @@ use lib.Dec.{leb}
 use Rattle.model.specs.Bytes.{Bytes}
 use Rattle.model.specs.Block.{number}
 use Rattle.text.specs.declared.Packed.{Packed}
+use Rattle.text.specs.declared.Words.{Words}
 
 abbrev pub wordBytes : ℕ
 wordBytes = 8
@@ -22,6 +23,17 @@ packedOf s = record { low = number (take wordBytes s); high = number (take wordB
 
 abbrev pub wordsOf : Packed → List ℕ
 wordsOf p = p .low ∷ p .high ∷ []
+
+-- bytes in three words: the numbers of `packed 3`
+abbrev pub threeWords : Bytes → Words
+threeWords s = record {
+  first = number (take wordBytes s);
+  second = number (take wordBytes (drop wordBytes s));
+  third = number (take wordBytes (drop wordBytes (drop wordBytes s)));
+}
+
+abbrev pub listOf : Words → List ℕ
+listOf w = w .first ∷ w .second ∷ w .third ∷ []
 
 -- a byte that a text may hold: none is 0, so that words tell the text
 abbrev pub solid : ℕ → Bool

@@ -11,9 +11,28 @@ ghost use Rattle.model.specs.Block.{number};
 ghost use Rattle.model.specs.Gate.{hexDigit};
 ghost use Rattle.text.specs.Parts.{FirstAt, inClass, Quoted};
 ghost use Rattle.text.specs.Codes.{sourceNumber, typeNumber, keyNumber, boolNumber, isDecimal, limited, codedInt};
-ghost use Rattle.text.specs.Packing.{packedOf};
-ghost use Rattle.text.specs.Values.{codedAtom};
+ghost use Rattle.text.specs.Packing.{packedOf, threeWords};
+ghost use Rattle.text.specs.Values.{words, value, codedAtom};
 ghost use Rattle.text.specs.Hex.{digitCode, pairOf, pairCode, Unhexed};
+use codes::ADMIN;
+use codes::BOOL;
+use codes::CONNECT;
+use codes::ENV;
+use codes::INT;
+use codes::KEY_ATOM;
+use codes::KEY_ATTR;
+use codes::KEY_MEMBER;
+use codes::KEY_OBJECT;
+use codes::KEY_OGROUP;
+use codes::KEY_OP;
+use codes::KEY_PARENT;
+use codes::KEY_RULE;
+use codes::KEY_UGROUP;
+use codes::KEY_USER;
+use codes::KEY_VALUE;
+use codes::OBJECT;
+use codes::STR;
+use codes::USER;
 
 const NAME_BYTES: usize = 12;
 
@@ -28,17 +47,23 @@ pub enum Int {
     Malformed,
 }
 
-// Words of eight bytes, low byte first.
+// A name in words of eight bytes, low byte first.
 pub struct Packed {
     pub low: u64,
     pub high: u64,
 }
 
-// The number of a type, and the value in two words.
+// The words of an atom: an int's value, 0 or 1 for a truth value, or a str's bytes packed like a name's.
+pub struct Words {
+    pub first: u64,
+    pub second: u64,
+    pub third: u64,
+}
+
+// The number of a type, and the atom's words.
 pub struct Value {
     pub kind: u8,
-    pub low: u64,
-    pub high: u64,
+    pub words: Words,
 }
 
 // Whether all were pairs, and how many of them are written.
@@ -168,35 +193,35 @@ pub fn choose(s: &[u8], word: &[u8], n: u8, k: u8) -> u8
 pub fn source_of(s: &[u8]) -> u8
     ensures { λ r. ⌜ r ≡ sourceNumber (now (s .entry)) ⌝ }
 {
-    let k1 = choose(s, b"connect", 5, 0);
-    let k2 = choose(s, b"env", 4, k1);
-    let k3 = choose(s, b"admin", 3, k2);
-    let k4 = choose(s, b"object", 2, k3);
-    choose(s, b"user", 1, k4)
+    let k1 = choose(s, b"connect", CONNECT, 0);
+    let k2 = choose(s, b"env", ENV, k1);
+    let k3 = choose(s, b"admin", ADMIN, k2);
+    let k4 = choose(s, b"object", OBJECT, k3);
+    choose(s, b"user", USER, k4)
 }
 
 pub fn type_of(s: &[u8]) -> u8
     ensures { λ r. ⌜ r ≡ typeNumber (now (s .entry)) ⌝ }
 {
-    let k1 = choose(s, b"bool", 3, 0);
-    let k2 = choose(s, b"str", 2, k1);
-    choose(s, b"int", 1, k2)
+    let k1 = choose(s, b"bool", BOOL, 0);
+    let k2 = choose(s, b"str", STR, k1);
+    choose(s, b"int", INT, k2)
 }
 
 pub fn key_of(s: &[u8]) -> u8
     ensures { λ r. ⌜ r ≡ keyNumber (now (s .entry)) ⌝ }
 {
-    let k1 = choose(s, b"rule", 11, 0);
-    let k2 = choose(s, b"value", 10, k1);
-    let k3 = choose(s, b"member", 9, k2);
-    let k4 = choose(s, b"parent", 8, k3);
-    let k5 = choose(s, b"object", 7, k4);
-    let k6 = choose(s, b"user", 6, k5);
-    let k7 = choose(s, b"ogroup", 5, k6);
-    let k8 = choose(s, b"ugroup", 4, k7);
-    let k9 = choose(s, b"atom", 3, k8);
-    let k10 = choose(s, b"op", 2, k9);
-    choose(s, b"attr", 1, k10)
+    let k1 = choose(s, b"rule", KEY_RULE, 0);
+    let k2 = choose(s, b"value", KEY_VALUE, k1);
+    let k3 = choose(s, b"member", KEY_MEMBER, k2);
+    let k4 = choose(s, b"parent", KEY_PARENT, k3);
+    let k5 = choose(s, b"object", KEY_OBJECT, k4);
+    let k6 = choose(s, b"user", KEY_USER, k5);
+    let k7 = choose(s, b"ogroup", KEY_OGROUP, k6);
+    let k8 = choose(s, b"ugroup", KEY_UGROUP, k7);
+    let k9 = choose(s, b"atom", KEY_ATOM, k8);
+    let k10 = choose(s, b"op", KEY_OP, k9);
+    choose(s, b"attr", KEY_ATTR, k10)
 }
 
 // 1 for FALSE, 2 for TRUE.
@@ -302,39 +327,59 @@ pub fn pack(s: &[u8]) -> Packed
     }
 }
 
+pub fn words_of(s: &[u8]) -> Words
+    requires { ⌜ length (now s) ≤ 24 ⌝ }
+    ensures { λ r. ⌜ r ≡ threeWords (now (s .entry)) ⌝ }
+{
+    if s.len() <= 16 {
+        let p = pack(s);
+        return Words {
+            first: p.low,
+            second: p.high,
+            third: 0,
+        };
+    }
+    let q = pack(&s[..16]);
+    Words {
+        first: q.low,
+        second: q.high,
+        third: word_of(&s[16..]),
+    }
+}
+
+// An atom that one word keeps.
+fn single(kind: u8, word: u64) -> Value
+    ensures { λ r. ⌜ r ≡ value kind (words word 0 0) ⌝ }
+{
+    Value {
+        kind,
+        words: Words {
+            first: word,
+            second: 0,
+            third: 0,
+        },
+    }
+}
+
 pub fn atom_of(s: &[u8]) -> Value
     ensures { λ r. ⌜ r ≡ codedAtom (readAtom (now (s .entry))) ⌝ }
 {
     let i = int_of(s);
     if let Int::Number(n) = i {
-        return Value {
-            kind: 1,
-            low: n as u64,
-            high: 0,
-        };
+        return single(INT, n as u64);
     }
     if is_str(s) {
         let e = s.len() - 1;
-        let p = pack(&s[1..e]);
         return Value {
-            kind: 2,
-            low: p.low,
-            high: p.high,
+            kind: STR,
+            words: words_of(&s[1..e]),
         };
     }
     let b = bool_of(s);
     if b == 0 {
-        return Value {
-            kind: 0,
-            low: 0,
-            high: 0,
-        };
+        return single(0, 0);
     }
-    Value {
-        kind: 3,
-        low: wide(b - 1),
-        high: 0,
-    }
+    single(BOOL, wide(b - 1))
 }
 
 // The value of a digit of lower-case hex, 16 where it is none.

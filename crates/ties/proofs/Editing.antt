@@ -12,19 +12,19 @@ use lib.ListN.{getD, length, set, length-set}
 use lib.Seq.{getD-set-same, getD-set-other}
 use borrow.Author.Tests.{eq-eqb, eqb-true, ne-eqb}
 use Rattle.model.specs.Declarations.{Declarations, Sort, parentSort, groupSort}
-use Rattle.model.specs.Ties.{Tie, Ties, parent, member, value, added, removed, up}
+use Rattle.model.specs.Ties.{Tie, Ties, noTies, parent, member, value, added, removed, up}
 use Rattle.model.proofs.Words.{none-is-some}
 use Rattle.model.proofs.Options.{parts, both}
-use Rattle.model.proofs.Lists.{same-truth, true-or-false, or-cases, or-left, or-right}
+use Rattle.model.proofs.Lists.{same-truth, or-cases, or-left, or-right}
 use Rattle.model.specs.Standing.{Standing}
 use Rattle.bits.specs.Bits.{bit, holds, anyBelow}
 use Rattle.bits.specs.Bits
-use Rattle.bits.proofs.Bits.{same-test}
 use Rattle.bits.proofs.Sets.{member-stored, holds-member}
-use Rattle.bits.proofs.Counts.{any-ext, any-find, find-any}
+use Rattle.bits.proofs.Bits.{bit-none}
+use Rattle.bits.proofs.Counts.{any-ext, any-at, any-find, find-any}
 use Rattle.ties.specs.TieArrays.{inUse, tied, Distinct, KeepsTies}
 use Rattle.ties.specs.TieEdits.{LeadsUp, AddedUp, TakenUp, AddedValue, TakenValue, SlotGiven}
-use Rattle.ties.proofs.Masks.{eqb-flip}
+use Rattle.ties.proofs.Masks.{in-use-lt, eqb-flip}
 
 -- ---- tests
 
@@ -317,6 +317,19 @@ module _ (slots : List ℕ) (q v : ℕ) (within : q < length slots) (ups own : L
     used = still-used;
     distinct = still-distinct;
   }
+
+-- arrays of zeros keep no ties
+pub keeps-none : (ups own slots : List ℕ) → ((k : ℕ) → getD ups k 0 ≡ 0) → ((j : ℕ) → getD own j 0 ≡ 0) → ((q : ℕ) → getD slots q 0 ≡ 0) → KeepsTies ups own slots noTies
+unfolding tied holds Distinct
+keeps-none ups own slots no-ups no-own no-slots = record {
+  pairs = λ h p few l. ap (λ (w : ℕ). bit w (p % 64)) (no-own (4 * h + p / 64)) ∙ bit-none (p % 64);
+  groups = λ h g few. sym (any-at 64 (λ q. bit (getD ups h 0) q && eqb (getD slots q 0) g) (λ q l. ap (λ (b : Bool). b && eqb (getD slots q 0) g) (none h q)));
+  used = λ h q few l on. absurd (true≢false (sym on ∙ none h q));
+  distinct = λ q r l m u e. absurd (omega (arith, in-use-lt (length ups) slots q u, no-slots q));
+}
+  where
+    none : (h q : ℕ) → bit (getD ups h 0) q ≡ false
+    none h q = ap (λ (w : ℕ). bit w q) (no-ups h) ∙ bit-none q
 
 -- ---- what the functions do
 

@@ -1,15 +1,17 @@
 -- What arrays that keep ties say of them. Assumes nothing.
 use Prim.Native.Nat.{ℕ, _<_}
 use mathlib.Core.Path.{_≡_, refl, sym, _∙_}
-use mathlib.Core.Bool.{Bool, true, _&&_}
+use mathlib.Core.Bool.{true, _&&_}
 use mathlib.Core.List.{List}
 use lib.Dec.{eqb}
 use lib.ListN.{getD, length}
 use borrow.Author.Tests.{eq-eqb, eqb-true}
 use Rattle.model.specs.Ties.{Ties, up}
 use Rattle.model.proofs.Options.{parts, both}
+use Rattle.model.proofs.Lists.{same-truth}
+use Rattle.bits.specs.Bits.{bit, anyBelow}
 use Rattle.bits.proofs.Counts.{any-find, find-any}
-use Rattle.ties.specs.TieArrays.{inUse, tied, isGroup, KeepsTies}
+use Rattle.ties.specs.TieArrays.{inUse, tied, isGroup, groupOf, KeepsTies}
 
 -- a holder that is a group has a slot in use
 pub group-slot : (n : ℕ) (slots : List ℕ) (k : ℕ) → isGroup n slots k ≡ true → (q : ℕ) × (q < 64) × (inUse n slots q ≡ true) × (getD slots q 0 ≡ k)
@@ -23,6 +25,18 @@ pub slot-group : (n : ℕ) (slots : List ℕ) (q : ℕ) → q < 64 → inUse n s
 unfolding isGroup
 slot-group n slots q l u =
     find-any 64 (λ r. inUse n slots r && eqb (getD slots r 0) (getD slots q 0)) q l (both u (eq-eqb (getD slots q 0) (getD slots q 0) refl))
+
+-- a mask has the slots of a holder that is a group
+pub group-any : (n : ℕ) (slots : List ℕ) (m k : ℕ) → ((q : ℕ) → q < 64 → inUse n slots q ≡ true → getD slots q 0 ≡ k → bit m q ≡ true) → groupOf n slots m k ≡ isGroup n slots k
+unfolding groupOf isGroup
+group-any n slots m k on = same-truth (anyBelow 64 (λ q. bit m q && (inUse n slots q && eqb (getD slots q 0) k))) (anyBelow 64 (λ q. inUse n slots q && eqb (getD slots q 0) k))
+    (λ e.
+    let r = any-find 64 (λ q. bit m q && (inUse n slots q && eqb (getD slots q 0) k)) e in
+    find-any 64 (λ q. inUse n slots q && eqb (getD slots q 0) k) (r .0) (r .1) (parts (bit m (r .0)) (inUse n slots (r .0) && eqb (getD slots (r .0) 0) k) (r .2) .1))
+    (λ e.
+    let r = any-find 64 (λ q. inUse n slots q && eqb (getD slots q 0) k) e in
+    let s = parts (inUse n slots (r .0)) (eqb (getD slots (r .0) 0) k) (r .2) in
+    find-any 64 (λ q. bit m q && (inUse n slots q && eqb (getD slots q 0) k)) (r .0) (r .1) (both (on (r .0) (r .1) (s .0) (eqb-true (getD slots (r .0) 0) k (s .1))) (r .2)))
 
 module _ {ups own slots : List ℕ} {T : Ties} (kept : KeepsTies ups own slots T) where
   -- a tie up is a bit of the holder's mask

@@ -2,14 +2,13 @@
 -- pairs are four words, in `own`. The number of holders is that of the words of `ups`. Assumes nothing: these are definitions.
 use Prim.Native.Nat.{ℕ, _≤_, _<_}
 use mathlib.Core.Path.{_≡_}
-use mathlib.Core.Logic.{_⊎_}
-use mathlib.Core.Bool.{Bool, true, false, _&&_, _||_, not}
+use mathlib.Core.Bool.{Bool, true, _&&_, _||_}
 use mathlib.Core.List.{List}
 use lib.Dec.{eqb, ltb}
-use lib.ListN.{getD, length, set}
+use lib.ListN.{getD, length}
 use Rattle.model.specs.Limits.{groupLimit, pairLimit}
 use Rattle.model.specs.Declarations.{Declarations, isHolder, holderNumbersOf}
-use Rattle.model.specs.Ties.{Tie, Ties, parent, member, value, added, removed, up, closesCircle}
+use Rattle.model.specs.Ties.{Ties, value, up, closesCircle}
 use Rattle.model.specs.Standing.{Standing}
 use Rattle.bits.specs.Bits.{bit, holds, anyBelow}
 
@@ -28,6 +27,10 @@ meets a b = anyBelow groupLimit (λ q. bit a q && bit b q)
 -- holder k is the group of some slot
 unfoldable pub isGroup : ℕ → List ℕ → ℕ → Bool
 isGroup n slots k = anyBelow groupLimit (λ q. inUse n slots q && eqb (getD slots q 0) k)
+
+-- holder k is the group of some slot of the mask m
+unfoldable pub groupOf : ℕ → List ℕ → ℕ → ℕ → Bool
+groupOf n slots m k = anyBelow groupLimit (λ q. bit m q && (inUse n slots q && eqb (getD slots q 0) k))
 
 -- no two slots in use have one holder
 unfoldable pub Distinct : ℕ → List ℕ → Type 0

@@ -6,7 +6,7 @@ ghost use lib.Dec.{eqb, ltb};
 ghost use lib.ListN.{length, getD};
 ghost use Rattle.model.specs.Limits.{groupLimit, pairLimit};
 ghost use Rattle.bits.specs.Bits.{bit, member};
-ghost use Rattle.ties.specs.TieArrays.{inUse, meets, isGroup, under, Marks, ClosesCircle};
+ghost use Rattle.ties.specs.TieArrays.{inUse, meets, groupOf, under, Marks, ClosesCircle};
 ghost use Rattle.ties.specs.TieEdits.{AddedUp, TakenUp, AddedValue, TakenValue, SlotGiven};
 
 fn wide(s: u64) -> usize
@@ -63,13 +63,16 @@ fn drop_group(set: &mut [u64], slots: &[u64], q: usize, n: usize)
     }
 }
 
-// A set of holders without the groups.
-pub fn drop_groups(set: &mut [u64], slots: &[u64], n: usize)
+// A set of holders without the groups of the mask m.
+pub fn drop_groups(set: &mut [u64], slots: &[u64], m: u64, n: usize)
     requires { ⌜ (length (now slots) ≡ groupLimit) × (n ≤ 64 * length (now set)) ⌝ }
-    ensures { λ _. ⌜ ((k : ℕ) → member (now (set .exit)) k ≡ (member (now (set .entry)) k && not (isGroup n (now (slots .entry)) k))) ⌝ }
+    ensures { λ _. ⌜ ((k : ℕ) → member (now (set .exit)) k ≡ (member (now (set .entry)) k && not (groupOf n (now (slots .entry)) m k))) ⌝ }
 {
-    for q in 0..64usize {
+    let mut left = m;
+    while left != 0 {
+        let q = bits::lowest(left);
         drop_group(set, slots, q, n);
+        left = bits::without(left, q);
     }
 }
 
@@ -96,16 +99,19 @@ fn joins(ups: &[u64], slots: &[u64], m: u64, e: usize, q: usize) -> bool
     is_under(ups, m, e, k)
 }
 
-// The slots of such groups.
+// The mask m with the slots of such groups: those that are not in it yet are looked at.
 fn widened(ups: &[u64], slots: &[u64], m: u64, e: usize) -> u64
     requires { ⌜ length (now slots) ≡ groupLimit ⌝ }
-    ensures { λ r. ⌜ ((q : ℕ) → q < groupLimit → bit r q ≡ (inUse (length (now (ups .entry))) (now (slots .entry)) q && under (now (ups .entry)) m e (getD (now (slots .entry)) q 0))) ⌝ }
+    ensures { λ r. ⌜ ((q : ℕ) → q < groupLimit → bit r q ≡ (bit m q || inUse (length (now (ups .entry))) (now (slots .entry)) q && under (now (ups .entry)) m e (getD (now (slots .entry)) q 0))) ⌝ }
 {
-    let mut next: u64 = 0;
-    for q in 0..64usize {
+    let mut next = m;
+    let mut left = !m;
+    while left != 0 {
+        let q = bits::lowest(left);
         if joins(ups, slots, m, e, q) {
             next = bits::with(next, q);
         }
+        left = bits::without(left, q);
     }
     next
 }

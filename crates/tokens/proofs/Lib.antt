@@ -2,6 +2,11 @@ pub mod Runs
 pub mod Words
 pub mod Signs
 pub mod Fronts
-pub mod Codes
 pub mod Taken
-pub mod From
+pub mod Seen
+pub mod RuleCode
+pub mod SameCode
+pub mod Puts
+pub mod Wrote
+pub mod Passed
+pub mod Bound

@@ -30,6 +30,15 @@ lead-le p (x ∷ s) = go (p x) (lead-le p s)
     go true h = omega arith
     go false h = omega arith
 
+-- behind a run stands no byte of it
+pub lead-behind : (p : ℕ → Bool) (s : Bytes) → lead p (drop (lead p s) s) ≡ 0
+lead-behind p [] = refl
+lead-behind p (x ∷ s) = go (p x) refl (lead-behind p s)
+  where
+    go : (t : Bool) → p x ≡ t → lead p (drop (lead p s) s) ≡ 0 → lead p (drop (elim t as (λ _. ℕ) [ true ↦ suc (lead p s) | false ↦ 0 ]) (x ∷ s)) ≡ 0
+    go true e f = f
+    go false e f = ap (λ (b : Bool). elim b as (λ _. ℕ) [ true ↦ suc (lead p s) | false ↦ 0 ]) e
+
 -- a word and what stands behind it; what stands behind the spaces
 pub run-lead : (s : Bytes) → run s ≡ (take (lead wordByte s) s, drop (lead wordByte s) s)
 run-lead [] = refl

@@ -12,20 +12,18 @@ use Rattle.model.specs.Notation.{_>>=_, _or-else_, isEmpty, if_then_else_}
 use Rattle.model.specs.Bytes.{Bytes, bytes, behind}
 use Rattle.model.specs.Tokens.{Token, Read, wordByte, run, readWord, readText, readSign, signs, readToken, readAttributeName, operator, mark, unequal, atMost, atLeast, equal, less, greater, lparen, rparen, lbrace, rbrace, comma}
 use Rattle.model.specs.Atoms.{readInt}
-use Rattle.text.specs.declared.Value.{Value}
-use Rattle.text.specs.Values.{value}
+use Rattle.tokens.specs.declared.Code.{Code}
 use Rattle.tokens.specs.declared.Token.{Token as Placed}
-use Rattle.tokens.specs.Codes.{codeOf}
-use Rattle.tokens.specs.Reading.{placed, codedRead, tokenIn, wordToken}
+use Rattle.tokens.specs.Reading.{plainCode, codeOf, placed, codedRead, tokenIn, wordToken}
 
 module _ (n : ℕ) where
-  pub at-end : (s : Bytes) → length s < 1 → tokenIn n s ≡ placed (value 0 0 0) n
+  pub at-end : (s : Bytes) → length s < 1 → tokenIn n s ≡ placed (plainCode 0) n
   unfolding tokenIn
   at-end [] h = refl
   at-end (x ∷ s) h = absurd (omega arith)
 
   -- a sign of one byte
-  pub at-sign : (s : Bytes) (x : ℕ) (v : Value) → 1 ≤ length s → getD s 0 0 ≡ x → ((r : Bytes) → tokenIn n (x ∷ r) ≡ placed v (n - length r)) → tokenIn n s ≡ placed v (n - (length s - 1))
+  pub at-sign : (s : Bytes) (x : ℕ) (v : Code) → 1 ≤ length s → getD s 0 0 ≡ x → ((r : Bytes) → tokenIn n (x ∷ r) ≡ placed v (n - length r)) → tokenIn n s ≡ placed v (n - (length s - 1))
   at-sign [] x v h e f = absurd (omega arith)
   at-sign (y ∷ r) x v h e f =
       let m : length r ≡ suc (length r) - 1 = omega arith in

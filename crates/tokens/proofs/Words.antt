@@ -1,30 +1,30 @@
 -- Words as numbers: those in capitals, ints and names.
 use Prim.Native.Nat.{ℕ, _+_, _≤_, _<_}
 use mathlib.Core.Path.{_≡_, refl, sym, ap, _∙_}
-use mathlib.Core.Bool.{Bool, true, false}
+use mathlib.Core.Bool.{Bool, true, false, _&&_}
 use mathlib.Core.List.{List, [], _∷_}
 use mathlib.Core.Option.{Option, none, some, Option·some-injective}
 use native.Mathlib.Omega.{arith}
+use borrow.Author.Tests.{eqb-true}
 use lib.ListN.{length, take, drop}
+use lib.Dec.{eqb}
 use Rattle.model.specs.Notation.{_>>=_, _or-else_, onlyIf, all}
 use Rattle.model.specs.Bytes.{Bytes, oneOf, same}
 use Rattle.model.specs.Names.{isName, readName}
 use Rattle.model.specs.Attributes.{Source, readSource, user, object, admin, env, connect}
 use Rattle.model.specs.Atoms.{readInt}
-use Rattle.model.specs.Truth.{Truth}
-use Rattle.model.specs.Tokens.{Token, name, int, str, truth, operator, mark, Operator, Mark, spelling, capitals, readAttributeName, readWord}
+use Rattle.model.specs.Tokens.{Token, name, int, spelling, capitals, readAttributeName, readWord}
 use Rattle.model.proofs.Words.{none-is-some}
+use Rattle.model.proofs.Options.{parts}
 use Rattle.model.proofs.Lists.{all-parts}
 use Rattle.text.specs.declared.Int.{Int}
 use Rattle.text.specs.declared.Int.the-variants.{Number}
-use Rattle.text.specs.declared.Value.{Value}
 use Rattle.text.specs.Parts.{FirstAt}
-use Rattle.text.specs.Codes.{coded, sourceCode, sourceNumber, codedInt}
+use Rattle.codes.specs.Codes.{coded, kindOf, sourceCode}
+use Rattle.codes.proofs.TokenKinds.{kind-range}
+use Rattle.text.specs.Codes.{sourceNumber, codedInt}
 use Rattle.text.specs.Packing.{packedOf}
-use Rattle.text.specs.Values.{value, sameValue}
-use Rattle.text.proofs.Values.{same-value-eq}
-use Rattle.tokens.specs.Codes.{codeOf, kindOf, codedToken, operatorCode, markCode, truthCode}
-use Rattle.tokens.specs.Reading.{capitalKind}
+use Rattle.tokens.specs.Reading.{codeWith, plainCode, sourceIn, lowIn, highIn, codeOf, codedToken, capitalKind}
 
 -- what is read among the words of a table passes what all of the table pass
 pub one-of-all : {A : Type 0} (word : A → Bytes) (p : A → Bool) (table : List A) (s : Bytes) (a : A) → all p table ≡ true → oneOf word table s ≡ some a → p a ≡ true
@@ -35,46 +35,30 @@ one-of-all {A} word p (b ∷ rest) s a h e = let (i, j) = all-parts p b rest h i
     go true i f more = ap p (sym (Option·some-injective b a f)) ∙ i
     go false i f more = more f
 
--- kinds of tokens are above 1
-pub kind-above : (t : Token) → 2 ≤ kindOf t
-kind-above (name s n) = omega arith
-kind-above (int n) = omega arith
-kind-above (str s) = omega arith
-kind-above (truth Truth.FALSE) = omega arith
-kind-above (truth Truth.UNDEF) = omega arith
-kind-above (truth Truth.TRUE) = omega arith
-kind-above (operator Operator.equal) = omega arith
-kind-above (operator Operator.unequal) = omega arith
-kind-above (operator Operator.less) = omega arith
-kind-above (operator Operator.atMost) = omega arith
-kind-above (operator Operator.greater) = omega arith
-kind-above (operator Operator.atLeast) = omega arith
-kind-above (operator Operator.IN) = omega arith
-kind-above (operator Operator.SUBSET) = omega arith
-kind-above (mark Mark.AND) = omega arith
-kind-above (mark Mark.OR) = omega arith
-kind-above (mark Mark.NOT) = omega arith
-kind-above (mark Mark.lparen) = omega arith
-kind-above (mark Mark.rparen) = omega arith
-kind-above (mark Mark.lbrace) = omega arith
-kind-above (mark Mark.rbrace) = omega arith
-kind-above (mark Mark.comma) = omega arith
-
 -- a token that its kind tells
 abbrev plain : Token → Bool
-plain t = sameValue (codeOf t) (value (kindOf t) 0 0)
+plain t = eqb (sourceIn t) 0 && eqb (lowIn t) 0 && eqb (highIn t) 0
+
+plain-code : (t : Token) → plain t ≡ true → codeOf t ≡ plainCode (kindOf t)
+plain-code t e =
+    let (p, h) = parts _ _ e in
+    let (k, l) = parts _ _ p in
+    let a = eqb-true (sourceIn t) 0 k in
+    let b = eqb-true (lowIn t) 0 l in
+    let c = eqb-true (highIn t) 0 h in
+    λ i. codeWith (kindOf t) (a i) (b i) (c i)
 
 module _ (w : Bytes) where
-  pub capital : (k : ℕ) → k ≡ capitalKind w → (k ≡ 0 → ⊥) → codedToken (readWord w) ≡ value k 0 0
+  pub capital : (k : ℕ) → k ≡ capitalKind w → (k ≡ 0 → ⊥) → codedToken (readWord w) ≡ plainCode k
   unfolding capitalKind readWord
   capital k e n = go (oneOf spelling capitals w) refl e
     where
       rest : Option Token
       rest = (readInt w >>= λ n. some (int n)) or-else readAttributeName w
 
-      go : (o : Option Token) → oneOf spelling capitals w ≡ o → k ≡ coded kindOf o → codedToken (o or-else rest) ≡ value k 0 0
+      go : (o : Option Token) → oneOf spelling capitals w ≡ o → k ≡ coded kindOf o → codedToken (o or-else rest) ≡ plainCode k
       go none f g = absurd (n g)
-      go (some t) f g = same-value-eq (codeOf t) (value (kindOf t) 0 0) (one-of-all spelling plain capitals w t refl f) ∙ ap (λ (j : ℕ). value j 0 0) (sym g)
+      go (some t) f g = plain-code t (one-of-all spelling plain capitals w t refl f) ∙ ap (λ (j : ℕ). plainCode j) (sym g)
 
   pub no-capital : 0 ≡ capitalKind w → oneOf spelling capitals w ≡ none
   unfolding capitalKind
@@ -82,15 +66,15 @@ module _ (w : Bytes) where
     where
       go : (o : Option Token) → 0 ≡ coded kindOf o → o ≡ none
       go none g = refl
-      go (some t) g = absurd (omega (arith, kind-above t))
+      go (some t) g = absurd (omega (arith, kind-range t))
 
-  pub number : oneOf spelling capitals w ≡ none → (v : ℕ) → codedInt (readInt w) ≡ Number v → codedToken (readWord w) ≡ value 13 v 0
+  pub number : oneOf spelling capitals w ≡ none → (v : ℕ) → codedInt (readInt w) ≡ Number v → codedToken (readWord w) ≡ codeWith 1 0 v 0
   unfolding readWord
   number e v f = rw e (go (readInt w) f)
     where
-      go : (o : Option ℕ) → codedInt o ≡ Number v → codedToken ((o >>= λ n. some (int n)) or-else readAttributeName w) ≡ value 13 v 0
+      go : (o : Option ℕ) → codedInt o ≡ Number v → codedToken ((o >>= λ n. some (int n)) or-else readAttributeName w) ≡ codeWith 1 0 v 0
       go none g = let z : _≡_ {A = ℕ} 0 1 = cc in absurd (omega arith)
-      go (some m) g = let z : m ≡ v = cc in ap (λ (j : ℕ). value 13 j 0) z
+      go (some m) g = let z : m ≡ v = cc in ap (λ (j : ℕ). codeWith 1 0 j 0) z
 
   pub attribute : oneOf spelling capitals w ≡ none → readInt w ≡ none → codedToken (readWord w) ≡ codedToken (readAttributeName w)
   unfolding readWord
@@ -98,15 +82,15 @@ module _ (w : Bytes) where
 
 -- names of attributes, by the place of their dot
 module _ (w : Bytes) (d : ℕ) (first : FirstAt 46 w d) where
-  pub no-dot : length w ≤ d → codedToken (readAttributeName w) ≡ value 1 0 0
+  pub no-dot : length w ≤ d → codedToken (readAttributeName w) ≡ plainCode 24
   unfolding readAttributeName
   no-dot h = rw (first .absent h)
 
-  pub no-source : d < length w → 0 ≡ sourceNumber (take d w) → codedToken (readAttributeName w) ≡ value 1 0 0
+  pub no-source : d < length w → 0 ≡ sourceNumber (take d w) → codedToken (readAttributeName w) ≡ plainCode 24
   unfolding readAttributeName sourceNumber
   no-source h e = rw (first .found h) (go (readSource (take d w)) e)
     where
-      go : (o : Option Source) → 0 ≡ coded sourceCode o → codedToken (o >>= λ source. readName (drop (d + 1) w) >>= λ n. some (name source n)) ≡ value 1 0 0
+      go : (o : Option Source) → 0 ≡ coded sourceCode o → codedToken (o >>= λ source. readName (drop (d + 1) w) >>= λ n. some (name source n)) ≡ plainCode 24
       go none f = refl
       go (some user) f = absurd (omega arith)
       go (some object) f = absurd (omega arith)
@@ -114,33 +98,20 @@ module _ (w : Bytes) (d : ℕ) (first : FirstAt 46 w d) where
       go (some env) f = absurd (omega arith)
       go (some connect) f = absurd (omega arith)
 
-  pub no-name : d < length w → isName (drop (d + 1) w) ≡ false → codedToken (readAttributeName w) ≡ value 1 0 0
+  pub no-name : d < length w → isName (drop (d + 1) w) ≡ false → codedToken (readAttributeName w) ≡ plainCode 24
   unfolding readAttributeName
   no-name h e = rw (first .found h, e) (go (readSource (take d w)))
     where
-      go : (o : Option Source) → codedToken (o >>= λ source. none >>= λ n. some (name source n)) ≡ value 1 0 0
+      go : (o : Option Source) → codedToken (o >>= λ source. none >>= λ n. some (name source n)) ≡ plainCode 24
       go none = refl
       go (some s) = refl
 
   pub named : d < length w → (k : ℕ) → k ≡ sourceNumber (take d w) → (k ≡ 0 → ⊥) → isName (drop (d + 1) w) ≡ true
-      → codedToken (readAttributeName w) ≡ value (30 + k) (packedOf (drop (d + 1) w) .low) (packedOf (drop (d + 1) w) .high)
+      → codedToken (readAttributeName w) ≡ codeWith 4 k (packedOf (drop (d + 1) w) .low) (packedOf (drop (d + 1) w) .high)
   unfolding readAttributeName sourceNumber
   named h k e n f = rw (first .found h, f) (go (readSource (take d w)) e)
     where
       go : (o : Option Source) → k ≡ coded sourceCode o → codedToken (o >>= λ source. some (name source (drop (d + 1) w)))
-          ≡ value (30 + k) (packedOf (drop (d + 1) w) .low) (packedOf (drop (d + 1) w) .high)
+          ≡ codeWith 4 k (packedOf (drop (d + 1) w) .low) (packedOf (drop (d + 1) w) .high)
       go none g = absurd (n g)
-      go (some s) g = ap (λ (j : ℕ). value (30 + j) (packedOf (drop (d + 1) w) .low) (packedOf (drop (d + 1) w) .high)) (sym g)
-
--- a source's number is at most 5
-pub source-small : (s : Bytes) → sourceNumber s ≤ 5
-unfolding sourceNumber
-source-small s = go (readSource s)
-  where
-    go : (o : Option Source) → coded sourceCode o ≤ 5
-    go none = omega arith
-    go (some user) = omega arith
-    go (some object) = omega arith
-    go (some admin) = omega arith
-    go (some env) = omega arith
-    go (some connect) = omega arith
+      go (some s) g = ap (λ (j : ℕ). codeWith 4 j (packedOf (drop (d + 1) w) .low) (packedOf (drop (d + 1) w) .high)) (sym g)

@@ -1,2 +1,3 @@
-pub mod Codes
+pub mod RuleCode
 pub mod Reading
+pub mod Writing

@@ -1,32 +1,87 @@
-// The tokens of a policy: what stands at a place, as numbers.
+// The tokens of a policy, and their code.
 ghost use mathlib.Core.Path.{_≡_};
-ghost use Prim.Native.Nat.{_-_, _≤_};
+ghost use Prim.Native.Nat.{_+_, _-_, _*_, _%_, _≤_};
+ghost use mathlib.Core.Bool.{_||_};
+ghost use mathlib.Core.List.{[], _∷_};
 ghost use lib.ListN.{length, getD};
 ghost use lib.Dec.{eqb};
 ghost use Rattle.model.specs.Notation.{if_then_else_};
 ghost use Rattle.model.specs.Tokens.{wordByte, readWord, readAttributeName, readText};
-ghost use Rattle.text.specs.Values.{value};
-ghost use Rattle.tokens.specs.Codes.{codedToken};
-ghost use Rattle.tokens.specs.Reading.{placed, codedRead, inRun, lead, capitalKind, wordToken, tokenIn, tokenAt};
+ghost use Rattle.tokens.specs.Reading.{plainCode, codedToken, placed, codedRead, inRun, lead, capitalKind, wordToken, tokenIn, tokenAt};
+ghost use Rattle.tokens.specs.RuleCode.{lowBytes, Encodes};
+ghost use Rattle.tokens.specs.Writing.{upTo, Put, NamePut, Given, Wrote};
+use codes::AND;
+use codes::AT_LEAST;
+use codes::AT_MOST;
+use codes::BAD;
+use codes::COMMA;
+use codes::END;
+use codes::EQUAL;
+use codes::FALSE;
+use codes::GREATER;
+use codes::IN;
+use codes::INT;
+use codes::LBRACE;
+use codes::LESS;
+use codes::LPAREN;
+use codes::NAME;
+use codes::NOT;
+use codes::OR;
+use codes::RBRACE;
+use codes::RPAREN;
+use codes::STR;
+use codes::SUBSET;
+use codes::TRUE;
+use codes::UNDEF;
+use codes::UNEQUAL;
+use rows::ATTRIBUTES;
 
-// kind: 0 the end, 1 no token, 2 ( 3 ) 4 { 5 } 6 , 7 AND 8 OR 9 NOT 10 FALSE 11 UNDEF 12 TRUE, 13 an int whose value is low, 14 a
-// str, 16 = 17 IN 18 != 19 SUBSET 20 < 21 <= 22 > 23 >=, and 30 with its source's number a name. low and high pack a str's text and
-// a name. next is the place behind the token.
-pub struct Token {
-    pub kind: u8,
-    pub low: u64,
-    pub high: u64,
-    pub next: usize,
+// The number of no attribute.
+const UNKNOWN: u8 = 255;
+
+// Whether some byte is of no token, whether some name is undeclared, and how many bytes of code are written.
+pub struct Encoded {
+    pub bad: bool,
+    pub unknown: bool,
+    pub len: usize,
+}
+
+// What tells a token: its kind, the source and the packed bytes of a name; low is an int's value, or the length of a str's text.
+struct Code {
+    kind: u8,
+    source: u8,
+    low: u64,
+    high: u64,
+}
+
+// A token of a policy, and the place behind it.
+struct Token {
+    code: Code,
+    next: usize,
+}
+
+fn plain_code(kind: u8) -> Code
+    ensures { λ r. ⌜ r ≡ plainCode kind ⌝ }
+{
+    Code {
+        kind,
+        source: 0,
+        low: 0,
+        high: 0,
+    }
 }
 
 // A token that its kind tells.
 fn plain(kind: u8, next: usize) -> Token
-    ensures { λ r. ⌜ r ≡ placed (value kind 0 0) next ⌝ }
+    ensures { λ r. ⌜ r ≡ placed (plainCode kind) next ⌝ }
 {
     Token {
-        kind,
-        low: 0,
-        high: 0,
+        code: Code {
+            kind,
+            source: 0,
+            low: 0,
+            high: 0,
+        },
         next,
     }
 }
@@ -90,67 +145,55 @@ fn run_length(s: &[u8], class: u8) -> usize
 fn capital_of(w: &[u8]) -> u8
     ensures { λ r. ⌜ r ≡ capitalKind (now (w .entry)) ⌝ }
 {
-    let k1 = text::choose(w, b"SUBSET", 19, 0);
-    let k2 = text::choose(w, b"IN", 17, k1);
-    let k3 = text::choose(w, b"UNDEF", 11, k2);
-    let k4 = text::choose(w, b"FALSE", 10, k3);
-    let k5 = text::choose(w, b"TRUE", 12, k4);
-    let k6 = text::choose(w, b"NOT", 9, k5);
-    let k7 = text::choose(w, b"OR", 8, k6);
-    text::choose(w, b"AND", 7, k7)
-}
-
-fn bad() -> text::Value
-    ensures { λ r. ⌜ r ≡ value 1 0 0 ⌝ }
-{
-    text::Value {
-        kind: 1,
-        low: 0,
-        high: 0,
-    }
+    let k1 = text::choose(w, b"SUBSET", SUBSET, 0);
+    let k2 = text::choose(w, b"IN", IN, k1);
+    let k3 = text::choose(w, b"UNDEF", UNDEF, k2);
+    let k4 = text::choose(w, b"FALSE", FALSE, k3);
+    let k5 = text::choose(w, b"TRUE", TRUE, k4);
+    let k6 = text::choose(w, b"NOT", NOT, k5);
+    let k7 = text::choose(w, b"OR", OR, k6);
+    text::choose(w, b"AND", AND, k7)
 }
 
 // The name of an attribute, with its source.
-fn name_in(w: &[u8]) -> text::Value
+fn name_in(w: &[u8]) -> Code
     ensures { λ r. ⌜ r ≡ codedToken (readAttributeName (now (w .entry))) ⌝ }
 {
     let d = text::index_of(w, 46);
     if w.len() <= d {
-        return bad();
+        return plain_code(BAD);
     }
     let k = text::source_of(&w[..d]);
     if k == 0 {
-        return bad();
+        return plain_code(BAD);
     }
     let a = d + 1;
     let n = &w[a..];
     if !text::is_name(n) {
-        return bad();
+        return plain_code(BAD);
     }
     let p = text::pack(n);
-    text::Value {
-        kind: 30 + k,
+    Code {
+        kind: NAME,
+        source: k,
         low: p.low,
         high: p.high,
     }
 }
 
 // A word: one in capitals, an int or a name.
-fn word_in(w: &[u8]) -> text::Value
+fn word_in(w: &[u8]) -> Code
     ensures { λ r. ⌜ r ≡ codedToken (readWord (now (w .entry))) ⌝ }
 {
     let k = capital_of(w);
     if k != 0 {
-        return text::Value {
-            kind: k,
-            low: 0,
-            high: 0,
-        };
+        return plain_code(k);
     }
     let i = text::int_of(w);
     if let text::Int::Number(v) = i {
-        return text::Value {
-            kind: 13,
+        return Code {
+            kind: INT,
+            source: 0,
             low: v as u64,
             high: 0,
         };
@@ -165,13 +208,11 @@ fn word_token(s: &[u8], n: usize) -> Token
 {
     let e = run_length(s, 1);
     let v = word_in(&s[..e]);
-    if v.kind == 1 {
-        return plain(1, n);
+    if v.kind == BAD {
+        return plain(BAD, n);
     }
     Token {
-        kind: v.kind,
-        low: v.low,
-        high: v.high,
+        code: v,
         next: place(n, s.len(), e),
     }
 }
@@ -183,17 +224,18 @@ fn text_token(s: &[u8], n: usize) -> Token
 {
     let d = text::index_of(s, 34);
     if s.len() <= d {
-        return plain(1, n);
+        return plain(BAD, n);
     }
-    let t = &s[..d];
-    if !text::is_text(t) {
-        return plain(1, n);
+    if !text::is_text(&s[..d]) {
+        return plain(BAD, n);
     }
-    let p = text::pack(t);
     Token {
-        kind: 14,
-        low: p.low,
-        high: p.high,
+        code: Code {
+            kind: STR,
+            source: 0,
+            low: d as u64,
+            high: 0,
+        },
         next: place(n, s.len(), d + 1),
     }
 }
@@ -210,7 +252,7 @@ fn equals_next(s: &[u8]) -> bool
 
 // The first kind and place where t, else the second.
 fn either(t: bool, a: u8, x: usize, b: u8, y: usize) -> Token
-    ensures { λ r. ⌜ r ≡ (if t then placed (value a 0 0) x else placed (value b 0 0) y) ⌝ }
+    ensures { λ r. ⌜ r ≡ (if t then placed (plainCode a) x else placed (plainCode b) y) ⌝ }
 {
     if t { plain(a, x) } else { plain(b, y) }
 }
@@ -221,37 +263,176 @@ fn token_in(s: &[u8], n: usize) -> Token
     ensures { λ r. ⌜ r ≡ tokenIn n (now (s .entry)) ⌝ }
 {
     if s.len() < 1 {
-        return plain(0, n);
+        return plain(END, n);
     }
     let one = place(n, s.len(), 1);
     let two = place(n, s.len(), 2);
     let e = equals_next(s);
     let b = s[0];
     match b {
-        33 => either(e, 18, two, 1, n),
+        33 => either(e, UNEQUAL, two, BAD, n),
         34 => text_token(&s[1..], n),
-        40 => plain(2, one),
-        41 => plain(3, one),
-        44 => plain(6, one),
-        60 => either(e, 21, two, 20, one),
-        61 => plain(16, one),
-        62 => either(e, 23, two, 22, one),
-        123 => plain(4, one),
-        125 => plain(5, one),
+        40 => plain(LPAREN, one),
+        41 => plain(RPAREN, one),
+        44 => plain(COMMA, one),
+        60 => either(e, AT_MOST, two, LESS, one),
+        61 => plain(EQUAL, one),
+        62 => either(e, AT_LEAST, two, GREATER, one),
+        123 => plain(LBRACE, one),
+        125 => plain(RBRACE, one),
         _ => word_token(s, n),
     }
 }
 
 // The token from a place on: spaces are passed over.
-pub fn token_at(s: &[u8], at: usize) -> Token
+fn token_at(s: &[u8], at: usize) -> Token
     ensures { λ r. ⌜ r ≡ tokenAt (now (s .entry)) at ⌝ }
 {
     let n = s.len();
     if n <= at {
-        return plain(0, n);
+        return plain(END, n);
     }
     let t = &s[at..];
     let p = run_length(t, 0);
     let u = &t[p..];
     token_in(u, n)
+}
+
+// How far the code reaches now, and whether the token is an undeclared name.
+struct Written {
+    len: usize,
+    unknown: bool,
+}
+
+fn up_to(len: usize) -> Written
+    ensures { λ r. ⌜ r ≡ upTo len ⌝ }
+{
+    Written {
+        len,
+        unknown: false,
+    }
+}
+
+// A token that its kind tells.
+fn write_kind(kind: u8, code: &mut [u8], at: usize) -> Written
+    requires { ⌜ at + 1 ≤ length (now code) ⌝ }
+    ensures { λ r. ⌜ Put (now (code .entry)) at (kind ∷ []) (now (code .exit)) × (r ≡ upTo (at + 1)) ⌝ }
+{
+    code[at] = kind;
+    up_to(at + 1)
+}
+
+fn low_byte(n: u64) -> u8
+    ensures { λ r. ⌜ r ≡ n % 256 ⌝ }
+{
+    (n % 256) as u8
+}
+
+fn write_int(n: u64, code: &mut [u8], at: usize) -> Written
+    requires { ⌜ at + 5 ≤ length (now code) ⌝ }
+    ensures { λ r. ⌜ Put (now (code .entry)) at (1 ∷ lowBytes 4 n) (now (code .exit)) × (r ≡ upTo (at + 5)) ⌝ }
+{
+    let n1 = n / 256;
+    let n2 = n1 / 256;
+    code[at] = INT;
+    code[at + 1] = low_byte(n);
+    code[at + 2] = low_byte(n1);
+    code[at + 3] = low_byte(n2);
+    code[at + 4] = low_byte(n2 / 256);
+    up_to(at + 5)
+}
+
+fn copy(s: &[u8], code: &mut [u8], at: usize)
+    requires { ⌜ at + length (now s) ≤ length (now code) ⌝ }
+    ensures { λ r. ⌜ Put (now (code .entry)) at (now (s .entry)) (now (code .exit)) ⌝ }
+{
+    let mut i = 0;
+    while i < s.len() {
+        code[at + i] = s[i];
+        i += 1;
+    }
+}
+
+fn write_text(s: &[u8], code: &mut [u8], at: usize) -> Written
+    requires { ⌜ (at + (length (now s) + 2) ≤ length (now code)) × (length (now s) ≤ 255) ⌝ }
+    ensures { λ r. ⌜ Put (now (code .entry)) at (2 ∷ length (now (s .entry)) ∷ now (s .entry)) (now (code .exit)) × (r ≡ upTo (at + (length (now (s .entry)) + 2))) ⌝ }
+{
+    code[at] = STR;
+    code[at + 1] = s.len() as u8;
+    copy(s, code, at + 2);
+    up_to(at + (s.len() + 2))
+}
+
+// A name, by the number of its attribute.
+fn write_name(attributes: &[u64], name: Code, code: &mut [u8], at: usize) -> Written
+    requires { ⌜ (length (now attributes) ≡ 256) × (at + 2 ≤ length (now code)) ⌝ }
+    ensures { λ r. ⌜ NamePut (now (attributes .entry)) name (now (code .entry)) at (now (code .exit)) r ⌝ }
+{
+    let k = rows::attribute_number(attributes, name.source, name.low, name.high);
+    code[at] = NAME;
+    if k < ATTRIBUTES {
+        code[at + 1] = k as u8;
+        return up_to(at + 2);
+    }
+    code[at + 1] = UNKNOWN;
+    Written {
+        len: at + 2,
+        unknown: true,
+    }
+}
+
+// The code of a token of s; none for the end.
+fn write(s: &[u8], attributes: &[u64], t: Token, code: &mut [u8], at: usize) -> Written
+    requires { ⌜ (length (now attributes) ≡ 256) × Given (now s) t at (length (now code)) ⌝ }
+    ensures { λ r. ⌜ Wrote (now (s .entry)) (now (attributes .entry)) t (now (code .entry)) at (now (code .exit)) r ⌝ }
+{
+    let kind = t.code.kind;
+    match kind {
+        END => up_to(at),
+        INT => write_int(t.code.low, code, at),
+        STR => {
+            let e = t.next - 1;
+            let a = e - t.code.low as usize;
+            write_text(&s[a..e], code, at)
+        }
+        NAME => write_name(attributes, t.code, code, at),
+        _ => write_kind(kind, code, at),
+    }
+}
+
+fn either_of(a: bool, b: bool) -> bool
+    ensures { λ r. ⌜ r ≡ (a || b) ⌝ }
+{
+    if a { true } else { b }
+}
+
+// The code of a policy's tokens, and the byte that ends it, in one pass over the policy's bytes.
+pub fn encode(s: &[u8], attributes: &[u64], code: &mut [u8]) -> Encoded
+    requires { ⌜ (length (now attributes) ≡ 256) × (3 * length (now s) + 3 ≤ length (now code)) ⌝ }
+    ensures { λ r. ⌜ Encodes (now (s .entry)) (now (attributes .entry)) (now (code .entry)) (now (code .exit)) r ⌝ }
+{
+    let mut at = 0;
+    let mut len = 0;
+    let mut unknown = false;
+    while at < s.len() {
+        let t = token_at(s, at);
+        if t.code.kind == BAD {
+            return Encoded {
+                bad: true,
+                unknown,
+                len,
+            };
+        }
+        let next = t.next;
+        let w = write(s, attributes, t, code, len);
+        unknown = either_of(unknown, w.unknown);
+        len = w.len;
+        at = next;
+    }
+    code[len] = END;
+    Encoded {
+        bad: false,
+        unknown,
+        len: len + 1,
+    }
 }

@@ -1,69 +1,129 @@
--- Values are compared by their numbers: they are equal, and so ordered, exactly when their atoms are. Assumes nothing.
-use Prim.Native.Nat.{ℕ}
+-- Values are compared by their words: they are equal, and so ordered, exactly when their atoms are. Assumes nothing.
+use Prim.Native.Nat.{ℕ, _≤_}
 use mathlib.Core.Path.{_≡_, refl, sym, ap, ap₂, _∙_}
-use mathlib.Core.Bool.{Bool, true, false, _&&_}
+use mathlib.Core.Bool.{Bool, true, false, not, Bool·beq}
 use mathlib.Core.List.{List, [], _∷_, List·Memᴰ·head as here, List·Memᴰ·tail as there}
 use native.Mathlib.Omega.{arith}
 use lib.Dec.{eqb}
-use borrow.Author.Tests.{eq-eqb}
+use borrow.Author.Tests.{leb-true}
 use Rattle.model.specs.Notation.{any, all, map}
-use Rattle.model.specs.Atoms.{Atom, int, str, bool, isAtom, sameAtom}
+use Rattle.model.specs.Limits.{largestInt}
+use Rattle.model.specs.Atoms.{Atom, int, str, bool, typeOf, isAtom, sameAtom}
+use Rattle.model.specs.Comparison as model
 use Rattle.model.specs.Comparison.{ordered}
-use Rattle.model.proofs.Lists.{_∈_, any-ext, all-parts}
-use Rattle.text.specs.Values.{atomValue}
-use Rattle.text.proofs.Values.{value-same}
-use Rattle.values.specs.Operands.{related, amongValues, someRelated, eachAmong}
+use Rattle.model.proofs.Lists.{_∈_, any-ext, any-in, in-any, all-parts, same-truth}
+use Rattle.codes.specs.Codes.{typeCode}
+use Rattle.codes.proofs.Codes.{type-injective}
+use Rattle.text.specs.declared.Words.{Words}
+use Rattle.text.specs.Values.{atomWords, sameWords}
+use Rattle.text.proofs.Values.{words-same}
+use Rattle.values.specs.Compared.{amongValues, someFound}
+use Rattle.values.proofs.Orders.{someBefore}
 
 -- lists
 pub any-map : {A B : Type 0} (p : B → Bool) (f : A → B) (l : List A) → any p (map f l) ≡ any (λ x. p (f x)) l
 any-map p f [] = refl
 any-map p f (x ∷ l) = ap (λ (b : Bool). elim (p (f x)) as (λ _. Bool) [ true ↦ true | false ↦ b ]) (any-map p f l)
 
-pub all-map : {A B : Type 0} (p : B → Bool) (f : A → B) (l : List A) → all p (map f l) ≡ all (λ x. p (f x)) l
-all-map p f [] = refl
-all-map p f (x ∷ l) = ap (λ (b : Bool). elim (p (f x)) as (λ _. Bool) [ true ↦ b | false ↦ false ]) (all-map p f l)
-
-all-ext : {A : Type 0} (p q : A → Bool) (l : List A) → ((x : A) → x ∈ l → p x ≡ q x) → all p l ≡ all q l
-all-ext p q [] f = refl
-all-ext p q (x ∷ l) f =
-    ap₂ (λ (a b : Bool). elim a as (λ _. Bool) [ true ↦ b | false ↦ false ]) (f x (here refl)) (all-ext p q l (λ y m. f y (there m)))
-
 pub all-in : {A : Type 0} (p : A → Bool) {l : List A} {x : A} → all p l ≡ true → x ∈ l → p x ≡ true
 all-in p e (here {x = y} {xs = l} q) = ap p q ∙ all-parts p y l e .0
 all-in p e (there {x = y} {xs = l} m) = all-in p (all-parts p y l e .1) m
 
--- numbers of one type are equal exactly when their atoms are the same
-pub same-numbers : (a b : Atom) → isAtom a ≡ true → isAtom b ≡ true → atomValue a .kind ≡ atomValue b .kind
-    → (eqb (atomValue a .low) (atomValue b .low) && eqb (atomValue a .high) (atomValue b .high)) ≡ sameAtom a b
-same-numbers a b p q e =
-    sym (ap (λ (t : Bool). t && eqb (atomValue a .low) (atomValue b .low) && eqb (atomValue a .high) (atomValue b .high))
-    (eq-eqb (atomValue a .kind) (atomValue b .kind) e))
-    ∙ value-same a b p q
+-- each passes exactly if none fails
+none-fails : {A : Type 0} (p : A → Bool) (l : List A) → not (any (λ x. Bool·beq (p x) false) l) ≡ all p l
+none-fails p [] = refl
+none-fails p (x ∷ l) = go (p x) (none-fails p l)
+  where
+    go : (t : Bool) → not (any (λ y. Bool·beq (p y) false) l) ≡ all p l → not (elim (Bool·beq t false) as (λ _. Bool) [ true ↦ true | false ↦ any (λ y. Bool·beq (p y) false) l ])
+        ≡ elim t as (λ _. Bool) [ true ↦ all p l | false ↦ false ]
+    go true e = e
+    go false e = refl
+
+beq-true : (b : Bool) → Bool·beq b true ≡ b
+beq-true true = refl
+beq-true false = refl
+
+-- an int is at most the largest
+pub int-small : (a : Atom) → isAtom a ≡ true → typeCode (typeOf a) ≡ 1 → atomWords a .first ≤ largestInt
+int-small (int n) e k = leb-true n largestInt e
+int-small (str s) e k = absurd (omega arith)
+int-small (bool b) e k = absurd (omega arith)
 
 -- integers are ordered as their numbers are
-pub ordered-numbers : (before : ℕ → ℕ → Bool) (a b : Atom) → atomValue a .kind ≡ 1 → atomValue b .kind ≡ 1
-    → before (atomValue a .low) (atomValue b .low) ≡ ordered before a b
+ordered-numbers : (before : ℕ → ℕ → Bool) (a b : Atom) → typeCode (typeOf a) ≡ 1 → typeCode (typeOf b) ≡ 1
+    → before (atomWords a .first) (atomWords b .first) ≡ ordered before a b
 ordered-numbers before (int m) (int n) p q = refl
 ordered-numbers before (int m) (str t) p q = absurd (omega arith)
 ordered-numbers before (int m) (bool b) p q = absurd (omega arith)
 ordered-numbers before (str s) b p q = absurd (omega arith)
 ordered-numbers before (bool a) b p q = absurd (omega arith)
 
--- what is so of each two atoms of two lists is so of the lists
-module _ (n : ℕ) (rel : Atom → Atom → Bool) (left right : List Atom)
-    (so : (a b : Atom) → a ∈ left → b ∈ right → related n (atomValue a .low) (atomValue a .high) (atomValue b .low) (atomValue b .high) ≡ rel a b) where
-  among-atoms : (a : Atom) → a ∈ left → amongValues n (atomValue a .low) (atomValue a .high) (map atomValue right) ≡ any (rel a) right
-  among-atoms a m =
-      any-map (λ v. related n (atomValue a .low) (atomValue a .high) (v .low) (v .high)) atomValue right
-      ∙ any-ext (λ b. related n (atomValue a .low) (atomValue a .high) (atomValue b .low) (atomValue b .high)) (rel a) right (λ b k. so a b m k)
+-- atoms of one type, well formed
+pub record Typed (k : ℕ) (l : List Atom) : Type 0 where
+  pub kinds : (a : Atom) → a ∈ l → typeCode (typeOf a) ≡ k
+  pub written : (a : Atom) → a ∈ l → isAtom a ≡ true
 
-  pub some-atoms : someRelated n (map atomValue left) (map atomValue right) ≡ any (λ a. any (rel a) right) left
-  some-atoms =
-      any-map (λ v. amongValues n (v .low) (v .high) (map atomValue right)) atomValue left
-      ∙ any-ext (λ a. amongValues n (atomValue a .low) (atomValue a .high) (map atomValue right)) (λ a. any (rel a) right) left among-atoms
+-- a value is among others where its atom is
+pub among-atoms : (k : ℕ) (a : Atom) (m : List Atom) → isAtom a ≡ true → typeCode (typeOf a) ≡ k → Typed k m
+    → amongValues (map atomWords m) (atomWords a) ≡ model.among m a
+among-atoms k a m w t tm =
+    any-map (sameWords (atomWords a)) atomWords m
+    ∙ any-ext (λ b. sameWords (atomWords a) (atomWords b)) (sameAtom a) m
+    (λ b q. words-same a b w (tm .written b q) (type-injective (typeOf a) (typeOf b) (t ∙ sym (tm .kinds b q))))
 
-  pub each-atoms : n ≡ 16 → eachAmong (map atomValue left) (map atomValue right) ≡ all (λ a. any (rel a) right) left
-  each-atoms e =
-      all-map (λ v. amongValues 16 (v .low) (v .high) (map atomValue right)) atomValue left
-      ∙ all-ext (λ a. amongValues 16 (atomValue a .low) (atomValue a .high) (map atomValue right)) (λ a. any (rel a) right) left
-      (λ a m. ap (λ (k : ℕ). amongValues k (atomValue a .low) (atomValue a .high) (map atomValue right)) (sym e) ∙ among-atoms a m)
+module _ (k : ℕ) (l m : List Atom) (tl : Typed k l) (tm : Typed k m) where
+  found-atoms : (wanted : Bool) → someFound wanted (map atomWords l) (map atomWords m) ≡ any (λ a. Bool·beq (model.among m a) wanted) l
+  unfolding someFound
+  found-atoms wanted =
+      any-map (λ w. Bool·beq (amongValues (map atomWords m) w) wanted) atomWords l
+      ∙ any-ext (λ a. Bool·beq (amongValues (map atomWords m) (atomWords a)) wanted) (λ a. Bool·beq (model.among m a) wanted) l
+      (λ a p. ap (λ (b : Bool). Bool·beq b wanted) (among-atoms k a m (tl .written a p) (tl .kinds a p) tm))
+
+  pub common-atoms : someFound true (map atomWords l) (map atomWords m) ≡ model.common l m
+  common-atoms = found-atoms true ∙ any-ext (λ a. Bool·beq (model.among m a) true) (model.among m) l (λ a p. beq-true (model.among m a))
+
+  pub subset-atoms : not (someFound false (map atomWords l) (map atomWords m)) ≡ model.subset l m
+  subset-atoms = ap not (found-atoms false) ∙ none-fails (model.among m) l
+
+-- some are so ordered, seen from either side
+pub before-atoms : (before : ℕ → ℕ → Bool) (l m : List Atom) → Typed 1 l → Typed 1 m
+    → someBefore before (map atomWords l) (map atomWords m) ≡ any (λ a. any (ordered before a) m) l
+before-atoms before l m tl tm =
+    any-map (λ v. any (λ w. before (v .first) (w .first)) (map atomWords m)) atomWords l
+    ∙ any-ext (λ a. any (λ w. before (atomWords a .first) (w .first)) (map atomWords m)) (λ a. any (ordered before a) m) l
+    (λ a p.
+    any-map (λ w. before (atomWords a .first) (w .first)) atomWords m
+    ∙ any-ext (λ b. before (atomWords a .first) (atomWords b .first)) (ordered before a) m (λ b q. ordered-numbers before a b (tl .kinds a p) (tm .kinds b q)))
+
+pub turned : {A : Type 0} (f : A → A → Bool) (l m : List A) → any (λ a. any (f a) m) l ≡ any (λ b. any (λ a. f a b) l) m
+turned f l m = same-truth (any (λ a. any (f a) m) l) (any (λ b. any (λ a. f a b) l) m) there-so back
+  where
+    there-so : any (λ a. any (f a) m) l ≡ true → any (λ b. any (λ a. f a b) l) m ≡ true
+    there-so e =
+        let (a, p, d) = any-in (λ a. any (f a) m) l e in
+        let (b, q, t) = any-in (f a) m d in
+        in-any (λ b. any (λ a. f a b) l) q (in-any (λ a. f a b) p t)
+
+    back : any (λ b. any (λ a. f a b) l) m ≡ true → any (λ a. any (f a) m) l ≡ true
+    back e =
+        let (b, q, d) = any-in (λ b. any (λ a. f a b) l) m e in
+        let (a, p, t) = any-in (λ a. f a b) l d in
+        in-any (λ a. any (f a) m) p (in-any (f a) q t)
+
+-- an order the other way round
+ordered-turned : (before : ℕ → ℕ → Bool) (a b : Atom) → ordered (λ x y. before y x) a b ≡ ordered before b a
+ordered-turned before (int m) (int n) = refl
+ordered-turned before (int m) (str t) = refl
+ordered-turned before (int m) (bool b) = refl
+ordered-turned before (str s) (int n) = refl
+ordered-turned before (str s) (str t) = refl
+ordered-turned before (str s) (bool b) = refl
+ordered-turned before (bool a) (int n) = refl
+ordered-turned before (bool a) (str t) = refl
+ordered-turned before (bool a) (bool b) = refl
+
+pub after-atoms : (before : ℕ → ℕ → Bool) (l m : List Atom) → any (λ b. any (ordered before b) l) m ≡ any (λ a. any (ordered (λ x y. before y x) a) m) l
+after-atoms before l m =
+    turned (ordered before) m l
+    ∙ any-ext (λ a. any (λ b. ordered before b a) m) (λ a. any (ordered (λ x y. before y x) a) m) l
+    (λ a p. any-ext (λ b. ordered before b a) (ordered (λ x y. before y x) a) m (λ b q. sym (ordered-turned before a b)))

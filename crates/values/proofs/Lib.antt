@@ -1,4 +1,10 @@
+pub mod Chosen
 pub mod Places
+pub mod Constants
+pub mod Walks
+pub mod Attributes
+pub mod Orders
 pub mod Atoms
 pub mod Compared
-pub mod Kept
+pub mod Stands
+pub mod RuleConstants

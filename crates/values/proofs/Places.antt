@@ -1,79 +1,116 @@
--- What a walk over the positions of an operand finds. Assumes nothing.
-use Prim.Native.Nat.{ℕ, suc, _+_, _<_}
-use native.Mathlib.Numerals.{add-one}
-use mathlib.Core.Path.{_≡_, refl, sym, ap, _∙_}
-use mathlib.Core.Bool.{Bool, true, false, not, _&&_}
-use mathlib.Core.List.{List, [], _∷_, _++_}
-use Rattle.model.specs.Notation.{any, all, filter, map, below, isEmpty}
-use Rattle.model.proofs.Lists.{in-any, below-in}
+-- The values of an attribute, in the session's words and in the entries. Assumes nothing.
+use Prim.Native.Nat.{ℕ, suc, _+_, _-_, _*_, _/_, _≤_, _<_}
+use native.Mathlib.Omega.{arith}
+use mathlib.Core.Path.{_≡_, refl, sym, ap, ap₂, subst, _∙_}
+use mathlib.Core.Bool.{Bool, true, false}
+use mathlib.Core.List.{List, [], _∷_}
+use lib.Dec.{eqb}
+use lib.ListN.{length, getD, take, drop, length-take, length-drop}
+use lib.Seq.{drop-cons}
+use borrow.Author.Tests.{eq-eqb, ne-eqb, lt-ltb, le-ltb}
+use Rattle.model.specs.Notation.{if_then_else_}
+use Rattle.model.specs.Bytes.{Bytes}
+use Rattle.model.specs.Block.{number, byteAt, valueAt}
+use Rattle.bits.specs.Bits.{holds, member}
+use Rattle.bits.specs.Lowest.{FirstFrom}
+use Rattle.bits.proofs.Sets.{member-part}
+use Rattle.text.specs.declared.Words.{Words}
+use Rattle.text.specs.Values.{words, truthBit}
+use Rattle.values.specs.declared.Found.{Found}
 use Rattle.values.specs.declared.Operand.{Operand}
-use Rattle.text.specs.declared.Value.{Value}
-use Rattle.values.specs.Operands.{placeAt, valueIn, positionsOf, valuesBelow, valuesOf, amongValues, eachAmong}
+use Rattle.values.specs.Operands.{Lent, constantsFrom, valuesFrom, chosen, First, Finds, found, nothing, pairWords, wordsFrom, entryWords, entriesFrom}
+use Rattle.values.proofs.Chosen.{finds-none, finds-by, finds-next, finds-end}
 
--- what passes among the values at chosen positions is what is chosen and passes
-pub any-chosen : {A : Type 0} (p : A → Bool) (f : ℕ → A) (g : ℕ → Bool) (l : List ℕ) → any p (map f (filter g l)) ≡ any (λ i. g i && p (f i)) l
-any-chosen p f g [] = refl
-any-chosen {A} p f g (i ∷ l) = go (g i) (any-chosen p f g l)
-  where
-    go : (t : Bool) → any p (map f (filter g l)) ≡ any (λ j. g j && p (f j)) l
-        → any p (map f (elim t as (λ _. List ℕ) [ true ↦ i ∷ filter g l | false ↦ filter g l ]))
-        ≡ elim (t && p (f i)) as (λ _. Bool) [ true ↦ true | false ↦ any (λ j. g j && p (f j)) l ]
-    go true e = ap (λ (b : Bool). elim (p (f i)) as (λ _. Bool) [ true ↦ true | false ↦ b ]) e
-    go false e = e
+-- four bytes, low byte first
+pub value-four : (s : Bytes) (at : ℕ) → at + 4 ≤ length s
+    → valueAt s at ≡ getD s at 0 + 256 * (getD s (at + 1) 0 + 256 * (getD s (at + 2) 0 + 256 * getD s (at + 3) 0))
+value-four s at h =
+    let a : suc at ≡ at + 1 = omega arith in
+    let b : suc (suc at) ≡ at + 2 = omega arith in
+    let c : suc (suc (suc at)) ≡ at + 3 = omega arith in
+    let bytes : drop at s ≡ getD s at 0 ∷ getD s (suc at) 0 ∷ getD s (suc (suc at)) 0 ∷ getD s (suc (suc (suc at))) 0 ∷ drop (suc (suc (suc (suc at)))) s =
+    drop-cons s at 0 (omega arith)
+    ∙ ap (λ (l : Bytes). getD s at 0 ∷ l) (drop-cons s (suc at) 0 (omega arith)
+    ∙ ap (λ (l : Bytes). getD s (suc at) 0 ∷ l) (drop-cons s (suc (suc at)) 0 (omega arith)
+    ∙ ap (λ (l : Bytes). getD s (suc (suc at)) 0 ∷ l) (drop-cons s (suc (suc (suc at))) 0 (omega arith)))) in
+    let sum : valueAt s at ≡ getD s at 0 + 256 * (getD s (suc at) 0 + 256 * (getD s (suc (suc at)) 0 + 256 * (getD s (suc (suc (suc at))) 0 + 256 * 0))) =
+    ap (λ (l : Bytes). number (take 4 l)) bytes in
+    omega (arith, ap (λ (k : ℕ). getD s k 0) a, ap (λ (k : ℕ). getD s k 0) b, ap (λ (k : ℕ). getD s k 0) c)
 
-any-last : (q : ℕ → Bool) (l : List ℕ) (n : ℕ) → any q l ≡ false → q n ≡ false → any q (l ++ n ∷ []) ≡ false
-any-last q [] n e f = rw f
-any-last q (i ∷ l) n e f = go (q i) e (any-last q l n)
-  where
-    go : (t : Bool) → (elim t as (λ _. Bool) [ true ↦ true | false ↦ any q l ]) ≡ false
-        → (any q l ≡ false → q n ≡ false → any q (l ++ n ∷ []) ≡ false)
-        → (elim t as (λ _. Bool) [ true ↦ true | false ↦ any q (l ++ n ∷ []) ]) ≡ false
-    go true e more = e
-    go false e more = more e f
+-- ---- the session's words
 
--- each passes where none fails, and a list is empty where nothing is in it
-all-any : {A : Type 0} (p : A → Bool) (l : List A) → all p l ≡ not (any (λ v. not (p v)) l)
-all-any p [] = refl
-all-any p (v ∷ l) = go (p v) (all-any p l)
-  where
-    go : (t : Bool) → all p l ≡ not (any (λ w. not (p w)) l)
-        → (elim t as (λ _. Bool) [ true ↦ all p l | false ↦ false ]) ≡ not (elim (not t) as (λ _. Bool) [ true ↦ true | false ↦ any (λ w. not (p w)) l ])
-    go true e = e
-    go false e = refl
+module _ (pairs session : List ℕ) (k i : ℕ) where
+  words-so : k < 32 → (j : ℕ) → wordsFrom pairs session k j ≡ chosen (holds session k) (pairWords pairs) 256 j
+  unfolding wordsFrom
+  words-so h j = rw (lt-ltb k 32 h)
 
-pub empty-any : {A : Type 0} (l : List A) → isEmpty l ≡ not (any (λ _. true) l)
-empty-any [] = refl
-empty-any (v ∷ l) = refl
+  pub no-words : (r : Found) → r ≡ nothing → 32 ≤ k → Finds (wordsFrom pairs session k) i r
+  unfolding wordsFrom
+  no-words r e h = subst (Finds (wordsFrom pairs session k) i) (sym e) (finds-none (wordsFrom pairs session k) i (rw (le-ltb k 32 h)))
 
-module _ (rows table : List ℕ) (o : Operand) (p : Value → Bool) where
-  passes : ℕ → Bool
-  passes i = placeAt rows table o i .here && p (valueIn (o .kind) (placeAt rows table o i))
+  module _ (h : k < 32) (long : length session ≡ 128) (p : ℕ) (first : FirstFrom (take (4 * k + 4 - 4 * k) (drop (4 * k) session)) i p) where
+    four-long : length (take (4 * k + 4 - 4 * k) (drop (4 * k) session)) ≡ 4
+    four-long = simp (length-take, length-drop) (omega arith)
 
-  chosen : (n : ℕ) → any p (valuesBelow rows table o n) ≡ any passes (below n)
-  unfolding valuesBelow passes
-  chosen n = any-chosen p (λ i. valueIn (o .kind) (placeAt rows table o i)) (λ i. placeAt rows table o i .here) (below n)
+    part-first : First (holds session k) 256 i p
+    part-first =
+        record {
+          lower = λ j a b l. sym (member-part session k j l) ∙ first .lower j a b;
+          held = λ l.
+              let (a, b) = first .held (omega (arith, four-long)) in
+              (a, sym (member-part session k p l) ∙ b);
+        }
 
-  -- nothing passes at the positions below 0; nor below n + 1, if nothing does below n and at n
-  pub none-yet : any p (valuesBelow rows table o 0) ≡ false
-  unfolding valuesBelow
-  none-yet = refl
+    pub words-next : p < 256 → Finds (wordsFrom pairs session k) i (found (pairWords pairs p) (p + 1))
+    words-next l =
+        finds-by (wordsFrom pairs session k) (chosen (holds session k) (pairWords pairs) 256) (words-so h) i (found (pairWords pairs p) (p + 1))
+        (finds-next (holds session k) (pairWords pairs) 256 i p part-first l)
 
-  pub none-more : (n : ℕ) → any p (valuesBelow rows table o n) ≡ false → (placeAt rows table o n .here && p (valueIn (o .kind) (placeAt rows table o n))) ≡ false
-      → any p (valuesBelow rows table o (n + 1)) ≡ false
-  unfolding passes
-  none-more n e f = ap (λ (m : ℕ). any p (valuesBelow rows table o m)) (add-one n) ∙ chosen (suc n) ∙ any-last passes (below n) n (sym (chosen n) ∙ e) f
+    pub words-end : (r : Found) → r ≡ nothing → 256 ≤ p → Finds (wordsFrom pairs session k) i r
+    words-end r e l =
+        subst (Finds (wordsFrom pairs session k) i) (sym e)
+        (finds-by (wordsFrom pairs session k) (chosen (holds session k) (pairWords pairs) 256) (words-so h) i nothing
+        (finds-end (holds session k) (pairWords pairs) 256 i p part-first l))
 
-  pub some-here : (n i : ℕ) → i < n → (placeAt rows table o i .here && p (valueIn (o .kind) (placeAt rows table o i))) ≡ true → any p (valuesBelow rows table o n) ≡ true
-  unfolding passes
-  some-here n i h f = chosen n ∙ in-any passes (below-in n i h) f
+-- ---- the entries
 
-  -- the walk's two ends: something passed at i; nothing did up to the last
-  pub found : (n i : ℕ) → n ≡ positionsOf (o .pairs) → i < n → (placeAt rows table o i .here && p (valueIn (o .kind) (placeAt rows table o i))) ≡ true
-      → any p (valuesOf rows table o) ≡ true
-  found n i e h f = some-here (positionsOf (o .pairs)) i (rw e at h) f
+-- the words of an entry's value, by the type
+module _ (kind v : ℕ) where
+  pub entry-number : (kind ≡ 3 → ⊥) → words v 0 0 ≡ entryWords kind v
+  entry-number h = sym (ap (λ (t : Bool). if t then words (truthBit (eqb v 1)) 0 0 else words v 0 0) (ne-eqb kind 3 h))
 
-  pub nothing : (n i : ℕ) → n ≡ positionsOf (o .pairs) → i ≡ n → any p (valuesBelow rows table o i) ≡ false → any p (valuesOf rows table o) ≡ false
-  nothing n i e h f = ap (λ (m : ℕ). any p (valuesBelow rows table o m)) (sym (h ∙ e)) ∙ f
+  pub entry-true : kind ≡ 3 → v ≡ 1 → words 1 0 0 ≡ entryWords kind v
+  entry-true h e = sym (ap₂ (λ (t u : Bool). if t then words (truthBit u) 0 0 else words v 0 0) (eq-eqb kind 3 h) (eq-eqb v 1 e))
 
-pub each-any : (left right : List Value) → eachAmong left right ≡ not (any (λ v. not (amongValues 16 (v .low) (v .high) right)) left)
-each-any left right = all-any (λ v. amongValues 16 (v .low) (v .high) right) left
+  pub entry-false : kind ≡ 3 → (v ≡ 1 → ⊥) → words 0 0 0 ≡ entryWords kind v
+  entry-false h e = sym (ap₂ (λ (t u : Bool). if t then words (truthBit u) 0 0 else words v 0 0) (eq-eqb kind 3 h) (ne-eqb v 1 e))
+
+module _ (entries : Bytes) (kind k i j : ℕ) (first : First (λ n. eqb (byteAt entries (5 * n)) k) (length entries / 5) i j) where
+  pub entry-end : (r : Found) → r ≡ nothing → length entries / 5 ≤ j → Finds (entriesFrom entries kind k) i r
+  unfolding entriesFrom
+  entry-end r e h =
+      subst (Finds (entriesFrom entries kind k) i) (sym e)
+      (finds-end (λ n. eqb (byteAt entries (5 * n)) k) (λ n. entryWords kind (valueAt entries (5 * n + 1))) (length entries / 5) i j first h)
+
+  pub entry-next : (w : Words) → w ≡ entryWords kind (valueAt entries (5 * j + 1)) → j < length entries / 5 → Finds (entriesFrom entries kind k) i (found w (j + 1))
+  unfolding entriesFrom
+  entry-next w e h =
+      subst (λ (v : Words). Finds (entriesFrom entries kind k) i (found v (j + 1))) (sym e)
+      (finds-next (λ n. eqb (byteAt entries (5 * n)) k) (λ n. entryWords kind (valueAt entries (5 * n + 1))) (length entries / 5) i j first h)
+
+-- ---- an operand's place
+
+module _ (L : Lent) (o : Operand) (i : ℕ) (r : Found) where
+  pub in-session : o .place ≡ 0 → Finds (wordsFrom (L .pairs) (L .session) (o .start)) i r → Finds (valuesFrom L o) i r
+  unfolding valuesFrom
+  in-session e = finds-by (valuesFrom L o) (wordsFrom (L .pairs) (L .session) (o .start)) (λ j. rw (eq-eqb (o .place) 0 e)) i r
+
+  pub in-block : o .place ≡ 1 → Finds (entriesFrom (L .entries) (o .kind) (o .start)) i r → Finds (valuesFrom L o) i r
+  unfolding valuesFrom
+  in-block e =
+      let n : o .place ≡ 0 → ⊥ = λ z. omega arith in
+      finds-by (valuesFrom L o) (entriesFrom (L .entries) (o .kind) (o .start)) (λ j. rw (ne-eqb (o .place) 0 n, eq-eqb (o .place) 1 e)) i r
+
+  pub in-code : (o .place ≡ 0 → ⊥) → (o .place ≡ 1 → ⊥) → Finds (constantsFrom (o .kind) (L .code) (o .end)) i r → Finds (valuesFrom L o) i r
+  unfolding valuesFrom
+  in-code n m = finds-by (valuesFrom L o) (constantsFrom (o .kind) (L .code) (o .end)) (λ j. rw (ne-eqb (o .place) 0 n, ne-eqb (o .place) 1 m)) i r

@@ -1,3 +1,2 @@
-pub mod Truths
 pub mod Operands
-pub mod Kept
+pub mod Compared

@@ -1,128 +1,139 @@
--- Operands: the values that stand beside an operator, and what a comparison asks of them.
-use Prim.Native.Nat.{ℕ, _+_, _*_, _/_, _%_}
+-- Operands: where the values are that stand beside an operator, and which they are.
+use Prim.Native.Nat.{ℕ, zero, suc, _+_, _-_, _*_, _/_, _≤_, _<_}
 use mathlib.Core.Path.{_≡_}
-use mathlib.Core.Bool.{Bool, true, false, not, _&&_}
-use mathlib.Core.List.{List}
+use mathlib.Core.Bool.{Bool, true, false, _&&_}
+use mathlib.Core.List.{List, [], _∷_}
 use lib.Dec.{eqb, leb, ltb}
-use lib.ListN.{getD}
-use Rattle.model.specs.Notation.{map, filter, below, any, all, isEmpty, if_then_else_}
-use Rattle.model.specs.Atoms.{Atom, isAtom}
-use Rattle.model.specs.Truth as model
-use Rattle.model.specs.Truth.{truth, NOT}
-use Rattle.model.specs.Tokens.{Operator}
-use Rattle.model.specs.Comparison.{compareSets, loneValue}
-use Rattle.bits.specs.Bits.{bit}
-use Rattle.values.specs.declared.Truth.{Truth}
+use lib.ListN.{length, getD, take, drop}
+use Rattle.model.specs.Notation.{map, filter, all, if_then_else_}
+use Rattle.model.specs.Limits.{attributeLimit, pairLimit, entryBytes}
+use Rattle.model.specs.Bytes.{Bytes}
+use Rattle.model.specs.Block.{byteAt, valueAt}
+use Rattle.model.specs.Atoms.{Atom, typeOf, isAtom}
+use Rattle.codes.specs.Codes.{typeCode}
+use Rattle.bits.specs.Bits.{holds}
+use Rattle.text.specs.declared.Words.{Words}
+use Rattle.text.specs.Packing.{threeWords}
+use Rattle.text.specs.Values.{words, truthBit, atomWords}
 use Rattle.values.specs.declared.Operand.{Operand}
-use Rattle.values.specs.declared.Place.{Place}
-use Rattle.values.specs.Truths.{truthOf}
-use Rattle.text.specs.declared.Value.{Value}
-use Rattle.text.specs.Values.{atomValue}
+use Rattle.values.specs.declared.Found.{Found}
 
--- how many positions an operand has: one for each pair number, or one for each value that it can keep
-abbrev pub positionsOf : Bool → ℕ
-positionsOf true = 256
-positionsOf false = 8
+-- what is lent to everything that reads values: rule code, the rows of pairs, the session's words and the entries of the block
+pub record Lent : Type 0 where
+  pub code : Bytes
+  pub pairs : List ℕ
+  pub session : List ℕ
+  pub entries : Bytes
 
--- pair p is in holder k's set, the four words from word 4k of the table
-unfoldable pub holdsPair : List ℕ → ℕ → ℕ → Bool
-holdsPair table k p = bit (getD table (4 * k + p / 64) 0) (p % 64)
+abbrev pub lent : Bytes → List ℕ → List ℕ → Bytes → Lent
+lent code pairs session entries = record { code = code; pairs = pairs; session = session; entries = entries }
 
--- a pair, which is there if it is one of the attribute and the holder has it
-unfoldable pub pairPlace : List ℕ → List ℕ → ℕ → ℕ → ℕ → Place
-pairPlace rows table attribute holder p =
-    record {
-      here = eqb (getD rows (4 * p) 0) attribute && holdsPair table holder p;
-      low = getD rows (4 * p + 2) 0;
-      high = getD rows (4 * p + 3) 0;
-    }
+-- n numbers from k up
+abbrev pub upFrom : ℕ → ℕ → List ℕ
+upFrom k zero = []
+upFrom k (suc n) = k ∷ upFrom (suc k) n
 
--- one of the values that an operand keeps
-unfoldable pub keptPlace : ℕ → List ℕ → List ℕ → ℕ → Place
-keptPlace count low high i = record { here = ltb i count; low = getD low i 0; high = getD high i 0 }
+-- the values of the numbers from i up to top that are there
+unfoldable pub chosen : (ℕ → Bool) → (ℕ → Words) → ℕ → ℕ → List Words
+chosen here value top i = map value (filter here (upFrom i (top - i)))
 
--- what stands at a position: a pair, or one of the values that are kept
-unfoldable pub placeAt : List ℕ → List ℕ → Operand → ℕ → Place
-placeAt rows table o i = if o .pairs then pairPlace rows table (o .attribute) (o .holder) i else keptPlace (o .count) (o .low) (o .high) i
+-- r is the first number from i on that is there, at least top where there is none
+pub record First (here : ℕ → Bool) (top i r : ℕ) : Type 0 where
+  pub lower : (j : ℕ) → i ≤ j → j < r → j < top → here j ≡ false
+  pub held : r < top → (i ≤ r) × (here r ≡ true)
 
--- the value there
-abbrev pub valueIn : ℕ → Place → Value
-valueIn kind p = record { kind = kind; low = p .low; high = p .high }
+-- ---- an attribute's words in the session: the pairs whose bits are set, from number i on
 
--- the values of an operand at the positions below n, and all of them, in the order of their positions
-unfoldable pub valuesBelow : List ℕ → List ℕ → Operand → ℕ → List Value
-valuesBelow rows table o n = map (λ i. valueIn (o .kind) (placeAt rows table o i)) (filter (λ i. placeAt rows table o i .here) (below n))
+-- the words of a pair's atom: those behind the first of its row
+abbrev pub pairWords : List ℕ → ℕ → Words
+pairWords pairs p = words (getD pairs (4 * p + 1) 0) (getD pairs (4 * p + 2) 0) (getD pairs (4 * p + 3) 0)
 
-abbrev pub valuesOf : List ℕ → List ℕ → Operand → List Value
-valuesOf rows table o = valuesBelow rows table o (positionsOf (o .pairs))
+unfoldable pub wordsFrom : List ℕ → List ℕ → ℕ → ℕ → List Words
+wordsFrom pairs session k i = if ltb k attributeLimit then chosen (holds session k) (pairWords pairs) pairLimit i else []
+
+-- ---- the entries of an attribute, from number i on
+
+-- "a 32-bit value … (bool 0 or 1)", by the number of the type
+abbrev pub entryWords : ℕ → ℕ → Words
+entryWords kind v = if eqb kind 3 then words (truthBit (eqb v 1)) 0 0 else words v 0 0
+
+unfoldable pub entriesFrom : Bytes → ℕ → ℕ → ℕ → List Words
+entriesFrom entries kind k i =
+    chosen (λ j. eqb (byteAt entries (entryBytes * j)) k) (λ j. entryWords kind (valueAt entries (entryBytes * j + 1))) (length entries / entryBytes) i
+
+-- ---- constants in rule code, from byte i up to the byte `end`, parted by a byte
+
+abbrev pub found : Words → ℕ → Found
+found w next = record { here = true; words = w; next = next }
+
+abbrev pub nothing : Found
+nothing = record { here = false; words = words 0 0 0; next = 0 }
+
+-- an int: the four bytes behind its kind; the next constant begins behind the byte that parts them
+unfoldable pub intAt : Bytes → ℕ → ℕ → Found
+intAt code end i = if (leb end (length code) && leb (i + 5) end) then found (words (valueAt code (i + 1)) 0 0) (i + 6) else nothing
+
+-- a str: the bytes behind its kind and its length, if they fit three words
+unfoldable pub strAt : Bytes → ℕ → ℕ → Found
+strAt code end i =
+    if (leb end (length code) && (leb (i + 2) end && (leb (byteAt code (i + 1)) 24 && leb (i + 2 + byteAt code (i + 1)) end)))
+    then found (threeWords (take (byteAt code (i + 1)) (drop (i + 2) code))) (i + 3 + byteAt code (i + 1)) else nothing
+
+unfoldable pub constantAt : ℕ → Bytes → ℕ → ℕ → Found
+constantAt kind code end i = if eqb kind 2 then strAt code end i else intAt code end i
+
+-- at most n constants: each begins behind the one before it, so that a code's length is enough
+unfoldable pub constantsWithin : ℕ → ℕ → Bytes → ℕ → ℕ → List Words
+constantsWithin zero kind code end i = []
+constantsWithin (suc n) kind code end i =
+    if constantAt kind code end i .here then constantAt kind code end i .words ∷ constantsWithin n kind code end (constantAt kind code end i .next) else []
+
+abbrev pub constantsFrom : ℕ → Bytes → ℕ → ℕ → List Words
+constantsFrom kind code end i = constantsWithin (length code - i) kind code end i
+
+-- ---- an operand's values
+
+-- those from position i on: a pair's number, an entry's, or a byte of the code, by the operand's place
+unfoldable pub valuesFrom : Lent → Operand → ℕ → List Words
+valuesFrom L o i =
+    if eqb (o .place) 0 then wordsFrom (L .pairs) (L .session) (o .start) i
+    else (if eqb (o .place) 1 then entriesFrom (L .entries) (o .kind) (o .start) i
+    else constantsFrom (o .kind) (L .code) (o .end) i)
+
+-- where they begin
+unfoldable pub firstOf : Operand → ℕ
+firstOf o = if leb (o .place) 1 then 0 else o .start
+
+abbrev pub valuesOf : Lent → Operand → List Words
+valuesOf L o = valuesFrom L o (firstOf o)
+
+-- r is the first of the values from i on, with the position behind it
+pub record Finds (from : ℕ → List Words) (i : ℕ) (r : Found) : Type 0 where
+  pub more : r .here ≡ true → from i ≡ r .words ∷ from (r .next)
+  pub none : r .here ≡ false → from i ≡ []
 
 -- an operand stands for these atoms
-pub record Stands (rows table : List ℕ) (o : Operand) (atoms : List Atom) : Type 0 where
-  pub coded : valuesOf rows table o ≡ map atomValue atoms
+pub record Stands (L : Lent) (o : Operand) (atoms : List Atom) : Type 0 where
+  pub coded : valuesOf L o ≡ map atomWords atoms
+  pub typed : all (λ a. eqb (typeCode (typeOf a)) (o .kind)) atoms ≡ true
   pub written : all isAtom atoms ≡ true
 
--- the numbers of the operators
-abbrev pub operatorNumber : Operator → ℕ
-operatorNumber Operator.equal = 16
-operatorNumber Operator.IN = 17
-operatorNumber Operator.unequal = 18
-operatorNumber Operator.SUBSET = 19
-operatorNumber Operator.less = 20
-operatorNumber Operator.atMost = 21
-operatorNumber Operator.greater = 22
-operatorNumber Operator.atLeast = 23
+-- ---- the operands that rules have
 
--- how the operator of a number relates two values: the orders by their numbers, the others by equality
-unfoldable pub related : ℕ → ℕ → ℕ → ℕ → ℕ → Bool
-related n low high low′ high′ =
-    if eqb n 20 then ltb low low′
-    else (if eqb n 21 then leb low low′
-    else (if eqb n 22 then ltb low′ low
-    else (if eqb n 23 then leb low′ low
-    else (eqb low low′ && eqb high high′))))
+abbrev pub operand : ℕ → ℕ → ℕ → ℕ → Operand
+operand kind place start end = record { kind = kind; place = place; start = start; end = end }
 
--- some value of a list is so related to this one; some of the first list is to some of the second; each of the first has an equal one there
-abbrev pub amongValues : ℕ → ℕ → ℕ → List Value → Bool
-amongValues n low high values = any (λ v. related n low high (v .low) (v .high)) values
+abbrev pub noValues : Operand
+noValues = operand 0 2 0 0
 
-abbrev pub someRelated : ℕ → List Value → List Value → Bool
-someRelated n left right = any (λ v. amongValues n (v .low) (v .high) right) left
+-- the type of row k of attributes, 0 where it is none; and where its values are: in the session for user, object and admin, else in the block
+unfoldable pub rowType : List ℕ → ℕ → ℕ
+rowType rows k = if leb (getD rows (8 * k + 1) 0) 3 then getD rows (8 * k + 1) 0 else 0
 
-abbrev pub eachAmong : List Value → List Value → Bool
-eachAmong left right = all (λ v. amongValues 16 (v .low) (v .high) right) left
-
--- the same of what stands at a position
-unfoldable pub relatedAt : ℕ → ℕ → ℕ → Place → Bool
-relatedAt n low high p = p .here && related n low high (p .low) (p .high)
-
-unfoldable pub amongAt : ℕ → Place → List Value → Bool
-amongAt n p right = p .here && amongValues n (p .low) (p .high) right
-
-unfoldable pub missingAt : Place → List Value → Bool
-missingAt p right = p .here && not (amongValues 16 (p .low) (p .high) right)
-
--- what an operator of equality says, if there is a common value, or there is none
-abbrev pub equalityOf : ℕ → Bool → model.Truth
-equalityOf n found = if eqb n 18 then NOT (truth found) else truth found
-
--- the operator of a number, on present values of one type; UNDEF where the number is no operator's
-unfoldable pub likeValues : ℕ → ℕ → List Value → List Value → model.Truth
-likeValues n kind left right =
-    if (leb 16 n && leb n 18) then equalityOf n (someRelated n left right)
-    else (if eqb n 19 then truth (eachAmong left right)
-    else (if (leb 20 n && leb n 23) then (if eqb kind 1 then truth (someRelated n left right) else model.UNDEF)
-    else model.UNDEF))
-
-unfoldable pub compareValues : ℕ → ℕ → ℕ → List Value → List Value → model.Truth
-compareValues n kind kind′ left right =
-    if (eqb kind kind′ && (not (isEmpty left) && not (isEmpty right))) then likeValues n kind left right else model.UNDEF
-
--- r is what the operator of a number says of the atoms that two operands stand for; of a number that is no operator's, UNDEF
-pub record Compared (rows table : List ℕ) (n : ℕ) (left right : Operand) (r : Truth) : Type 0 where
-  pub by-operator : (o : Operator) (l m : List Atom) → n ≡ operatorNumber o → Stands rows table left l → Stands rows table right m
-      → truthOf r ≡ compareSets o l m
-  pub by-none : ((o : Operator) → n ≡ operatorNumber o → ⊥) → truthOf r ≡ model.UNDEF
-
--- r is what a lone attribute comes to, with the atoms that an operand stands for
-pub record Lone (rows table : List ℕ) (o : Operand) (r : Truth) : Type 0 where
-  pub lone-value : (l : List Atom) → Stands rows table o l → truthOf r ≡ loneValue l
+unfoldable pub attributeOperand : List ℕ → ℕ → Operand
+attributeOperand rows k =
+    if ltb k attributeLimit
+    then (if eqb (getD rows (8 * k) 0) 0 then noValues
+    else (if leb (getD rows (8 * k) 0) 3 then operand (rowType rows k) 0 k 0
+    else operand (rowType rows k) 1 k 0))
+    else noValues

@@ -1,425 +1,568 @@
-// Three-valued truth, the operands of comparisons, and the comparison.
+// Operands: where the values are that stand beside an operator; and their comparison. Nothing is copied: an operand is a few numbers, and its
+// values are found one after another where they are lent.
 ghost use mathlib.Core.Path.{_≡_};
-ghost use mathlib.Core.Bool.{true};
-ghost use mathlib.Core.List.{[], _∷_};
-ghost use Prim.Native.Nat.{_<_};
+ghost use mathlib.Core.Bool.{true, false, Bool·beq};
+ghost use Prim.Native.Nat.{_+_, _*_, _/_, _<_, _≤_};
 ghost use lib.Dec.{eqb};
-ghost use lib.ListN.{getD};
+ghost use lib.ListN.{length};
 ghost use Rattle.model.specs.Notation.{if_then_else_, isEmpty};
-ghost use Rattle.model.specs.Atoms.{Atom, isAtom};
-ghost use Rattle.model.specs.Truth.{truth, UNDEF, NOT, _AND_, _OR_};
-ghost use Rattle.text.specs.Values.{value, atomValue};
-ghost use Rattle.values.specs.Truths.{truthOf};
-ghost use Rattle.values.specs.Operands.{positionsOf, holdsPair, pairPlace, keptPlace, placeAt, valuesOf};
-ghost use Rattle.values.specs.Operands.{related, relatedAt, amongValues, amongAt, missingAt, someRelated, eachAmong, equalityOf};
-ghost use Rattle.values.specs.Operands.{Compared, Lone};
-ghost use Rattle.values.specs.Kept.{Keeps, roomFor, Extended};
+ghost use Rattle.model.specs.Block.{byteAt, valueAt};
+ghost use Rattle.model.specs.Truth.{truth, UNDEF};
+ghost use Rattle.truth.specs.Truths.{truthOf};
+ghost use Rattle.text.specs.Values.{words, sameWords};
+ghost use Rattle.values.specs.Operands.{lent, First, wordsFrom, entryWords, entriesFrom, intAt, strAt, constantsFrom, valuesFrom, firstOf};
+ghost use Rattle.values.specs.Operands.{valuesOf, Finds, nothing, operand, noValues, rowType, attributeOperand};
+ghost use Rattle.values.specs.Compared.{amongValues, someFound, further, worst, extremeFrom, isBelow, equalityOf, orderOf, Compared, Lone};
+use codes::AT_LEAST;
+use codes::AT_MOST;
+use codes::BOOL;
+use codes::EQUAL;
+use codes::GREATER;
+use codes::INT;
+use codes::LESS;
+use codes::STR;
+use codes::SUBSET;
+use codes::UNEQUAL;
+use text::Words;
+use truth::Truth;
 
-// The numbers of two types, and of the operators: IN is 17, between `=` and `!=`.
-const INT: u8 = 1;
+// Where an operand's values are: the pairs of the session's words of an attribute, the entries of an attribute, or constants in the code.
+const WORDS: u8 = 0;
 
-const BOOL: u8 = 3;
+const ENTRIES: u8 = 1;
 
-const EQUAL: u8 = 16;
+const CONSTANTS: u8 = 2;
 
-const UNEQUAL: u8 = 18;
+// The largest int.
+const LARGEST: u64 = 4294967295;
 
-const SUBSET: u8 = 19;
-
-const LESS: u8 = 20;
-
-const AT_MOST: u8 = 21;
-
-const GREATER: u8 = 22;
-
-const AT_LEAST: u8 = 23;
-
-pub enum Truth {
-    False,
-    Undef,
-    True,
-}
-
-// The truth of a test.
-pub fn tested(test: bool) -> Truth
-    ensures { λ r. ⌜ truthOf r ≡ truth test ⌝ }
-{
-    if test { Truth::True } else { Truth::False }
-}
-
-pub fn not(a: Truth) -> Truth
-    ensures { λ r. ⌜ truthOf r ≡ NOT (truthOf a) ⌝ }
-{
-    match a {
-        Truth::False => Truth::True,
-        Truth::Undef => Truth::Undef,
-        Truth::True => Truth::False,
-    }
-}
-
-pub fn and(a: Truth, b: Truth) -> Truth
-    ensures { λ r. ⌜ truthOf r ≡ (truthOf a AND truthOf b) ⌝ }
-{
-    match a {
-        Truth::False => Truth::False,
-        Truth::Undef => match b {
-            Truth::False => Truth::False,
-            Truth::Undef => Truth::Undef,
-            Truth::True => Truth::Undef,
-        },
-        Truth::True => b,
-    }
-}
-
-pub fn or(a: Truth, b: Truth) -> Truth
-    ensures { λ r. ⌜ truthOf r ≡ (truthOf a OR truthOf b) ⌝ }
-{
-    match a {
-        Truth::False => b,
-        Truth::Undef => match b {
-            Truth::False => Truth::Undef,
-            Truth::Undef => Truth::Undef,
-            Truth::True => Truth::True,
-        },
-        Truth::True => Truth::True,
-    }
-}
-
-// The values beside an operator, all of one type: none, a few that are kept here (constants of a policy, entries of a pass block), or,
-// with `pairs`, the declared pairs of an attribute that a holder has, which stay where they are lent.
+// The values beside an operator, all of one type.
 pub struct Operand {
     // The type; 0 where there is no value.
     pub kind: u8,
-    pub pairs: bool,
-    // Of pairs: the number of the attribute, plus 1 as the rows of pairs have it, and that of the holder.
-    pub attribute: u64,
-    pub holder: u8,
-    // Of values that are kept: how many, and their codes.
-    pub count: usize,
-    pub low: [u64; 8],
-    pub high: [u64; 8],
+    pub place: u8,
+    // The attribute's number; of constants, the byte of the code where they begin, and the one behind their last.
+    pub start: usize,
+    pub end: usize,
 }
 
-// How many positions an operand has.
-fn positions(pairs: bool) -> usize
-    ensures { λ r. ⌜ r ≡ positionsOf pairs ⌝ }
-{
-    if pairs { 256 } else { 8 }
-}
-
-// What stands at a position of an operand.
-pub struct Place {
+// The first value from a position on, if one is there, and the position behind it.
+pub struct Found {
     pub here: bool,
-    pub low: u64,
-    pub high: u64,
+    pub words: Words,
+    pub next: usize,
 }
 
-// A word of the table; 0 behind its end.
-fn word(table: &[u64], at: usize) -> u64
-    ensures { λ r. ⌜ r ≡ getD (now (table .entry)) at 0 ⌝ }
+fn none_found() -> Found
+    ensures { λ r. ⌜ r ≡ nothing ⌝ }
 {
-    if at < table.len() { table[at] } else { 0 }
-}
-
-// Whether a holder has a pair.
-fn holds(table: &[u64], holder: u8, pair: usize) -> bool
-    ensures { λ r. ⌜ r ≡ holdsPair (now (table .entry)) holder pair ⌝ }
-{
-    bits::has(word(table, 4 * (holder as usize) + pair / 64), pair % 64)
-}
-
-// The pair of a number, if it is one of the attribute and the holder has it.
-fn pair_place(rows: &[u64; 1024], table: &[u64], attribute: u64, holder: u8, pair: usize) -> Place
-    requires { ⌜ pair < 256 ⌝ }
-    ensures { λ r. ⌜ r ≡ pairPlace (now (rows .entry)) (now (table .entry)) attribute holder pair ⌝ }
-{
-    let low = rows[4 * pair + 2];
-    let high = rows[4 * pair + 3];
-    if rows[4 * pair] != attribute {
-        return Place {
-            here: false,
-            low,
-            high,
-        };
-    }
-    Place {
-        here: holds(table, holder, pair),
-        low,
-        high,
+    Found {
+        here: false,
+        words: Words {
+            first: 0,
+            second: 0,
+            third: 0,
+        },
+        next: 0,
     }
 }
 
-// One of the values that an operand keeps.
-fn kept_place(operand: Operand, i: usize) -> Place
-    requires { ⌜ i < 8 ⌝ }
-    ensures { λ r. ⌜ r ≡ keptPlace (operand .count) (operand .low) (operand .high) i ⌝ }
+fn one_word(first: u64) -> Words
+    ensures { λ r. ⌜ r ≡ words first 0 0 ⌝ }
 {
-    Place {
-        here: i < operand.count,
-        low: operand.low[i],
-        high: operand.high[i],
+    Words {
+        first,
+        second: 0,
+        third: 0,
     }
 }
 
-// What stands at a position of an operand.
-fn place_at(rows: &[u64; 1024], table: &[u64], operand: Operand, i: usize) -> Place
-    requires { ⌜ i < positionsOf (operand .pairs) ⌝ }
-    ensures { λ r. ⌜ r ≡ placeAt (now (rows .entry)) (now (table .entry)) operand i ⌝ }
+fn wide(x: u8) -> u64
+    ensures { λ r. ⌜ (r ≡ x) × (r ≤ 255) ⌝ }
 {
-    if operand.pairs {
-        pair_place(rows, table, operand.attribute, operand.holder, i)
+    x as u64
+}
+
+// The number of four bytes, low byte first.
+fn four(s: &[u8], at: usize) -> u64
+    requires { ⌜ at + 4 ≤ length (now s) ⌝ }
+    ensures { λ r. ⌜ r ≡ valueAt (now (s .entry)) at ⌝ }
+{
+    let a = wide(s[at]);
+    let b = wide(s[at + 1]);
+    let c = wide(s[at + 2]);
+    let d = wide(s[at + 3]);
+    a + 256 * (b + 256 * (c + 256 * d))
+}
+
+// The first pair from number i on that the session has of attribute k.
+fn pair_from(pairs: &[u64], session: &[u64; 128], k: usize, i: usize) -> Found
+    requires { ⌜ length (now pairs) ≡ 1024 ⌝ }
+    ensures { λ r. ⌜ Finds (wordsFrom (now (pairs .entry)) (now (session .entry)) k) i r ⌝ }
+{
+    if 32 <= k {
+        return none_found();
+    }
+    let all = &session[..];
+    let start = 4 * k;
+    let end = 4 * k + 4;
+    let p = bits::first_from(&all[start..end], i);
+    if 256 <= p {
+        return none_found();
+    }
+    Found {
+        here: true,
+        words: Words {
+            first: pairs[4 * p + 1],
+            second: pairs[4 * p + 2],
+            third: pairs[4 * p + 3],
+        },
+        next: p + 1,
+    }
+}
+
+// The number of the first entry from number i on that is one of attribute k.
+fn entry_number(entries: &[u8], k: usize, i: usize) -> usize
+    ensures { λ r. ⌜ First (λ j. eqb (byteAt (now (entries .entry)) (5 * j)) k) (length (now (entries .entry)) / 5) i r ⌝ }
+{
+    let n = entries.len() / 5;
+    let mut j = i;
+    while j < n {
+        if wide(entries[5 * j]) == k as u64 {
+            return j;
+        }
+        j += 1;
+    }
+    n
+}
+
+// "a 32-bit value ... (bool 0 or 1)", by its type.
+fn entry_words(kind: u8, v: u64) -> Words
+    ensures { λ r. ⌜ r ≡ entryWords kind v ⌝ }
+{
+    if kind != BOOL {
+        return one_word(v);
+    }
+    if v == 1 {
+        return one_word(1);
+    }
+    one_word(0)
+}
+
+// The first entry from number i on that is one of attribute k.
+fn entry_from(entries: &[u8], kind: u8, k: usize, i: usize) -> Found
+    ensures { λ r. ⌜ Finds (entriesFrom (now (entries .entry)) kind k) i r ⌝ }
+{
+    let j = entry_number(entries, k, i);
+    if entries.len() / 5 <= j {
+        return none_found();
+    }
+    Found {
+        here: true,
+        words: entry_words(kind, four(entries, 5 * j + 1)),
+        next: j + 1,
+    }
+}
+
+// The int constant at byte i, if it ends before `end`.
+fn int_at(code: &[u8], end: usize, i: usize) -> Found
+    ensures { λ r. ⌜ r ≡ intAt (now (code .entry)) end i ⌝ }
+{
+    if code.len() < end {
+        return none_found();
+    }
+    if end < 5 {
+        return none_found();
+    }
+    if end - 5 < i {
+        return none_found();
+    }
+    Found {
+        here: true,
+        words: one_word(four(code, i + 1)),
+        next: i + 6,
+    }
+}
+
+// The str constant at byte i, if it ends before `end`.
+fn str_at(code: &[u8], end: usize, i: usize) -> Found
+    ensures { λ r. ⌜ r ≡ strAt (now (code .entry)) end i ⌝ }
+{
+    if code.len() < end {
+        return none_found();
+    }
+    if end < 2 {
+        return none_found();
+    }
+    if end - 2 < i {
+        return none_found();
+    }
+    let start = i + 2;
+    let n = code[i + 1] as usize;
+    if 24 < n {
+        return none_found();
+    }
+    let past = start + n;
+    if end < past {
+        return none_found();
+    }
+    Found {
+        here: true,
+        words: text::words_of(&code[start..past]),
+        next: past + 1,
+    }
+}
+
+// The constant at byte i.
+fn constant_from(code: &[u8], kind: u8, end: usize, i: usize) -> Found
+    ensures { λ r. ⌜ Finds (constantsFrom kind (now (code .entry)) end) i r ⌝ }
+{
+    if kind == STR {
+        str_at(code, end, i)
     } else {
-        kept_place(operand, i)
+        int_at(code, end, i)
     }
+}
+
+// The first value of an operand from position i on.
+fn value_from(
+    code: &[u8],
+    pairs: &[u64],
+    session: &[u64; 128],
+    entries: &[u8],
+    operand: Operand,
+    i: usize,
+) -> Found
+    requires { ⌜ length (now pairs) ≡ 1024 ⌝ }
+    ensures { λ r. ⌜ Finds (valuesFrom (lent (now (code .entry)) (now (pairs .entry)) (now (session .entry)) (now (entries .entry))) operand) i r ⌝ }
+{
+    let place = operand.place;
+    match place {
+        WORDS => pair_from(pairs, session, operand.start, i),
+        ENTRIES => entry_from(entries, operand.kind, operand.start, i),
+        _ => constant_from(code, operand.kind, operand.end, i),
+    }
+}
+
+// The position where an operand's values begin.
+fn first(operand: Operand) -> usize
+    ensures { λ r. ⌜ r ≡ firstOf operand ⌝ }
+{
+    if operand.place <= ENTRIES {
+        return 0;
+    }
+    operand.start
 }
 
 // Whether an operand has no value.
-fn absent(rows: &[u64; 1024], table: &[u64], operand: Operand) -> bool
-    ensures { λ r. ⌜ r ≡ isEmpty (valuesOf (now (rows .entry)) (now (table .entry)) operand) ⌝ }
-{
-    let n = positions(operand.pairs);
-    for i in 0..n {
-        let there = place_at(rows, table, operand, i);
-        if there.here {
-            return false;
-        }
-    }
-    true
-}
-
-// Whether two values are related as an operator asks: ordered, or for an operator that is no order, equal.
-fn relates(operator: u8, low: u64, high: u64, other: Place) -> bool
-    ensures { λ r. ⌜ r ≡ related operator low high (other .low) (other .high) ⌝ }
-{
-    match operator {
-        LESS => low < other.low,
-        AT_MOST => low <= other.low,
-        GREATER => other.low < low,
-        AT_LEAST => other.low <= low,
-        _ => {
-            if low != other.low {
-                return false;
-            }
-            high == other.high
-        }
-    }
-}
-
-// Whether a value is so related to the one at a position of an operand.
-fn relates_at(
-    rows: &[u64; 1024],
-    table: &[u64],
-    operator: u8,
-    low: u64,
-    high: u64,
-    right: Operand,
-    i: usize,
+fn absent(
+    code: &[u8],
+    pairs: &[u64],
+    session: &[u64; 128],
+    entries: &[u8],
+    operand: Operand,
 ) -> bool
-    requires { ⌜ i < positionsOf (right .pairs) ⌝ }
-    ensures { λ r. ⌜ r ≡ relatedAt operator low high (placeAt (now (rows .entry)) (now (table .entry)) right i) ⌝ }
+    requires { ⌜ length (now pairs) ≡ 1024 ⌝ }
+    ensures { λ r. ⌜ r ≡ isEmpty (valuesOf (lent (now (code .entry)) (now (pairs .entry)) (now (session .entry)) (now (entries .entry))) operand) ⌝ }
 {
-    let there = place_at(rows, table, right, i);
-    if !there.here {
+    let f = value_from(code, pairs, session, entries, operand, first(operand));
+    !f.here
+}
+
+fn same(a: Words, b: Words) -> bool
+    ensures { λ r. ⌜ r ≡ sameWords a b ⌝ }
+{
+    if a.first != b.first {
         return false;
     }
-    relates(operator, low, high, there)
+    if a.second != b.second {
+        return false;
+    }
+    a.third == b.third
 }
 
-// Whether a value is so related to some value of an operand.
+// Whether a value is among those of an operand.
 fn among(
-    rows: &[u64; 1024],
-    table: &[u64],
-    operator: u8,
-    low: u64,
-    high: u64,
-    right: Operand,
+    code: &[u8],
+    pairs: &[u64],
+    session: &[u64; 128],
+    entries: &[u8],
+    wanted: Words,
+    operand: Operand,
 ) -> bool
-    ensures { λ r. ⌜ r ≡ amongValues operator low high (valuesOf (now (rows .entry)) (now (table .entry)) right) ⌝ }
+    requires { ⌜ length (now pairs) ≡ 1024 ⌝ }
+    ensures { λ r. ⌜ r ≡ amongValues (valuesOf (lent (now (code .entry)) (now (pairs .entry)) (now (session .entry)) (now (entries .entry))) operand) wanted ⌝ }
 {
-    let n = positions(right.pairs);
-    for i in 0..n {
-        if relates_at(rows, table, operator, low, high, right, i) {
+    let mut i = first(operand);
+    loop {
+        let f = value_from(code, pairs, session, entries, operand, i);
+        if !f.here {
+            return false;
+        }
+        let words = f.words;
+        if same(wanted, words) {
             return true;
         }
+        i = f.next;
     }
-    false
 }
 
-// Whether the value at a position of an operand is so related to some value of another.
-fn among_at(
-    rows: &[u64; 1024],
-    table: &[u64],
-    operator: u8,
+fn agree(a: bool, b: bool) -> bool
+    ensures { λ r. ⌜ r ≡ Bool·beq a b ⌝ }
+{
+    if a {
+        return b;
+    }
+    !b
+}
+
+// Whether some left value is among the right, or with `wanted` false, whether some is not.
+fn some_found(
+    code: &[u8],
+    pairs: &[u64],
+    session: &[u64; 128],
+    entries: &[u8],
     left: Operand,
     right: Operand,
-    i: usize,
+    wanted: bool,
 ) -> bool
-    requires { ⌜ i < positionsOf (left .pairs) ⌝ }
-    ensures { λ r. ⌜ r ≡ amongAt operator (placeAt (now (rows .entry)) (now (table .entry)) left i) (valuesOf (now (rows .entry)) (now (table .entry)) right) ⌝ }
+    requires { ⌜ length (now pairs) ≡ 1024 ⌝ }
+    ensures { λ r. ⌜ r ≡ someFound wanted (valuesOf (lent (now (code .entry)) (now (pairs .entry)) (now (session .entry)) (now (entries .entry))) left) (valuesOf (lent (now (code .entry)) (now (pairs .entry)) (now (session .entry)) (now (entries .entry))) right) ⌝ }
 {
-    let here = place_at(rows, table, left, i);
-    if !here.here {
-        return false;
-    }
-    among(rows, table, operator, here.low, here.high, right)
-}
-
-// Whether some left and some right value are so related.
-fn common(rows: &[u64; 1024], table: &[u64], operator: u8, left: Operand, right: Operand) -> bool
-    ensures { λ r. ⌜ r ≡ someRelated operator (valuesOf (now (rows .entry)) (now (table .entry)) left) (valuesOf (now (rows .entry)) (now (table .entry)) right) ⌝ }
-{
-    let n = positions(left.pairs);
-    for i in 0..n {
-        if among_at(rows, table, operator, left, right, i) {
-            return true;
-        }
-    }
-    false
-}
-
-// Whether the value at a position of an operand is not among those of another.
-fn missing_at(rows: &[u64; 1024], table: &[u64], left: Operand, right: Operand, i: usize) -> bool
-    requires { ⌜ i < positionsOf (left .pairs) ⌝ }
-    ensures { λ r. ⌜ r ≡ missingAt (placeAt (now (rows .entry)) (now (table .entry)) left i) (valuesOf (now (rows .entry)) (now (table .entry)) right) ⌝ }
-{
-    let here = place_at(rows, table, left, i);
-    if !here.here {
-        return false;
-    }
-    !among(rows, table, EQUAL, here.low, here.high, right)
-}
-
-// Whether each left value is among the right.
-fn subset(rows: &[u64; 1024], table: &[u64], left: Operand, right: Operand) -> bool
-    ensures { λ r. ⌜ r ≡ eachAmong (valuesOf (now (rows .entry)) (now (table .entry)) left) (valuesOf (now (rows .entry)) (now (table .entry)) right) ⌝ }
-{
-    let n = positions(left.pairs);
-    for i in 0..n {
-        if missing_at(rows, table, left, right, i) {
+    let mut i = first(left);
+    loop {
+        let f = value_from(code, pairs, session, entries, left, i);
+        if !f.here {
             return false;
         }
+        let words = f.words;
+        if agree(among(code, pairs, session, entries, words, right), wanted) {
+            return true;
+        }
+        i = f.next;
     }
-    true
 }
 
-// `=` and IN, or with `!=` their negation.
-fn equality(operator: u8, found: bool) -> Truth
-    ensures { λ r. ⌜ truthOf r ≡ equalityOf operator found ⌝ }
+// The greater of two numbers, or the less.
+fn further(greatest: bool, a: u64, b: u64) -> u64
+    ensures { λ r. ⌜ r ≡ further greatest a b ⌝ }
 {
-    if operator == UNEQUAL {
-        not(tested(found))
-    } else {
-        tested(found)
+    if greatest {
+        if a < b {
+            return b;
+        }
+        return a;
     }
+    if b < a {
+        return b;
+    }
+    a
+}
+
+fn start_of(greatest: bool) -> u64
+    ensures { λ r. ⌜ r ≡ worst greatest ⌝ }
+{
+    if greatest { 0 } else { LARGEST }
+}
+
+// The greatest of an operand's values, or the least, where they are ints.
+fn extreme(
+    code: &[u8],
+    pairs: &[u64],
+    session: &[u64; 128],
+    entries: &[u8],
+    operand: Operand,
+    greatest: bool,
+) -> u64
+    requires { ⌜ length (now pairs) ≡ 1024 ⌝ }
+    ensures { λ r. ⌜ r ≡ extremeFrom greatest (worst greatest) (valuesOf (lent (now (code .entry)) (now (pairs .entry)) (now (session .entry)) (now (entries .entry))) operand) ⌝ }
+{
+    let mut best = start_of(greatest);
+    let mut i = first(operand);
+    loop {
+        let f = value_from(code, pairs, session, entries, operand, i);
+        if !f.here {
+            return best;
+        }
+        let words = f.words;
+        best = further(greatest, best, words.first);
+        i = f.next;
+    }
+}
+
+// Whether some value of `low` is below some value of `high`, or with `equal` equal to it: so it is exactly if the least and the greatest are.
+fn below(
+    code: &[u8],
+    pairs: &[u64],
+    session: &[u64; 128],
+    entries: &[u8],
+    low: Operand,
+    high: Operand,
+    equal: bool,
+) -> bool
+    requires { ⌜ length (now pairs) ≡ 1024 ⌝ }
+    ensures { λ r. ⌜ r ≡ isBelow equal (valuesOf (lent (now (code .entry)) (now (pairs .entry)) (now (session .entry)) (now (entries .entry))) low) (valuesOf (lent (now (code .entry)) (now (pairs .entry)) (now (session .entry)) (now (entries .entry))) high) ⌝ }
+{
+    let least = extreme(code, pairs, session, entries, low, false);
+    let greatest = extreme(code, pairs, session, entries, high, true);
+    if equal {
+        return least <= greatest;
+    }
+    least < greatest
 }
 
 // An order: of integers alone.
-fn order(rows: &[u64; 1024], table: &[u64], operator: u8, left: Operand, right: Operand) -> Truth
-    ensures { λ r. ⌜ truthOf r ≡ (if eqb (left .kind) 1 then truth (someRelated operator (valuesOf (now (rows .entry)) (now (table .entry)) left) (valuesOf (now (rows .entry)) (now (table .entry)) right)) else UNDEF) ⌝ }
-{
-    if left.kind != INT {
-        return Truth::Undef;
-    }
-    tested(common(rows, table, operator, left, right))
-}
-
-// What an operator says of its operands. "Absent operands, different types, and an order between non-integers give UNDEF."
-pub fn compare(
-    rows: &[u64; 1024],
-    table: &[u64],
+fn order(
+    code: &[u8],
+    pairs: &[u64],
+    session: &[u64; 128],
+    entries: &[u8],
     operator: u8,
     left: Operand,
     right: Operand,
 ) -> Truth
-    ensures { λ r. ⌜ Compared (now (rows .entry)) (now (table .entry)) operator left right r ⌝ }
+    requires { ⌜ length (now pairs) ≡ 1024 ⌝ }
+    ensures { λ r. ⌜ truthOf r ≡ (if eqb (left .kind) 1 then truth (orderOf operator (valuesOf (lent (now (code .entry)) (now (pairs .entry)) (now (session .entry)) (now (entries .entry))) left) (valuesOf (lent (now (code .entry)) (now (pairs .entry)) (now (session .entry)) (now (entries .entry))) right)) else UNDEF) ⌝ }
+{
+    if left.kind != INT {
+        return Truth::Undef;
+    }
+    match operator {
+        LESS => truth::tested(below(code, pairs, session, entries, left, right, false)),
+        AT_MOST => truth::tested(below(code, pairs, session, entries, left, right, true)),
+        GREATER => truth::tested(below(code, pairs, session, entries, right, left, false)),
+        _ => truth::tested(below(code, pairs, session, entries, right, left, true)),
+    }
+}
+
+// `=` and IN, or with `!=` their negation.
+fn equality(operator: u8, common: bool) -> Truth
+    ensures { λ r. ⌜ truthOf r ≡ equalityOf operator common ⌝ }
+{
+    if operator == UNEQUAL {
+        return truth::not(truth::tested(common));
+    }
+    truth::tested(common)
+}
+
+// What an operator says of its operands. "Absent operands, different types, and an order between non-integers give UNDEF."
+pub fn compare(
+    code: &[u8],
+    pairs: &[u64],
+    session: &[u64; 128],
+    entries: &[u8],
+    operator: u8,
+    left: Operand,
+    right: Operand,
+) -> Truth
+    requires { ⌜ length (now pairs) ≡ 1024 ⌝ }
+    ensures { λ r. ⌜ Compared (lent (now (code .entry)) (now (pairs .entry)) (now (session .entry)) (now (entries .entry))) operator left right r ⌝ }
 {
     if left.kind != right.kind {
         return Truth::Undef;
     }
-    if absent(rows, table, left) {
+    if absent(code, pairs, session, entries, left) {
         return Truth::Undef;
     }
-    if absent(rows, table, right) {
+    if absent(code, pairs, session, entries, right) {
         return Truth::Undef;
     }
     match operator {
-        EQUAL..=UNEQUAL => equality(operator, common(rows, table, operator, left, right)),
-        SUBSET => tested(subset(rows, table, left, right)),
-        LESS..=AT_LEAST => order(rows, table, operator, left, right),
+        EQUAL..=UNEQUAL => equality(
+            operator,
+            some_found(code, pairs, session, entries, left, right, true),
+        ),
+        SUBSET => truth::not(truth::tested(some_found(
+            code,
+            pairs,
+            session,
+            entries,
+            left,
+            right,
+            false,
+        ))),
+        LESS..=AT_LEAST => order(code, pairs, session, entries, operator, left, right),
         _ => Truth::Undef,
     }
 }
 
 // What an attribute that stands alone comes to: whether TRUE is among its values.
-pub fn lone(rows: &[u64; 1024], table: &[u64], operand: Operand) -> Truth
-    ensures { λ r. ⌜ Lone (now (rows .entry)) (now (table .entry)) operand r ⌝ }
+pub fn lone(
+    code: &[u8],
+    pairs: &[u64],
+    session: &[u64; 128],
+    entries: &[u8],
+    operand: Operand,
+) -> Truth
+    requires { ⌜ length (now pairs) ≡ 1024 ⌝ }
+    ensures { λ r. ⌜ Lone (lent (now (code .entry)) (now (pairs .entry)) (now (session .entry)) (now (entries .entry))) operand r ⌝ }
 {
     if operand.kind != BOOL {
         return Truth::Undef;
     }
-    if absent(rows, table, operand) {
+    if absent(code, pairs, session, entries, operand) {
         return Truth::Undef;
     }
-    tested(among(rows, table, EQUAL, 1, 0, operand))
+    truth::tested(among(code, pairs, session, entries, one_word(1), operand))
 }
 
 // An operand without a value.
 pub fn no_values() -> Operand
-    ensures { λ r. ⌜ Keeps r [] ⌝ }
+    ensures { λ r. ⌜ r ≡ noValues ⌝ }
 {
     Operand {
         kind: 0,
-        pairs: false,
-        attribute: 0,
-        holder: 0,
-        count: 0,
-        low: [0; 8],
-        high: [0; 8],
+        place: CONSTANTS,
+        start: 0,
+        end: 0,
     }
 }
 
-// Whether an operand can keep one more value of a type.
-fn has_room(operand: Operand, kind: u8) -> bool
-    ensures { λ r. ⌜ r ≡ roomFor operand kind ⌝ }
+// The constants of one type in the code from byte `start` up to byte `end`, parted by a byte.
+pub fn constant(kind: u8, start: usize, end: usize) -> Operand
+    ensures { λ r. ⌜ r ≡ operand kind 2 start end ⌝ }
 {
-    if operand.pairs {
-        return false;
-    }
-    if 8 <= operand.count {
-        return false;
-    }
-    if operand.count == 0 {
-        return true;
-    }
-    operand.kind == kind
-}
-
-// An operand with one value more. A ninth, or one of another type, leaves it as it is: a policy with such a set is refused.
-pub fn with_constant(operand: Operand, kind: u8, low: u64, high: u64) -> Operand
-    ensures { λ r. ⌜ Extended operand kind low high r ⌝ }
-{
-    if !has_room(operand, kind) {
-        return operand;
-    }
-    let count = operand.count;
-    let mut lows = operand.low;
-    let mut highs = operand.high;
-    lows[count] = low;
-    highs[count] = high;
     Operand {
         kind,
-        pairs: false,
-        attribute: 0,
-        holder: 0,
-        count: count + 1,
-        low: lows,
-        high: highs,
+        place: CONSTANTS,
+        start,
+        end,
     }
 }
 
-// "A constant is a set of one."
-pub fn constant(kind: u8, low: u64, high: u64) -> Operand
-    ensures { λ r. ⌜ ((a : Atom) → atomValue a ≡ value kind low high → isAtom a ≡ true → Keeps r (a ∷ [])) ⌝ }
+// The type of row k of attributes.
+fn type_of(attributes: &[u64], k: usize) -> u8
+    requires { ⌜ (length (now attributes) ≡ 256) × (k < 32) ⌝ }
+    ensures { λ r. ⌜ r ≡ rowType (now (attributes .entry)) k ⌝ }
 {
-    with_constant(no_values(), kind, low, high)
+    let kind = attributes[8 * k + 1];
+    if kind <= 3 { kind as u8 } else { 0 }
+}
+
+// The values of attribute k: in the session for user, object and admin, in the block for env and connect; none where no attribute has that number.
+pub fn attribute(attributes: &[u64], k: usize) -> Operand
+    requires { ⌜ length (now attributes) ≡ 256 ⌝ }
+    ensures { λ r. ⌜ r ≡ attributeOperand (now (attributes .entry)) k ⌝ }
+{
+    if 32 <= k {
+        return no_values();
+    }
+    let source = attributes[8 * k];
+    if source == 0 {
+        return no_values();
+    }
+    if source <= 3 {
+        return Operand {
+            kind: type_of(attributes, k),
+            place: WORDS,
+            start: k,
+            end: 0,
+        };
+    }
+    Operand {
+        kind: type_of(attributes, k),
+        place: ENTRIES,
+        start: k,
+        end: 0,
+    }
 }

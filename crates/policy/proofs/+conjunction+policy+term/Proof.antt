@@ -20,18 +20,18 @@ use Rattle.policy.proofs.+conjunction+policy+term.Lts-term as term-lts
 use Rattle.policy.proofs.close.Reads as close-reads
 use Rattle.policy.proofs.join.Reads as join-reads
 use Rattle.policy.proofs.term_head.Reads as term-head-reads
-use Rattle.tokens.proofs.token_at.Reads as token-at-reads
+use Rattle.policy.proofs.kind_at.Reads as kind-at-reads
 use Rattle.policy.proofs.+conjunction+policy+term.{statement}
 use Rattle.policy.proofs.+conjunction+policy+term.Tie.{close}
 
 abbrev μ-conjunction : Measures 5 conjunction-kinds.ps ℕ
-μ-conjunction κs a = 3 * (length (a .0 .now) - a .1 .1 .1 .1 .1 .1 .1 .1 .0) + 1
+μ-conjunction κs a = 3 * (length (a .0 .now) - a .1 .1 .1 .1 .1 .0) + 1
 
 abbrev μ-policy : Measures 5 policy-kinds.ps ℕ
-μ-policy κs a = 3 * (length (a .0 .now) - a .1 .1 .1 .1 .1 .1 .1 .1 .0) + 2
+μ-policy κs a = 3 * (length (a .0 .now) - a .1 .1 .1 .1 .1 .0) + 2
 
 abbrev μ-term : Measures 5 term-kinds.ps ℕ
-μ-term κs a = 3 * (length (a .0 .now) - a .1 .1 .1 .1 .1 .1 .1 .1 .0) + 0
+μ-term κs a = 3 * (length (a .0 .now) - a .1 .1 .1 .1 .1 .0) + 0
 
 abbrev conjunction-at : ℕ → In 5 conjunction-kinds.ps
 conjunction-at t =
@@ -54,16 +54,16 @@ abbrev term-below : ℕ → In 5 term-kinds.ps
 term-below t = and 5 term-kinds.ps (falls 5 term-kinds.ps _<_ μ-term t) term.Pre
 
 abbrev conjunction-claims : ℕ → conjunction-lts.Claims
-conjunction-claims t = (term-below t, term.Post, token-at-reads.Asked, token-at-reads.Learnt, conjunction-below t, conjunction.Post, join-reads.Asked, join-reads.Learnt)
+conjunction-claims t = (term-below t, term.Post, kind-at-reads.Asked, kind-at-reads.Learnt, conjunction-below t, conjunction.Post, join-reads.Asked, join-reads.Learnt)
 
 abbrev policy-claims : ℕ → policy-lts.Claims
-policy-claims t = (conjunction-below t, conjunction.Post, token-at-reads.Asked, token-at-reads.Learnt, policy-below t, policy.Post, join-reads.Asked, join-reads.Learnt)
+policy-claims t = (conjunction-below t, conjunction.Post, kind-at-reads.Asked, kind-at-reads.Learnt, policy-below t, policy.Post, join-reads.Asked, join-reads.Learnt)
 
 abbrev term-claims : ℕ → term-lts.Claims
 term-claims t = (term-head-reads.Asked, term-head-reads.Learnt, policy-below t, policy.Post, close-reads.Asked, close-reads.Learnt)
 
 conjunction-term-requires : (t : ℕ) → conjunction-lts.Need-term-requires (conjunction-claims t) (conjunction-at t) conjunction.Post
-conjunction-term-requires t c κs = (omega (arith, c .before .before .before .pre .0), tt)
+conjunction-term-requires t c κs = (omega (arith, c .before .before .before .before .pre .0), c .before .before .before .before .pre .1)
 
 conjunction-enum-told : (t : ℕ) → conjunction-lts.Need-enum-told (conjunction-claims t) (conjunction-at t) conjunction.Post
 conjunction-enum-told t c = search needs
@@ -71,53 +71,29 @@ conjunction-enum-told t c = search needs
 conjunction-enum-known-x : (t : ℕ) → conjunction-lts.Need-enum-known-x (conjunction-claims t) (conjunction-at t) conjunction.Post
 conjunction-enum-known-x t c = search needs
 
-conjunction-token-at-requires : (t : ℕ) → conjunction-lts.Need-token-at-requires (conjunction-claims t) (conjunction-at t) conjunction.Post
-conjunction-token-at-requires t c κs = search needs
+conjunction-kind-at-requires : (t : ℕ) → conjunction-lts.Need-kind-at-requires (conjunction-claims t) (conjunction-at t) conjunction.Post
+conjunction-kind-at-requires t c κs = search needs
+
+conjunction-add-conjunction : (t : ℕ) → conjunction-lts.Need-add-conjunction (conjunction-claims t) (conjunction-at t) conjunction.Post
+conjunction-add-conjunction t c = let w = level-falls (c .before .before .before .before .before .before .before .before .before .before .before .args .code .now) (lending (c .before .before .before .before .before .before .before .before .before .before .before .args .attributes .now) (c .before .before .before .before .before .before .before .before .before .before .before .args .pairs .now) (c .before .before .before .before .before .before .before .before .before .before .before .args .session .now) (c .before .before .before .before .before .before .before .before .before .before .before .args .entries .now)) 1 conjunctions (c .before .before .before .before .before .before .before .before .before .before .before .args .at) (c .before .before .before .before .before .before .term .result) (c .before .before .before .before .before .before .term .ensures) (c .before .before .before .before .x .given .0 .0) (c .before .before .kind-at .result) (c .before .before .before .before .x .given .1) (c .before .before .kind-at .ensures) (c .before .if1 .taken) in omega (arith, w .1)
 
 conjunction-conjunction-requires : (t : ℕ) → conjunction-lts.Need-conjunction-requires (conjunction-claims t) (conjunction-at t) conjunction.Post
-conjunction-conjunction-requires t c κs =
-    let a = c .before .before .before .before .before .before .before .before .before .before .args in
-    let s = a .s .now in
-    let L = lending (a .attributes .now) (a .pairs .now) (a .table .now) (a .user) (a .object) (a .mask) (a .entries .now) in
-    let r = c .before .before .before .before .before .before .term in
-    let x = c .before .before .before .before .x .given in
-    let u = c .before .before .token-at in
-    let w = level-falls s L 1 conjunctions (a .at) (r .result) (r .ensures) (x .0 .0) (u .result) (x .1) (u .ensures) (c .if1 .taken) in
-    (omega (arith, w .0, w .1, c .before .before .before .before .before .before .before .before .before .before .pre .0), tt)
+conjunction-conjunction-requires t c κs = let w = level-falls (c .before .before .before .before .before .before .before .before .before .before .before .args .code .now) (lending (c .before .before .before .before .before .before .before .before .before .before .before .args .attributes .now) (c .before .before .before .before .before .before .before .before .before .before .before .args .pairs .now) (c .before .before .before .before .before .before .before .before .before .before .before .args .session .now) (c .before .before .before .before .before .before .before .before .before .before .before .args .entries .now)) 1 conjunctions (c .before .before .before .before .before .before .before .before .before .before .before .args .at) (c .before .before .before .before .before .before .term .result) (c .before .before .before .before .before .before .term .ensures) (c .before .before .before .before .x .given .0 .0) (c .before .before .kind-at .result) (c .before .before .before .before .x .given .1) (c .before .before .kind-at .ensures) (c .before .if1 .taken) in (omega (arith, w .0, w .1, c .before .before .before .before .before .before .before .before .before .before .before .pre .0), c .before .before .before .before .before .before .before .before .before .before .before .pre .1)
 
 conjunction-join-requires : (t : ℕ) → conjunction-lts.Need-join-requires (conjunction-claims t) (conjunction-at t) conjunction.Post
 conjunction-join-requires t c κs = search needs
 
 conjunction-returns : (t : ℕ) → conjunction-lts.Need-returns (conjunction-claims t) (conjunction-at t) conjunction.Post
-conjunction-returns t c =
-    let a = c .before .before .before .before .before .before .args in
-    let s = a .s .now in
-    let L = lending (a .attributes .now) (a .pairs .now) (a .table .now) (a .user) (a .object) (a .mask) (a .entries .now) in
-    let r = c .before .before .term in
-    level-none s L 1 conjunctions (a .at) (r .result) (r .ensures) (c .enum-told .given .1)
+conjunction-returns t c = level-none (c .before .before .before .before .before .before .before .args .code .now) (lending (c .before .before .before .before .before .before .before .args .attributes .now) (c .before .before .before .before .before .before .before .args .pairs .now) (c .before .before .before .before .before .before .before .args .session .now) (c .before .before .before .before .before .before .before .args .entries .now)) 1 conjunctions (c .before .before .before .before .before .before .before .args .at) (c .before .before .term .result) (c .before .before .term .ensures) (c .enum-told .given .1)
 
 conjunction-returns-2 : (t : ℕ) → conjunction-lts.Need-returns-2 (conjunction-claims t) (conjunction-at t) conjunction.Post
-conjunction-returns-2 t c =
-    let a = c .before .before .before .before .before .before .before .before .before .before .before .before .args in
-    let s = a .s .now in
-    let L = lending (a .attributes .now) (a .pairs .now) (a .table .now) (a .user) (a .object) (a .mask) (a .entries .now) in
-    let r = c .before .before .before .before .before .before .before .before .term in
-    let x = c .before .before .before .before .before .before .x .given in
-    let u = c .before .before .before .before .token-at in
-    level-more s L 1 conjunctions (a .at) (r .result) (r .ensures) (x .0 .0) (u .result) (x .1) (u .ensures) (c .before .conjunction .result) (c .join .result) (c .before .before .if1 .taken) (c .before .conjunction .ensures) (c .join .ensures)
+conjunction-returns-2 t c = level-more (c .before .before .before .before .before .before .before .before .before .before .before .before .before .args .code .now) (lending (c .before .before .before .before .before .before .before .before .before .before .before .before .before .args .attributes .now) (c .before .before .before .before .before .before .before .before .before .before .before .before .before .args .pairs .now) (c .before .before .before .before .before .before .before .before .before .before .before .before .before .args .session .now) (c .before .before .before .before .before .before .before .before .before .before .before .before .before .args .entries .now)) 1 conjunctions (c .before .before .before .before .before .before .before .before .before .before .before .before .before .args .at) (c .before .before .before .before .before .before .before .before .term .result) (c .before .before .before .before .before .before .before .before .term .ensures) (c .before .before .before .before .before .before .x .given .0 .0) (c .before .before .before .before .kind-at .result) (c .before .before .before .before .before .before .x .given .1) (c .before .before .before .before .kind-at .ensures) (c .before .conjunction .result) (c .join .result) (c .before .before .before .if1 .taken) (c .before .conjunction .ensures) (c .join .ensures)
 
 conjunction-returns-3 : (t : ℕ) → conjunction-lts.Need-returns-3 (conjunction-claims t) (conjunction-at t) conjunction.Post
-conjunction-returns-3 t c =
-    let a = c .before .before .before .before .before .before .before .before .before .before .args in
-    let s = a .s .now in
-    let L = lending (a .attributes .now) (a .pairs .now) (a .table .now) (a .user) (a .object) (a .mask) (a .entries .now) in
-    let r = c .before .before .before .before .before .before .term in
-    let x = c .before .before .before .before .x .given in
-    let u = c .before .before .token-at in
-    level-stop s L 1 conjunctions (a .at) (r .result) (r .ensures) (x .0 .0) (u .result) (x .1) (u .ensures) (c .if1 .left)
+conjunction-returns-3 t c = level-stop (c .before .before .before .before .before .before .before .before .before .before .args .code .now) (lending (c .before .before .before .before .before .before .before .before .before .before .args .attributes .now) (c .before .before .before .before .before .before .before .before .before .before .args .pairs .now) (c .before .before .before .before .before .before .before .before .before .before .args .session .now) (c .before .before .before .before .before .before .before .before .before .before .args .entries .now)) 1 conjunctions (c .before .before .before .before .before .before .before .before .before .before .args .at) (c .before .before .before .before .before .term .result) (c .before .before .before .before .before .term .ensures) (c .before .before .before .x .given .0 .0) (c .before .kind-at .result) (c .before .before .before .x .given .1) (c .before .kind-at .ensures) (c .if1 .left)
 
 policy-conjunction-requires : (t : ℕ) → policy-lts.Need-conjunction-requires (policy-claims t) (policy-at t) policy.Post
-policy-conjunction-requires t c κs = (omega (arith, c .before .before .before .pre .0), tt)
+policy-conjunction-requires t c κs = (omega (arith, c .before .before .before .before .pre .0), c .before .before .before .before .pre .1)
 
 policy-enum-told : (t : ℕ) → policy-lts.Need-enum-told (policy-claims t) (policy-at t) policy.Post
 policy-enum-told t c = search needs
@@ -125,53 +101,29 @@ policy-enum-told t c = search needs
 policy-enum-known-x : (t : ℕ) → policy-lts.Need-enum-known-x (policy-claims t) (policy-at t) policy.Post
 policy-enum-known-x t c = search needs
 
-policy-token-at-requires : (t : ℕ) → policy-lts.Need-token-at-requires (policy-claims t) (policy-at t) policy.Post
-policy-token-at-requires t c κs = search needs
+policy-kind-at-requires : (t : ℕ) → policy-lts.Need-kind-at-requires (policy-claims t) (policy-at t) policy.Post
+policy-kind-at-requires t c κs = search needs
+
+policy-add-policy : (t : ℕ) → policy-lts.Need-add-policy (policy-claims t) (policy-at t) policy.Post
+policy-add-policy t c = let w = level-falls (c .before .before .before .before .before .before .before .before .before .before .before .args .code .now) (lending (c .before .before .before .before .before .before .before .before .before .before .before .args .attributes .now) (c .before .before .before .before .before .before .before .before .before .before .before .args .pairs .now) (c .before .before .before .before .before .before .before .before .before .before .before .args .session .now) (c .before .before .before .before .before .before .before .before .before .before .before .args .entries .now)) 2 policies (c .before .before .before .before .before .before .before .before .before .before .before .args .at) (c .before .before .before .before .before .before .conjunction .result) (c .before .before .before .before .before .before .conjunction .ensures) (c .before .before .before .before .x .given .0 .0) (c .before .before .kind-at .result) (c .before .before .before .before .x .given .1) (c .before .before .kind-at .ensures) (c .before .if1 .taken) in omega (arith, w .1)
 
 policy-policy-requires : (t : ℕ) → policy-lts.Need-policy-requires (policy-claims t) (policy-at t) policy.Post
-policy-policy-requires t c κs =
-    let a = c .before .before .before .before .before .before .before .before .before .before .args in
-    let s = a .s .now in
-    let L = lending (a .attributes .now) (a .pairs .now) (a .table .now) (a .user) (a .object) (a .mask) (a .entries .now) in
-    let r = c .before .before .before .before .before .before .conjunction in
-    let x = c .before .before .before .before .x .given in
-    let u = c .before .before .token-at in
-    let w = level-falls s L 2 policies (a .at) (r .result) (r .ensures) (x .0 .0) (u .result) (x .1) (u .ensures) (c .if1 .taken) in
-    (omega (arith, w .0, w .1, c .before .before .before .before .before .before .before .before .before .before .pre .0), tt)
+policy-policy-requires t c κs = let w = level-falls (c .before .before .before .before .before .before .before .before .before .before .before .args .code .now) (lending (c .before .before .before .before .before .before .before .before .before .before .before .args .attributes .now) (c .before .before .before .before .before .before .before .before .before .before .before .args .pairs .now) (c .before .before .before .before .before .before .before .before .before .before .before .args .session .now) (c .before .before .before .before .before .before .before .before .before .before .before .args .entries .now)) 2 policies (c .before .before .before .before .before .before .before .before .before .before .before .args .at) (c .before .before .before .before .before .before .conjunction .result) (c .before .before .before .before .before .before .conjunction .ensures) (c .before .before .before .before .x .given .0 .0) (c .before .before .kind-at .result) (c .before .before .before .before .x .given .1) (c .before .before .kind-at .ensures) (c .before .if1 .taken) in (omega (arith, w .0, w .1, c .before .before .before .before .before .before .before .before .before .before .before .pre .0), c .before .before .before .before .before .before .before .before .before .before .before .pre .1)
 
 policy-join-requires : (t : ℕ) → policy-lts.Need-join-requires (policy-claims t) (policy-at t) policy.Post
 policy-join-requires t c κs = search needs
 
 policy-returns : (t : ℕ) → policy-lts.Need-returns (policy-claims t) (policy-at t) policy.Post
-policy-returns t c =
-    let a = c .before .before .before .before .before .before .args in
-    let s = a .s .now in
-    let L = lending (a .attributes .now) (a .pairs .now) (a .table .now) (a .user) (a .object) (a .mask) (a .entries .now) in
-    let r = c .before .before .conjunction in
-    level-none s L 2 policies (a .at) (r .result) (r .ensures) (c .enum-told .given .1)
+policy-returns t c = level-none (c .before .before .before .before .before .before .before .args .code .now) (lending (c .before .before .before .before .before .before .before .args .attributes .now) (c .before .before .before .before .before .before .before .args .pairs .now) (c .before .before .before .before .before .before .before .args .session .now) (c .before .before .before .before .before .before .before .args .entries .now)) 2 policies (c .before .before .before .before .before .before .before .args .at) (c .before .before .conjunction .result) (c .before .before .conjunction .ensures) (c .enum-told .given .1)
 
 policy-returns-2 : (t : ℕ) → policy-lts.Need-returns-2 (policy-claims t) (policy-at t) policy.Post
-policy-returns-2 t c =
-    let a = c .before .before .before .before .before .before .before .before .before .before .before .before .args in
-    let s = a .s .now in
-    let L = lending (a .attributes .now) (a .pairs .now) (a .table .now) (a .user) (a .object) (a .mask) (a .entries .now) in
-    let r = c .before .before .before .before .before .before .before .before .conjunction in
-    let x = c .before .before .before .before .before .before .x .given in
-    let u = c .before .before .before .before .token-at in
-    level-more s L 2 policies (a .at) (r .result) (r .ensures) (x .0 .0) (u .result) (x .1) (u .ensures) (c .before .policy .result) (c .join .result) (c .before .before .if1 .taken) (c .before .policy .ensures) (c .join .ensures)
+policy-returns-2 t c = level-more (c .before .before .before .before .before .before .before .before .before .before .before .before .before .args .code .now) (lending (c .before .before .before .before .before .before .before .before .before .before .before .before .before .args .attributes .now) (c .before .before .before .before .before .before .before .before .before .before .before .before .before .args .pairs .now) (c .before .before .before .before .before .before .before .before .before .before .before .before .before .args .session .now) (c .before .before .before .before .before .before .before .before .before .before .before .before .before .args .entries .now)) 2 policies (c .before .before .before .before .before .before .before .before .before .before .before .before .before .args .at) (c .before .before .before .before .before .before .before .before .conjunction .result) (c .before .before .before .before .before .before .before .before .conjunction .ensures) (c .before .before .before .before .before .before .x .given .0 .0) (c .before .before .before .before .kind-at .result) (c .before .before .before .before .before .before .x .given .1) (c .before .before .before .before .kind-at .ensures) (c .before .policy .result) (c .join .result) (c .before .before .before .if1 .taken) (c .before .policy .ensures) (c .join .ensures)
 
 policy-returns-3 : (t : ℕ) → policy-lts.Need-returns-3 (policy-claims t) (policy-at t) policy.Post
-policy-returns-3 t c =
-    let a = c .before .before .before .before .before .before .before .before .before .before .args in
-    let s = a .s .now in
-    let L = lending (a .attributes .now) (a .pairs .now) (a .table .now) (a .user) (a .object) (a .mask) (a .entries .now) in
-    let r = c .before .before .before .before .before .before .conjunction in
-    let x = c .before .before .before .before .x .given in
-    let u = c .before .before .token-at in
-    level-stop s L 2 policies (a .at) (r .result) (r .ensures) (x .0 .0) (u .result) (x .1) (u .ensures) (c .if1 .left)
+policy-returns-3 t c = level-stop (c .before .before .before .before .before .before .before .before .before .before .args .code .now) (lending (c .before .before .before .before .before .before .before .before .before .before .args .attributes .now) (c .before .before .before .before .before .before .before .before .before .before .args .pairs .now) (c .before .before .before .before .before .before .before .before .before .before .args .session .now) (c .before .before .before .before .before .before .before .before .before .before .args .entries .now)) 2 policies (c .before .before .before .before .before .before .before .before .before .before .args .at) (c .before .before .before .before .before .conjunction .result) (c .before .before .before .before .before .conjunction .ensures) (c .before .before .before .x .given .0 .0) (c .before .kind-at .result) (c .before .before .before .x .given .1) (c .before .kind-at .ensures) (c .if1 .left)
 
 term-term-head-requires : (t : ℕ) → term-lts.Need-term-head-requires (term-claims t) (term-at t) term.Post
-term-term-head-requires t c κs = search needs
+term-term-head-requires t c κs = c .before .before .before .before .pre .1
 
 term-enum-told : (t : ℕ) → term-lts.Need-enum-told (term-claims t) (term-at t) term.Post
 term-enum-told t c = search needs
@@ -183,43 +135,19 @@ term-enum-known-negated : (t : ℕ) → term-lts.Need-enum-known-negated (term-c
 term-enum-known-negated t c = search needs
 
 term-policy-requires : (t : ℕ) → term-lts.Need-policy-requires (term-claims t) (term-at t) term.Post
-term-policy-requires t c κs =
-    let a = c .before .before .before .before .before .before .before .args in
-    let s = a .s .now in
-    let L = lending (a .attributes .now) (a .pairs .now) (a .table .now) (a .user) (a .object) (a .mask) (a .entries .now) in
-    let h = c .before .before .before .term-head in
-    let x = c .before .negated .given in
-    let w = head-falls s L (a .at) (h .result) (h .ensures) (x .0 .0) (x .0 .1 .0) (x .1) in
-    (omega (arith, w .0, w .1, c .before .before .before .before .before .before .before .pre .0), tt)
+term-policy-requires t c κs = let w = head-falls (c .before .before .before .before .before .before .before .before .args .code .now) (lending (c .before .before .before .before .before .before .before .before .args .attributes .now) (c .before .before .before .before .before .before .before .before .args .pairs .now) (c .before .before .before .before .before .before .before .before .args .session .now) (c .before .before .before .before .before .before .before .before .args .entries .now)) (c .before .before .before .before .before .before .before .before .args .at) (c .before .before .before .term-head .result) (c .before .before .before .term-head .ensures) (c .before .negated .given .0 .0) (c .before .negated .given .0 .1 .0) (c .before .negated .given .1) in (omega (arith, w .0, w .1, c .before .before .before .before .before .before .before .before .pre .0), c .before .before .before .before .before .before .before .before .pre .1)
 
 term-close-requires : (t : ℕ) → term-lts.Need-close-requires (term-claims t) (term-at t) term.Post
 term-close-requires t c κs = search needs
 
 term-returns : (t : ℕ) → term-lts.Need-returns (term-claims t) (term-at t) term.Post
-term-returns t c =
-    let a = c .before .before .before .before .before .before .args in
-    let s = a .s .now in
-    let L = lending (a .attributes .now) (a .pairs .now) (a .table .now) (a .user) (a .object) (a .mask) (a .entries .now) in
-    let h = c .before .before .term-head in
-    head-none s L (a .at) (h .result) (h .ensures) (c .enum-told .given .1)
+term-returns t c = head-none (c .before .before .before .before .before .before .before .args .code .now) (lending (c .before .before .before .before .before .before .before .args .attributes .now) (c .before .before .before .before .before .before .before .args .pairs .now) (c .before .before .before .before .before .before .before .args .session .now) (c .before .before .before .before .before .before .before .args .entries .now)) (c .before .before .before .before .before .before .before .args .at) (c .before .before .term-head .result) (c .before .before .term-head .ensures) (c .enum-told .given .1)
 
 term-returns-2 : (t : ℕ) → term-lts.Need-returns-2 (term-claims t) (term-at t) term.Post
-term-returns-2 t c =
-    let a = c .before .before .before .before .before .before .before .args in
-    let s = a .s .now in
-    let L = lending (a .attributes .now) (a .pairs .now) (a .table .now) (a .user) (a .object) (a .mask) (a .entries .now) in
-    let h = c .before .before .before .term-head in
-    let x = c .before .x .given in
-    head-leaf s L (a .at) (h .result) (h .ensures) (x .0 .0) (x .1)
+term-returns-2 t c = head-leaf (c .before .before .before .before .before .before .before .before .args .code .now) (lending (c .before .before .before .before .before .before .before .before .args .attributes .now) (c .before .before .before .before .before .before .before .before .args .pairs .now) (c .before .before .before .before .before .before .before .before .args .session .now) (c .before .before .before .before .before .before .before .before .args .entries .now)) (c .before .before .before .before .before .before .before .before .args .at) (c .before .before .before .term-head .result) (c .before .before .before .term-head .ensures) (c .before .x .given .0 .0) (c .before .x .given .1)
 
 term-returns-3 : (t : ℕ) → term-lts.Need-returns-3 (term-claims t) (term-at t) term.Post
-term-returns-3 t c =
-    let a = c .before .before .before .before .before .before .before .before .before .args in
-    let s = a .s .now in
-    let L = lending (a .attributes .now) (a .pairs .now) (a .table .now) (a .user) (a .object) (a .mask) (a .entries .now) in
-    let h = c .before .before .before .before .before .term-head in
-    let x = c .before .before .before .negated .given in
-    head-open s L (a .at) (h .result) (h .ensures) (x .0 .0) (x .0 .1 .0) (x .1) (c .before .policy .result) (c .close .result) (c .before .policy .ensures) (c .close .ensures)
+term-returns-3 t c = head-open (c .before .before .before .before .before .before .before .before .before .before .args .code .now) (lending (c .before .before .before .before .before .before .before .before .before .before .args .attributes .now) (c .before .before .before .before .before .before .before .before .before .before .args .pairs .now) (c .before .before .before .before .before .before .before .before .before .before .args .session .now) (c .before .before .before .before .before .before .before .before .before .before .args .entries .now)) (c .before .before .before .before .before .before .before .before .before .before .args .at) (c .before .before .before .before .before .term-head .result) (c .before .before .before .before .before .term-head .ensures) (c .before .before .before .negated .given .0 .0) (c .before .before .before .negated .given .0 .1 .0) (c .before .before .before .negated .given .1) (c .before .policy .result) (c .close .result) (c .before .policy .ensures) (c .close .ensures)
 
 pub +conjunction+policy+term-spec : {M : Type 1} → statement M
 +conjunction+policy+term-spec = close μ-conjunction μ-policy μ-term (λ t. conjunction-lts.spec (conjunction-claims t)
@@ -228,7 +156,8 @@ pub +conjunction+policy+term-spec : {M : Type 1} → statement M
     (conjunction-term-requires t)
     (conjunction-enum-told t)
     (conjunction-enum-known-x t)
-    (conjunction-token-at-requires t)
+    (conjunction-kind-at-requires t)
+    (conjunction-add-conjunction t)
     (conjunction-conjunction-requires t)
     (conjunction-join-requires t)
     (conjunction-returns t)
@@ -240,7 +169,8 @@ pub +conjunction+policy+term-spec : {M : Type 1} → statement M
     (policy-conjunction-requires t)
     (policy-enum-told t)
     (policy-enum-known-x t)
-    (policy-token-at-requires t)
+    (policy-kind-at-requires t)
+    (policy-add-policy t)
     (policy-policy-requires t)
     (policy-join-requires t)
     (policy-returns t)

@@ -1,47 +1,51 @@
-use Rattle.policy.proofs.Parts.{close-none, close-off, close-on}
+use native.Mathlib.Omega.{arith}
+use Rattle.policy.proofs.Parts.{close-none, close-off, close-within, close-on}
 use borrow.Author.Needs.{needs}
 use Rattle.policy.proofs.close.Statement.{statement}
 use Rattle.policy.proofs.close.Tie as tie
 use Rattle.policy.proofs.close.Reads as reads
 use Rattle.policy.proofs.close.Lts as lts
 use Rattle.policy.proofs.closed_part.Reads as closed-part-reads
-use Rattle.tokens.proofs.token_at.Reads as token-at-reads
+use Rattle.policy.proofs.kind_at.Reads as kind-at-reads
 
--- src/lib.rt:132:31
+-- src/lib.rt:208:31
 enum-told : tie.Need-enum-told
 enum-told c = search needs
 
--- src/lib.rt:133:23
+-- src/lib.rt:209:23
 enum-known-r : tie.Need-enum-known-r
 enum-known-r c = search needs
 
--- src/lib.rt:134:17
-token-at-requires : tie.Need-token-at-requires
-token-at-requires c κs = search needs
+-- src/lib.rt:210:17
+kind-at-requires : tie.Need-kind-at-requires
+kind-at-requires c κs = search needs
 
--- src/lib.rt:136:31
+-- src/lib.rt:212:55
+add-closed-part : tie.Need-add-closed-part
+add-closed-part c =
+    let x = c .before .before .before .before .r .given in
+    let w = close-within (c .before .before .before .before .before .before .before .args .code .now) (c .before .before .before .before .before .before .before .args .negated) (c .before .before .before .before .before .before .before .args .r) (x .0 .0) (c .before .before .kind-at .result) (x .1) (c .before .before .kind-at .ensures) (c .before .if1 .taken) in
+    omega (arith, w)
+
+-- src/lib.rt:212:31
 closed-part-requires : tie.Need-closed-part-requires
 closed-part-requires c κs = search needs
 
--- src/lib.rt:128:1
+-- src/lib.rt:204:1
 returns : tie.Need-returns
-returns c = let a = c .before .before .before .args in close-none (a .s .now) (a .negated) (a .r) (c .enum-told .given .1)
+returns c = close-none (c .before .before .before .args .code .now) (c .before .before .before .args .negated) (c .before .before .before .args .r) (c .enum-told .given .1)
 
--- src/lib.rt:128:1
+-- src/lib.rt:204:1
 returns-2 : tie.Need-returns-2
 returns-2 c =
-    let a = c .before .before .before .before .before .before .before .before .args in
     let x = c .before .before .before .before .before .r .given in
-    let t = c .before .before .before .token-at in
-    close-on (a .s .now) (a .negated) (a .r) (x .0 .0) (t .result) (x .1) (t .ensures) (c .closed-part .result) (c .before .if1 .taken) (c .closed-part .ensures)
+    close-on (c .before .before .before .before .before .before .before .before .args .code .now) (c .before .before .before .before .before .before .before .before .args .negated) (c .before .before .before .before .before .before .before .before .args .r) (x .0 .0) (c .before .before .before .kind-at .result) (x .1) (c .before .before .before .kind-at .ensures) (c .closed-part .result) (c .before .before .if1 .taken) (c .closed-part .ensures)
 
--- src/lib.rt:128:1
+-- src/lib.rt:204:1
 returns-3 : tie.Need-returns-3
 returns-3 c =
-    let a = c .before .before .before .before .before .before .before .args in
-    let x = c .before .before .before .before .r .given in
-    let t = c .before .before .token-at in
-    close-off (a .s .now) (a .negated) (a .r) (x .0 .0) (t .result) (x .1) (t .ensures) (c .if1 .left)
+    let x = c .before .before .before .r .given in
+    close-off (c .before .before .before .before .before .before .args .code .now) (c .before .before .before .before .before .before .args .negated) (c .before .before .before .before .before .before .args .r) (x .0 .0) (c .before .kind-at .result) (x .1) (c .before .kind-at .ensures) (c .if1 .left)
 
 pub close-spec : {M : Type 1} → statement M
 close-spec =
@@ -49,7 +53,8 @@ close-spec =
     (tie.spec
     enum-told
     enum-known-r
-    token-at-requires
+    kind-at-requires
+    add-closed-part
     closed-part-requires
     returns
     returns-2

@@ -5,7 +5,7 @@ use Rattle.policy.proofs.not_head.Statement.{statement}
 use Rattle.policy.proofs.not_head.Tie as tie
 use Rattle.policy.proofs.not_head.Reads as reads
 use Rattle.policy.proofs.not_head.Lts as lts
-use Rattle.values.proofs.not.Reads as not-reads
+use Rattle.truth.proofs.not.Reads as not-reads
 
 -- src/lib.rt:87:20
 enum-known-h : tie.Need-enum-known-h

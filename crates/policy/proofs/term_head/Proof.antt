@@ -1,100 +1,64 @@
+use mathlib.Core.Path.{refl}
 use native.Mathlib.Omega.{arith}
+use borrow.Author.Tests.{not-true, not-false}
 use Rattle.policy.specs.Readers.{lending}
-use Rattle.policy.proofs.Heads.{term-not, term-leaf, term-open, term-simple}
+use Rattle.policy.proofs.Heads.{here, term-not, term-plain, term-simple}
 use borrow.Author.Needs.{needs}
 use Rattle.policy.proofs.term_head.Statement.{statement}
 use Rattle.policy.proofs.term_head.Tie as tie
 use Rattle.policy.proofs.term_head.Reads as reads
 use Rattle.policy.proofs.term_head.Lts as lts
-use Rattle.policy.proofs.comparison_head.Reads as comparison-head-reads
-use Rattle.policy.proofs.not_head.Reads as not-head-reads
+use Rattle.policy.proofs.kind_at.Reads as kind-at-reads
 use Rattle.policy.proofs.simple_head.Reads as simple-head-reads
-use Rattle.tokens.proofs.token_at.Reads as token-at-reads
+use Rattle.policy.proofs.not_head.Reads as not-head-reads
+use Rattle.policy.proofs.var_at.Reads as var-at-reads
+use Rattle.policy.proofs.var_head.Reads as var-head-reads
 
--- src/lib.rt:366:9
-token-at-requires : tie.Need-token-at-requires
-token-at-requires c κs = search needs
+kind-at-requires : tie.Need-kind-at-requires
+kind-at-requires c κs = search needs
 
--- src/lib.rt:368:25
+add-n : tie.Need-add-n
+add-n c = let w = here (c .before .before .before .before .before .before .args .code .now) (lending (c .before .before .before .before .before .before .args .attributes .now) (c .before .before .before .before .before .before .args .pairs .now) (c .before .before .before .before .before .before .args .session .now) (c .before .before .before .before .before .before .args .entries .now)) (c .before .before .before .before .before .before .args .at) (c .before .kind-at .result) (c .before .kind-at .ensures) (omega (arith, c .if1 .taken)) in omega (arith, w)
+
+kind-at-requires-2 : tie.Need-kind-at-requires-2
+kind-at-requires-2 c κs = search needs
+
 simple-head-requires : tie.Need-simple-head-requires
-simple-head-requires c κs = search needs
+simple-head-requires c κs = (c .before .before .before .before .before .before .before .pre .0, c .before .before .before .before .before .before .before .pre .1, c .kind-at2 .ensures)
 
--- src/lib.rt:368:9
 not-head-requires : tie.Need-not-head-requires
 not-head-requires c κs = search needs
 
--- src/lib.rt:368:9
 returns : tie.Need-returns
-returns c =
-    let a = c .before .before .before .before .before .before .before .before .args in
-    let s = a .s .now in
-    let L = lending (a .attributes .now) (a .pairs .now) (a .table .now) (a .user) (a .object) (a .mask) (a .entries .now) in
-    let t = c .before .before .before .before .token-at in
-    term-not s L (a .at) (t .result) (t .ensures) (c .before .simple-head .result) (c .not-head .result) (c .before .before .if1 .taken) (c .before .simple-head .ensures) (c .not-head .ensures)
+returns c = term-not (c .before .before .before .before .before .before .before .before .before .args .code .now) (lending (c .before .before .before .before .before .before .before .before .before .args .attributes .now) (c .before .before .before .before .before .before .before .before .before .args .pairs .now) (c .before .before .before .before .before .before .before .before .before .args .session .now) (c .before .before .before .before .before .before .before .before .before .args .entries .now)) (c .before .before .before .before .before .before .before .before .before .args .at) (c .before .before .before .before .kind-at .result) (c .before .before .before .before .kind-at .ensures) (c .before .simple-head .result) (c .not-head .result) (c .before .before .before .if1 .taken) (c .before .simple-head .ensures) (c .not-head .ensures)
 
--- src/lib.rt:370:11
-comparison-head-requires : tie.Need-comparison-head-requires
-comparison-head-requires c κs = search needs
+var-at-requires : tie.Need-var-at-requires
+var-at-requires c κs = (c .before .before .before .before .before .before .pre .0, c .before .kind-at .ensures)
 
--- src/lib.rt:371:20
-enum-known-x : tie.Need-enum-known-x
-enum-known-x c = search needs
+var-head-requires : tie.Need-var-head-requires
+var-head-requires c κs = search needs
 
--- src/lib.rt:372:29
-enum-told : tie.Need-enum-told
-enum-told c = search needs
-
--- src/lib.rt:373:26
-enum-told-2 : tie.Need-enum-told-2
-enum-told-2 c = search needs
-
--- src/lib.rt:373:26
-simple-head-requires-2 : tie.Need-simple-head-requires-2
-simple-head-requires-2 c κs = search needs
-
--- src/lib.rt:353:1
 returns-2 : tie.Need-returns-2
-returns-2 c =
-    let a = c .before .before .before .before .before .before .before .before .before .before .args in
-    let s = a .s .now in
-    let L = lending (a .attributes .now) (a .pairs .now) (a .table .now) (a .user) (a .object) (a .mask) (a .entries .now) in
-    let t = c .before .before .before .before .before .before .token-at in
-    let h = c .before .before .before .comparison-head in
-    term-leaf s L (a .at) (t .result) (t .ensures) (c .before .before .before .before .if1 .left) (h .result) (h .ensures) (c .before .x .given .0 .0) (c .before .x .given .1)
+returns-2 c = term-plain (c .before .before .before .before .before .before .before .before .before .args .code .now) (lending (c .before .before .before .before .before .before .before .before .before .args .attributes .now) (c .before .before .before .before .before .before .before .before .before .args .pairs .now) (c .before .before .before .before .before .before .before .before .before .args .session .now) (c .before .before .before .before .before .before .before .before .before .args .entries .now)) (c .before .before .before .before .before .before .before .before .before .args .at) (c .before .before .before .before .kind-at .result) (c .before .before .before .before .kind-at .ensures) (c .before .before .before .if1 .left) (c .var-head .result) (c .var-head .ensures (c .before .before .before .before .before .before .before .before .before .args .at) (c .before .before .var-at .ensures) (c .before .if2 .taken))
 
--- src/lib.rt:353:1
+simple-head-requires-2 : tie.Need-simple-head-requires-2
+simple-head-requires-2 c κs = (c .before .before .before .before .before .before .before .before .pre .0, c .before .before .before .before .before .before .before .before .pre .1, c .before .before .before .kind-at .ensures)
+
 returns-3 : tie.Need-returns-3
-returns-3 c =
-    let a = c .before .before .before .before .before .before .before .before .before .args in
-    let s = a .s .now in
-    let L = lending (a .attributes .now) (a .pairs .now) (a .table .now) (a .user) (a .object) (a .mask) (a .entries .now) in
-    let t = c .before .before .before .before .before .token-at in
-    let h = c .before .before .comparison-head in
-    term-open s L (a .at) (t .result) (t .ensures) (c .before .before .before .if1 .left) (h .result) (h .ensures) (c .enum-told .given .0 .0) (c .enum-told .given .0 .1 .0) (c .enum-told .given .1)
-
--- src/lib.rt:353:1
-returns-4 : tie.Need-returns-4
-returns-4 c =
-    let a = c .before .before .before .before .before .before .before .before .before .before .args in
-    let s = a .s .now in
-    let L = lending (a .attributes .now) (a .pairs .now) (a .table .now) (a .user) (a .object) (a .mask) (a .entries .now) in
-    let t = c .before .before .before .before .before .before .token-at in
-    let h = c .before .before .before .comparison-head in
-    term-simple s L (a .at) (t .result) (t .ensures) (c .before .before .before .before .if1 .left) (h .result) (h .ensures) (c .simple-head2 .result) (c .before .enum-told2 .given .1) (c .simple-head2 .ensures)
+returns-3 c = term-simple (c .before .before .before .before .before .before .before .before .before .args .code .now) (lending (c .before .before .before .before .before .before .before .before .before .args .attributes .now) (c .before .before .before .before .before .before .before .before .before .args .pairs .now) (c .before .before .before .before .before .before .before .before .before .args .session .now) (c .before .before .before .before .before .before .before .before .before .args .entries .now)) (c .before .before .before .before .before .before .before .before .before .args .at) (c .before .before .before .before .kind-at .result) (c .before .before .before .before .kind-at .ensures) (c .before .before .before .if1 .left) (c .simple-head2 .result) (c .before .before .var-at .result) (c .before .before .var-at .ensures) (c .before .if2 .left) (c .simple-head2 .ensures)
 
 pub term-head-spec : {M : Type 1} → statement M
 term-head-spec =
     tie.close
     (tie.spec
-    token-at-requires
+    kind-at-requires
+    add-n
+    kind-at-requires-2
     simple-head-requires
     not-head-requires
     returns
-    comparison-head-requires
-    enum-known-x
-    enum-told
-    enum-told-2
-    simple-head-requires-2
+    var-at-requires
+    var-head-requires
     returns-2
-    returns-3
-    returns-4)
+    simple-head-requires-2
+    returns-3)

@@ -1,5 +1,5 @@
 -- `sets::gather` meets its contract: the sum has the pairs of the groups that the walk has passed. Assumes nothing.
-use mathlib.Core.Path.{_≡_, sym, ap, ap₂, _∙_}
+use mathlib.Core.Path.{_≡_, sym, ap, _∙_}
 use mathlib.Core.Bool.{Bool, _&&_, _||_, or-false}
 use Prim.Native.Nat.{ℕ, _<_}
 use lib.ListN.{getD}

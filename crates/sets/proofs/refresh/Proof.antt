@@ -1,5 +1,5 @@
 -- `sets::refresh` meets its contract: the marks of the sets that changed are counted. Assumes nothing.
-use mathlib.Core.Path.{_≡_, sym, ap, _∙_}
+use mathlib.Core.Path.{ap, _∙_}
 use Prim.Native.Nat.{ℕ, _*_}
 use Rattle.bits.specs.Bits.{member, countBelow}
 use Rattle.sets.proofs.Refreshing.{refreshed}

@@ -1,6 +1,5 @@
 -- `sets::rewrite` meets its contract: word by word. Assumes nothing.
-use mathlib.Core.Path.{_≡_, sym, _∙_}
-use Prim.Native.Nat.{ℕ, _<_}
+use mathlib.Core.Path.{sym, _∙_}
 use Rattle.bits.specs.Bits.{member}
 use Rattle.sets.proofs.Telling.{copied, differ-same, or-swap}
 use borrow.Author.Needs.{needs}

@@ -1,6 +1,5 @@
 -- `sets::rewrite_below` meets its contract: one set, or the groups and then the other holders. Assumes nothing.
-use mathlib.Core.Path.{_≡_, sym, _∙_, subst}
-use Prim.Native.Nat.{ℕ}
+use mathlib.Core.Path.{subst}
 use Rattle.ties.specs.TieArrays.{Marks}
 use Rattle.sets.proofs.Refreshing.{rewritten-alone, rewritten}
 use borrow.Author.Needs.{needs}

@@ -1,6 +1,6 @@
 -- `sets::settle_groups` meets its contract: the groups that the walk has passed are settled. Assumes nothing.
 use mathlib.Core.Path.{_≡_, refl, sym, ap, _∙_}
-use mathlib.Core.Bool.{true, false}
+use mathlib.Core.Bool.{false}
 use Prim.Native.Nat.{ℕ, _<_, _*_}
 use lib.ListN.{length}
 use borrow.Author.Tests.{not-false}

@@ -4,11 +4,11 @@ use mathlib.Core.Path.{_≡_, refl, sym, ap, _∙_}
 use mathlib.Core.Bool.{Bool, true, false}
 use mathlib.Core.Option.{none}
 use native.Mathlib.Omega.{arith}
-use Rattle.model.specs.Atoms.{readInt, readAtom}
-use Rattle.text.specs.declared.Packed.{Packed}
-use Rattle.text.specs.Codes.{boolCode}
+use Rattle.model.specs.Atoms.{readInt}
+use Rattle.codes.specs.Codes.{boolCode}
+use Rattle.text.specs.declared.Words.{Words}
 use Rattle.text.specs.Parts.{inside}
-use Rattle.text.specs.Values.{value, truthBit, codedAtom}
+use Rattle.text.specs.Values.{words, value, truthBit}
 use Rattle.text.proofs.Values.{read-int, no-int, read-str, read-bool, read-none, inside-length}
 use borrow.Author.Needs.{needs}
 use Rattle.text.proofs.atom_of.Statement.{statement}
@@ -25,13 +25,16 @@ int-of-requires c κs = search needs
 enum-known-i : tie.Need-enum-known-i
 enum-known-i c = search needs
 
-cast-t7 : tie.Need-cast-t7
-cast-t7 c = search needs
+cast-single : tie.Need-cast-single
+cast-single c = search needs
+
+single-requires : tie.Need-single-requires
+single-requires c κs = search needs
 
 returns : tie.Need-returns
 returns c =
-    let s = c .before .before .before .before .before .args .s .now in
-    sym (read-int s (c .before .i .given .0 .0) (sym (c .before .before .before .int-of .ensures) ∙ c .before .i .given .1))
+    let s = c .before .before .before .before .before .before .args .s .now in
+    c .single .ensures ∙ sym (read-int s (c .before .before .i .given .0 .0) (sym (c .before .before .before .before .int-of .ensures) ∙ c .before .before .i .given .1))
 
 enum-told : tie.Need-enum-told
 enum-told c = search needs
@@ -42,17 +45,17 @@ is-str-requires c κs = search needs
 sub-e : tie.Need-sub-e
 sub-e c = omega (arith, c .before .is-str .ensures .long (c .if1 .taken))
 
-sub-pack : tie.Need-sub-pack
-sub-pack c = omega (arith, c .before .is-str .ensures .long (c .if1 .taken))
+sub-words-of : tie.Need-sub-words-of
+sub-words-of c = omega (arith, c .before .is-str .ensures .long (c .if1 .taken))
 
-part-pack-start : tie.Need-part-pack-start
-part-pack-start c = omega (arith, c .before .is-str .ensures .long (c .if1 .taken))
+part-words-of-start : tie.Need-part-words-of-start
+part-words-of-start c = omega (arith, c .before .is-str .ensures .long (c .if1 .taken))
 
-part-pack-end : tie.Need-part-pack-end
-part-pack-end c = search needs
+part-words-of-end : tie.Need-part-words-of-end
+part-words-of-end c = search needs
 
-pack-requires : tie.Need-pack-requires
-pack-requires c κs =
+words-of-requires : tie.Need-words-of-requires
+words-of-requires c κs =
     let s = c .before .before .before .before .before .before .before .args .s .now in
     omega (arith, inside-length s (c .before .before .is-str .ensures) (c .before .if1 .taken))
 
@@ -60,16 +63,19 @@ returns-2 : tie.Need-returns-2
 returns-2 c =
     let s = c .before .before .before .before .before .before .before .before .args .s .now in
     let i : readInt s ≡ none = no-int s (sym (c .before .before .before .before .before .before .int-of .ensures) ∙ c .before .before .before .before .enum-told .given .1) in
-    ap (λ (p : Packed). value 2 (p .low) (p .high)) (c .pack .ensures) ∙ sym (read-str s (inside s) i (c .before .before .before .is-str .ensures .text (c .before .before .if1 .taken)))
+    ap (value 2) (c .words-of .ensures) ∙ sym (read-str s (inside s) i (c .before .before .before .is-str .ensures .text (c .before .before .if1 .taken)))
 
 bool-of-requires : tie.Need-bool-of-requires
 bool-of-requires c κs = search needs
 
+single-requires-2 : tie.Need-single-requires-2
+single-requires-2 c κs = search needs
+
 returns-3 : tie.Need-returns-3
 returns-3 c =
-    let s = c .before .before .before .before .before .before .before .before .args .s .now in
-    let i : readInt s ≡ none = no-int s (sym (c .before .before .before .before .before .before .int-of .ensures) ∙ c .before .before .before .before .enum-told .given .1) in
-    sym (read-none s i (c .before .before .before .is-str .ensures .other (c .before .before .if1 .left)) (sym (c .if2 .taken) ∙ c .before .bool-of .ensures))
+    let s = c .before .before .before .before .before .before .before .before .before .args .s .now in
+    let i : readInt s ≡ none = no-int s (sym (c .before .before .before .before .before .before .before .int-of .ensures) ∙ c .before .before .before .before .before .enum-told .given .1) in
+    c .single2 .ensures ∙ sym (read-none s i (c .before .before .before .before .is-str .ensures .other (c .before .before .before .if1 .left)) (sym (c .before .if2 .taken) ∙ c .before .before .bool-of .ensures))
 
 sub-wide : tie.Need-sub-wide
 sub-wide c = search needs
@@ -77,12 +83,15 @@ sub-wide c = search needs
 wide-requires : tie.Need-wide-requires
 wide-requires c κs = search needs
 
+single-requires-3 : tie.Need-single-requires-3
+single-requires-3 c κs = search needs
+
 returns-4 : tie.Need-returns-4
 returns-4 c =
-    let s = c .before .before .before .before .before .before .before .before .before .args .s .now in
-    let i : readInt s ≡ none = no-int s (sym (c .before .before .before .before .before .before .before .int-of .ensures) ∙ c .before .before .before .before .before .enum-told .given .1) in
-    let (t, n, e) = read-bool s i (c .before .before .before .before .is-str .ensures .other (c .before .before .before .if1 .left)) (c .before .before .bool-of .result) (c .before .before .bool-of .ensures) (c .before .if2 .left) in
-    ap (λ (w : ℕ). value 3 w 0) (c .wide .ensures ∙ bit t n) ∙ sym e
+    let s = c .before .before .before .before .before .before .before .before .before .before .args .s .now in
+    let i : readInt s ≡ none = no-int s (sym (c .before .before .before .before .before .before .before .before .int-of .ensures) ∙ c .before .before .before .before .before .before .enum-told .given .1) in
+    let (t, n, e) = read-bool s i (c .before .before .before .before .before .is-str .ensures .other (c .before .before .before .before .if1 .left)) (c .before .before .before .bool-of .result) (c .before .before .before .bool-of .ensures) (c .before .before .if2 .left) in
+    c .single3 .ensures ∙ ap (λ (w : ℕ). value 3 (words w 0 0)) (c .before .wide .ensures ∙ bit t n) ∙ sym e
 
 pub atom-of-spec : {M : Type 1} → statement M
 atom-of-spec =
@@ -90,18 +99,21 @@ atom-of-spec =
     (tie.spec
     int-of-requires
     enum-known-i
-    cast-t7
+    cast-single
+    single-requires
     returns
     enum-told
     is-str-requires
     sub-e
-    sub-pack
-    part-pack-start
-    part-pack-end
-    pack-requires
+    sub-words-of
+    part-words-of-start
+    part-words-of-end
+    words-of-requires
     returns-2
     bool-of-requires
+    single-requires-2
     returns-3
     sub-wide
     wide-requires
+    single-requires-3
     returns-4)

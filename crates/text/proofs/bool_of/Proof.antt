@@ -6,8 +6,9 @@ use Rattle.model.specs.Notation.{if_then_else_}
 use Rattle.model.specs.Bytes.{Bytes, same}
 use Rattle.model.specs.Atoms.{boolWord, readBool}
 use Rattle.model.proofs.Words.{bools}
-use Rattle.text.specs.Codes.{boolNumber, boolCode}
-use Rattle.text.proofs.Codes.{selected, coded-one-of}
+use Rattle.codes.specs.Codes.{boolCode}
+use Rattle.text.specs.Codes.{boolNumber}
+use Rattle.codes.proofs.Codes.{selected, coded-one-of}
 use Rattle.text.proofs.bool_of.Statement.{statement}
 use Rattle.text.proofs.bool_of.Tie as tie
 

@@ -4,8 +4,9 @@ use mathlib.Core.Path.{_≡_, refl, sym, ap, _∙_}
 use Rattle.model.specs.Notation.{if_then_else_}
 use Rattle.model.specs.Bytes.{Bytes, same}
 use Rattle.model.specs.Keys.{Key, keyWord, keys}
-use Rattle.text.specs.Codes.{keyCode, keyNumber}
-use Rattle.text.proofs.Codes.{selected, coded-one-of}
+use Rattle.codes.specs.Codes.{keyCode}
+use Rattle.text.specs.Codes.{keyNumber}
+use Rattle.codes.proofs.Codes.{selected, coded-one-of}
 use Rattle.text.proofs.key_of.Statement.{statement}
 use Rattle.text.proofs.key_of.Tie as tie
 

@@ -4,8 +4,9 @@ use mathlib.Core.Path.{_≡_, refl, sym, ap, _∙_}
 use Rattle.model.specs.Notation.{if_then_else_}
 use Rattle.model.specs.Bytes.{Bytes, same}
 use Rattle.model.specs.Attributes.{AtomType, typeWord, types}
-use Rattle.text.specs.Codes.{typeNumber, typeCode}
-use Rattle.text.proofs.Codes.{selected, coded-one-of}
+use Rattle.codes.specs.Codes.{typeCode}
+use Rattle.text.specs.Codes.{typeNumber}
+use Rattle.codes.proofs.Codes.{selected, coded-one-of}
 use Rattle.text.proofs.type_of.Statement.{statement}
 use Rattle.text.proofs.type_of.Tie as tie
 

@@ -1,61 +1,74 @@
--- `ties::drop_groups` meets its contract: after q slots the groups of those are out. Assumes nothing.
+-- `ties::drop_groups` meets its contract: the groups of the slots that the walk has passed are out. Assumes nothing.
 use mathlib.Core.Path.{_≡_, refl, sym, ap, _∙_}
 use mathlib.Core.Bool.{Bool, _&&_, not, and-true}
-use Prim.Native.Nat.{ℕ, _≤_, _-_}
+use Prim.Native.Nat.{ℕ}
 use lib.Dec.{eqb}
 use lib.ListN.{length, getD}
-use Rattle.bits.specs.Bits.{member, anyBelow}
-use Rattle.bits.proofs.Counts.{any-more}
-use Rattle.ties.specs.TieArrays.{inUse, isGroup}
+use Rattle.bits.specs.Bits.{bit, member, anyBelow, countBelow}
+use Rattle.bits.proofs.Walks.{any-left, fewer-left, none-left}
+use Rattle.ties.specs.TieArrays.{inUse, groupOf}
 use Rattle.ties.proofs.Masks.{drop-both}
-use Rattle.ties.proofs.drop_groups.Statement.{statement}
 use borrow.Author.Needs.{needs}
 use native.Mathlib.Omega.{arith}
+use Rattle.ties.proofs.drop_groups.Statement.{statement}
 use Rattle.ties.proofs.drop_groups.Tie as tie
 
 abbrev Inv-loop : tie.InvT-loop
-Inv-loop set₀ slots n q₀ set q =
-    (q ≤ 64) × (length set ≡ length set₀) × ((k : ℕ) → member set k ≡ (member set₀ k && not (anyBelow q (λ q. inUse n slots q && eqb (getD slots q 0) k))))
+Inv-loop set₀ slots m n left₀ set left =
+    (length set ≡ length set₀)
+    × ((k : ℕ) → (member set k && not (groupOf n slots left k)) ≡ (member set₀ k && not (groupOf n slots m k)))
 
 abbrev μ-loop : tie.MeasureT-loop
-μ-loop set₀ slots n q₀ set q = 64 - q
+μ-loop set₀ slots m n left₀ set left = countBelow 64 (bit left)
 
 loop-holds : tie.Need-loop-holds Inv-loop μ-loop
-unfolding anyBelow
-loop-holds c = (omega arith, refl, λ k. sym (and-true _))
+loop-holds c = (refl, λ k. refl)
+
+lowest-requires : tie.Need-lowest-requires Inv-loop μ-loop
+lowest-requires c κs = search needs
 
 drop-group-requires : tie.Need-drop-group-requires Inv-loop μ-loop
 drop-group-requires c κs =
-    let head = c .before .before in
-    omega (arith, head .loop .inv .1, c .before .before .before .before .before .pre .0, c .before .before .before .before .before .pre .1, c .before .loop-test .taken)
+    let start = c .before .before .before .before .before .before in
+    omega (arith, c .before .lowest .ensures .held (c .before .before .loop-test .taken), c .before .before .before .loop .inv .0, start .pre .0, start .pre .1)
 
-add-q : tie.Need-add-q Inv-loop μ-loop
-add-q c = search needs
+without-requires : tie.Need-without-requires Inv-loop μ-loop
+without-requires c κs = c .before .before .before .before .lowest .ensures .held (c .before .before .before .before .before .loop-test .taken) .0
 
 loop-less : tie.Need-loop-less Inv-loop μ-loop
-loop-less c = search needs
+loop-less c =
+    let held = c .before .before .before .before .before .lowest .ensures .held (c .before .before .before .before .before .before .loop-test .taken) in
+    fewer-left (c .before .before .before .before .before .before .before .loop .left) (c .without .result) (c .before .before .before .before .before .lowest .result) (held .1) (c .without .ensures) (held .0)
 
 loop-again : tie.Need-loop-again Inv-loop μ-loop
+unfolding groupOf
 loop-again c =
-    let head = c .before .before .before .before .before in
-    let start = c .before .before .before .before .before .before .before .before in
+    let head = c .before .before .before .before .before .before .before in
+    let start = c .before .before .before .before .before .before .before .before .before .before in
     let slots = start .args .slots .now in
-    let n = start .args .n in
-    let q = head .loop .q in (
-      omega arith,
-      c .before .before .drop-group .kept .0 ∙ head .loop .inv .1,
+    let q = c .before .before .before .before .before .lowest .result in
+    let held = c .before .before .before .before .before .lowest .ensures .held (c .before .before .before .before .before .before .loop-test .taken) in
+    let dropped = c .before .before .before .drop-group in (
+      dropped .kept .0 ∙ head .loop .inv .0,
       λ k.
-          let f : ℕ → Bool = λ q. inUse n slots q && eqb (getD slots q 0) k in
-          c .before .before .drop-group .ensures k ∙ ap (λ (b : Bool). b && not (f q)) (head .loop .inv .2 k) ∙ drop-both (member (start .args .set .now) k) (anyBelow q f) (f q)
-          ∙ ap (λ (b : Bool). member (start .args .set .now) k && not b) (sym (any-more q f)),
+          let f : ℕ → Bool = λ q. inUse (start .args .n) slots q && eqb (getD slots q 0) k in
+          let rest : Bool = anyBelow 64 (λ q. bit (c .without .result) q && f q) in
+          ap (λ (b : Bool). b && not rest) (dropped .ensures k) ∙ drop-both (member (head .loop .set) k) (f q) rest
+          ∙ ap (λ (b : Bool). member (head .loop .set) k && not b) (sym (any-left (head .loop .left) (c .without .result) q (held .1) (c .without .ensures) 64 f (held .0)))
+          ∙ head .loop .inv .1 k,
     )
 
 same-length : tie.Need-same-length Inv-loop μ-loop
-same-length c = c .before .loop .inv .1
+same-length c = c .before .loop .inv .0
 
 returns : tie.Need-returns Inv-loop μ-loop
-unfolding isGroup
-returns c k = let e : c .before .loop .q ≡ 64 = omega arith in rw e at (c .before .loop .inv .2 k)
+unfolding groupOf
+returns c k =
+    let head = c .before in
+    let start = c .before .before .before .before in
+    let f : ℕ → Bool = λ q. inUse (start .args .n) (start .args .slots .now) q && eqb (getD (start .args .slots .now) q 0) k in
+    sym (ap (λ (b : Bool). member (head .loop .set) k && not b) (none-left (head .loop .left) 64 f (c .loop-test .left)) ∙ and-true (member (head .loop .set) k))
+    ∙ head .loop .inv .1 k
 
 pub drop-groups-spec : {M : Type 1} → statement M
 drop-groups-spec =
@@ -64,8 +77,9 @@ drop-groups-spec =
     Inv-loop
     μ-loop
     loop-holds
+    lowest-requires
     drop-group-requires
-    add-q
+    without-requires
     loop-less
     loop-again
     same-length

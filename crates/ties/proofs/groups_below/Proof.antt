@@ -5,7 +5,7 @@ use Prim.Native.Nat.{ℕ, _<_, _-_, _^_}
 use Rattle.bits.specs.Bits.{bit, countBelow}
 use Rattle.bits.proofs.Counts.{count-below-le}
 use Rattle.ties.specs.TieArrays.{Under}
-use Rattle.ties.proofs.Widening.{Grows, grows-more, Widened, none-grows, widened-grows, none-sound, widened-sound, marks}
+use Rattle.ties.proofs.Widening.{grows-more, Widened, widened-grows, none-sound, widened-sound, marks}
 use Rattle.ties.proofs.groups_below.Statement.{statement}
 use borrow.Author.Needs.{needs}
 use native.Mathlib.Omega.{arith}
@@ -13,7 +13,7 @@ use Rattle.ties.proofs.groups_below.Tie as tie
 
 abbrev Inv-loop : tie.InvT-loop
 Inv-loop ups slots e m₀ next₀ m next =
-    (m < 2 ^ 64) × (next < 2 ^ 64) × Grows m next × ((q : ℕ) → q < 64 → bit m q ≡ true → Under ups slots e q) × Widened ups slots e m next
+    (m < 2 ^ 64) × (next < 2 ^ 64) × ((q : ℕ) → q < 64 → bit m q ≡ true → Under ups slots e q) × Widened ups slots e m next
 
 abbrev μ-loop : tie.MeasureT-loop
 μ-loop ups slots e m₀ next₀ m next = 64 - countBelow 64 (bit m)
@@ -26,7 +26,7 @@ loop-holds c =
     let start = c .before .before .before in
     let ups = start .args .ups .now in
     let slots = start .args .slots .now in
-    (omega arith, c .widened .ok, none-grows ups slots (start .args .e) (c .widened .result), none-sound ups slots (start .args .e), c .widened .ensures)
+    (omega arith, c .widened .ok, none-sound ups slots (start .args .e), c .widened .ensures)
 
 widened-requires-2 : tie.Need-widened-requires-2 Inv-loop μ-loop
 widened-requires-2 c κs = search needs
@@ -34,7 +34,9 @@ widened-requires-2 c κs = search needs
 loop-less : tie.Need-loop-less Inv-loop μ-loop
 loop-less c =
     let head = c .before .before in
-    let more = grows-more (head .loop .m) (head .loop .next) (head .loop .inv .0) (head .loop .inv .1) (head .loop .inv .2) (c .before .loop-test .taken) in
+    let start = c .before .before .before .before .before .before in
+    let grows = widened-grows (start .args .ups .now) (start .args .slots .now) (start .args .e) (head .loop .m) (head .loop .next) (head .loop .inv .3) in
+    let more = grows-more (head .loop .m) (head .loop .next) (head .loop .inv .0) (head .loop .inv .1) grows (c .before .loop-test .taken) in
     omega (arith, more, count-below-le 64 (bit (head .loop .next)))
 
 loop-again : tie.Need-loop-again Inv-loop μ-loop
@@ -49,8 +51,7 @@ loop-again c =
     let inv = head .loop .inv in (
       inv .1,
       c .widened2 .ok,
-      widened-grows ups slots e m next (c .widened2 .result) (inv .2) (inv .4) (c .widened2 .ensures),
-      widened-sound ups slots e m next (inv .3) (inv .4),
+      widened-sound ups slots e m next (inv .2) (inv .3),
       c .widened2 .ensures,
     )
 
@@ -58,7 +59,7 @@ returns : tie.Need-returns Inv-loop μ-loop
 returns c =
     let head = c .before in
     let start = c .before .before .before .before .before in
-    marks (start .args .ups .now) (start .args .slots .now) (start .args .e) (head .loop .m) (head .loop .next) (c .loop-test .left) (head .loop .inv .3) (head .loop .inv .4)
+    marks (start .args .ups .now) (start .args .slots .now) (start .args .e) (head .loop .m) (head .loop .next) (c .loop-test .left) (head .loop .inv .2) (head .loop .inv .3)
 
 pub groups-below-spec : {M : Type 1} → statement M
 groups-below-spec =

@@ -4,8 +4,8 @@ use mathlib.Core.Path.{_≡_, refl, sym, ap, _∙_}
 use Rattle.model.specs.Notation.{if_then_else_}
 use Rattle.model.specs.Bytes.{Bytes, bytes, same}
 use Rattle.model.specs.Tokens.{spelling, capitals}
-use Rattle.text.proofs.Codes.{selected, coded-one-of}
-use Rattle.tokens.specs.Codes.{kindOf}
+use Rattle.codes.proofs.Codes.{selected, coded-one-of}
+use Rattle.codes.specs.Codes.{kindOf}
 use Rattle.tokens.specs.Reading.{capitalKind}
 use Rattle.tokens.proofs.capital_of.Statement.{statement}
 use Rattle.tokens.proofs.capital_of.Tie as tie
@@ -64,12 +64,12 @@ returns c =
     let w = c .before .before .before .before .before .before .before .before .before .before .before .before .before .before .before .before .before .args .w .now in
     let when : Bytes → ℕ → ℕ → ℕ = λ u n k. if same u w then n else k in
     let e : c .choose8 .result ≡ selected spelling kindOf capitals w =
-    c .choose8 .ensures ∙ ap (when (bytes "AND") 7) (
-    c .before .before .choose7 .ensures ∙ ap (when (bytes "OR") 8) (
-    c .before .before .before .before .choose6 .ensures ∙ ap (when (bytes "NOT") 9) (
-    c .before .before .before .before .before .before .choose5 .ensures ∙ ap (when (bytes "TRUE") 12) (
-    c .before .before .before .before .before .before .before .before .choose4 .ensures ∙ ap (when (bytes "FALSE") 10) (
-    c .before .before .before .before .before .before .before .before .before .before .choose3 .ensures ∙ ap (when (bytes "UNDEF") 11) (
+    c .choose8 .ensures ∙ ap (when (bytes "AND") 10) (
+    c .before .before .choose7 .ensures ∙ ap (when (bytes "OR") 11) (
+    c .before .before .before .before .choose6 .ensures ∙ ap (when (bytes "NOT") 12) (
+    c .before .before .before .before .before .before .choose5 .ensures ∙ ap (when (bytes "TRUE") 15) (
+    c .before .before .before .before .before .before .before .before .choose4 .ensures ∙ ap (when (bytes "FALSE") 13) (
+    c .before .before .before .before .before .before .before .before .before .before .choose3 .ensures ∙ ap (when (bytes "UNDEF") 14) (
     c .before .before .before .before .before .before .before .before .before .before .before .before .choose2 .ensures ∙ ap (when (bytes "IN") 17) (
     c .before .before .before .before .before .before .before .before .before .before .before .before .before .before .choose .ensures))))))) in
     e ∙ sym (coded-one-of spelling kindOf capitals w)

@@ -2,8 +2,7 @@
 use mathlib.Core.Path.{_≡_, sym, ap, _∙_}
 use mathlib.Core.Bool.{Bool}
 use Rattle.model.specs.Notation.{if_then_else_}
-use Rattle.text.specs.Values.{value}
-use Rattle.tokens.specs.Reading.{placed}
+use Rattle.tokens.specs.Reading.{plainCode, placed}
 use borrow.Author.Needs.{needs}
 use Rattle.tokens.proofs.either.Statement.{statement}
 use Rattle.tokens.proofs.either.Tie as tie
@@ -17,12 +16,12 @@ plain-requires-2 c κs = search needs
 returns : tie.Need-returns
 returns c =
     let a = c .before .before .args in
-    c .plain .ensures ∙ ap (λ (t : Bool). if t then placed (value (a .a) 0 0) (a .x) else placed (value (a .b) 0 0) (a .y)) (sym (c .before .if1 .taken))
+    c .plain .ensures ∙ ap (λ (t : Bool). if t then placed (plainCode (a .a)) (a .x) else placed (plainCode (a .b)) (a .y)) (sym (c .before .if1 .taken))
 
 returns-2 : tie.Need-returns-2
 returns-2 c =
     let a = c .before .before .args in
-    c .plain2 .ensures ∙ ap (λ (t : Bool). if t then placed (value (a .a) 0 0) (a .x) else placed (value (a .b) 0 0) (a .y)) (sym (c .before .if1 .left))
+    c .plain2 .ensures ∙ ap (λ (t : Bool). if t then placed (plainCode (a .a)) (a .x) else placed (plainCode (a .b)) (a .y)) (sym (c .before .if1 .left))
 
 pub either-spec : {M : Type 1} → statement M
 either-spec = tie.close (tie.spec plain-requires plain-requires-2 returns returns-2)

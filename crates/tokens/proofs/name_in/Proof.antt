@@ -10,10 +10,10 @@ use Rattle.model.specs.Bytes.{Bytes}
 use Rattle.model.specs.Names.{isName}
 use Rattle.text.specs.declared.Packed.{Packed}
 use Rattle.text.specs.Packing.{packedOf}
-use Rattle.text.specs.Values.{value}
 use Rattle.text.proofs.Packing.{name-length}
+use Rattle.tokens.specs.Reading.{codeWith}
 use Rattle.tokens.proofs.Runs.{tail-part}
-use Rattle.tokens.proofs.Words.{no-dot, no-source, no-name, named, source-small}
+use Rattle.tokens.proofs.Words.{no-dot, no-source, no-name, named}
 use borrow.Author.Needs.{needs}
 use Rattle.tokens.proofs.name_in.Statement.{statement}
 use Rattle.tokens.proofs.name_in.Tie as tie
@@ -21,13 +21,13 @@ use Rattle.tokens.proofs.name_in.Tie as tie
 index-of-requires : tie.Need-index-of-requires
 index-of-requires c κs = search needs
 
-bad-requires : tie.Need-bad-requires
-bad-requires c κs = search needs
+plain-code-requires : tie.Need-plain-code-requires
+plain-code-requires c κs = search needs
 
 returns : tie.Need-returns
 returns c =
     let w = c .before .before .before .before .args .w .now in
-    c .bad .ensures ∙ sym (no-dot w (c .before .before .index-of .result) (c .before .before .index-of .ensures) (c .before .if1 .taken))
+    c .plain-code .ensures ∙ sym (no-dot w (c .before .before .index-of .result) (c .before .before .index-of .ensures) (c .before .if1 .taken))
 
 slice-aggregate-source-of : tie.Need-slice-aggregate-source-of
 slice-aggregate-source-of c = sym (length-take-le (c .before .before .index-of .result) (c .before .before .before .before .args .w .now) (omega arith))
@@ -35,13 +35,14 @@ slice-aggregate-source-of c = sym (length-take-le (c .before .before .index-of .
 source-of-requires : tie.Need-source-of-requires
 source-of-requires c κs = search needs
 
-bad-requires-2 : tie.Need-bad-requires-2
-bad-requires-2 c κs = search needs
+plain-code-requires-2 : tie.Need-plain-code-requires-2
+plain-code-requires-2 c κs = search needs
 
 returns-2 : tie.Need-returns-2
 returns-2 c =
     let w = c .before .before .before .before .before .before .before .args .w .now in
-    c .bad2 .ensures ∙ sym (no-source w (c .before .before .before .before .before .index-of .result) (c .before .before .before .before .before .index-of .ensures) (c .before .before .before .before .if1 .left) (sym (c .before .if2 .taken) ∙ c .before .before .source-of .ensures))
+    c .plain-code2 .ensures
+    ∙ sym (no-source w (c .before .before .before .before .before .index-of .result) (c .before .before .before .before .before .index-of .ensures) (c .before .before .before .before .if1 .left) (sym (c .before .if2 .taken) ∙ c .before .before .source-of .ensures))
 
 add-a : tie.Need-add-a
 add-a c = search needs
@@ -58,24 +59,18 @@ part-n-end c = search needs
 is-name-requires : tie.Need-is-name-requires
 is-name-requires c κs = search needs
 
-bad-requires-3 : tie.Need-bad-requires-3
-bad-requires-3 c κs = search needs
+plain-code-requires-3 : tie.Need-plain-code-requires-3
+plain-code-requires-3 c κs = search needs
 
 returns-3 : tie.Need-returns-3
 returns-3 c =
     let w = c .before .before .before .before .before .before .before .before .before .before .args .w .now in
     let d = c .before .before .before .before .before .before .before .before .index-of .result in
     let e : isName (drop (d + 1) w) ≡ false = ap isName (sym (tail-part (d + 1) w)) ∙ sym (c .before .before .is-name .ensures) ∙ not-true _ (c .before .if3 .taken) in
-    c .bad3 .ensures ∙ sym (no-name w d (c .before .before .before .before .before .before .before .before .index-of .ensures) (c .before .before .before .before .before .before .before .if1 .left) e)
+    c .plain-code3 .ensures ∙ sym (no-name w d (c .before .before .before .before .before .before .before .before .index-of .ensures) (c .before .before .before .before .before .before .before .if1 .left) e)
 
 pack-requires : tie.Need-pack-requires
 pack-requires c κs = omega (arith, name-length _ (sym (c .before .is-name .ensures) ∙ not-false _ (c .if3 .left)))
-
-add-t14 : tie.Need-add-t14
-add-t14 c =
-    let w = c .before .before .before .before .before .before .before .before .before .before .args .w .now in
-    let d = c .before .before .before .before .before .before .before .before .index-of .result in
-    omega (arith, c .before .before .before .before .before .source-of .ensures, source-small (take d w))
 
 returns-4 : tie.Need-returns-4
 returns-4 c =
@@ -84,7 +79,7 @@ returns-4 c =
     let k = c .before .before .before .before .before .source-of .result in
     let t = tail-part (d + 1) w in
     let e : isName (drop (d + 1) w) ≡ true = ap isName (sym t) ∙ sym (c .before .before .is-name .ensures) ∙ not-false _ (c .before .if3 .left) in
-    ap (λ (p : Packed). value (30 + k) (p .low) (p .high)) (c .pack .ensures ∙ ap packedOf t)
+    ap (λ (p : Packed). codeWith 4 k (p .low) (p .high)) (c .pack .ensures ∙ ap packedOf t)
     ∙ sym (named w d (c .before .before .before .before .before .before .before .before .index-of .ensures) (c .before .before .before .before .before .before .before .if1 .left) k (c .before .before .before .before .before .source-of .ensures) (c .before .before .before .before .if2 .left) e)
 
 pub name-in-spec : {M : Type 1} → statement M
@@ -92,19 +87,18 @@ name-in-spec =
     tie.close
     (tie.spec
     index-of-requires
-    bad-requires
+    plain-code-requires
     returns
     slice-aggregate-source-of
     source-of-requires
-    bad-requires-2
+    plain-code-requires-2
     returns-2
     add-a
     sub-n
     part-n-start
     part-n-end
     is-name-requires
-    bad-requires-3
+    plain-code-requires-3
     returns-3
     pack-requires
-    add-t14
     returns-4)

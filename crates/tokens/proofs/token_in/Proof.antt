@@ -5,8 +5,7 @@ use mathlib.Core.Option.{none, some}
 use lib.ListN.{length, drop, length-drop}
 use Rattle.model.specs.Bytes.{Bytes}
 use Rattle.model.specs.Tokens.{operator, unequal, less, atMost, greater, atLeast, readText, readToken}
-use Rattle.text.specs.Values.{value}
-use Rattle.tokens.specs.Reading.{placed, codedRead, tokenIn}
+use Rattle.tokens.specs.Reading.{plainCode, placed, codedRead, tokenIn}
 use Rattle.tokens.proofs.Runs.{tail-part}
 use Rattle.tokens.proofs.Signs.{at-end, at-sign, at-equals, at-text, at-word}
 use borrow.Author.Needs.{needs}
@@ -92,21 +91,21 @@ returns-4 : tie.Need-returns-4
 unfolding tokenIn readToken
 returns-4 c =
     let a = c .before .before .before .before .before .before .before .before .args in
-    let v = value 2 0 0 in
+    let v = plainCode 5 in
     c .plain2 .ensures ∙ ap (placed v) (c .before .before .before .before .before .place .ensures) ∙ sym (at-sign (a .n) (a .s .now) 40 v (c .before .before .before .before .before .before .if1 .left) (c .before .match .keys3) (λ r. refl))
 
 returns-5 : tie.Need-returns-5
 unfolding tokenIn readToken
 returns-5 c =
     let a = c .before .before .before .before .before .before .before .before .args in
-    let v = value 3 0 0 in
+    let v = plainCode 6 in
     c .plain3 .ensures ∙ ap (placed v) (c .before .before .before .before .before .place .ensures) ∙ sym (at-sign (a .n) (a .s .now) 41 v (c .before .before .before .before .before .before .if1 .left) (c .before .match .keys4) (λ r. refl))
 
 returns-6 : tie.Need-returns-6
 unfolding tokenIn readToken
 returns-6 c =
     let a = c .before .before .before .before .before .before .before .before .args in
-    let v = value 6 0 0 in
+    let v = plainCode 9 in
     c .plain4 .ensures ∙ ap (placed v) (c .before .before .before .before .before .place .ensures) ∙ sym (at-sign (a .n) (a .s .now) 44 v (c .before .before .before .before .before .before .if1 .left) (c .before .match .keys5) (λ r. refl))
 
 returns-7 : tie.Need-returns-7
@@ -116,13 +115,13 @@ returns-7 c =
     let s = a .s .now in
     c .either2 .ensures
     ∙ sym (at-equals (a .n) s 60 (operator atMost) (λ r. some (operator less, r)) (c .before .before .before .before .before .before .if1 .left) (c .before .match .keys6) (λ r. refl)
-    _ (c .before .before .before .equals-next .ensures) _ (c .before .before .before .before .place2 .ensures) _ (ap (placed (value 20 0 0)) (c .before .before .before .before .before .place .ensures ∙ ap (λ (l : ℕ). a .n - l) (sym (length-drop 1 s)))))
+    _ (c .before .before .before .equals-next .ensures) _ (c .before .before .before .before .place2 .ensures) _ (ap (placed (plainCode 20)) (c .before .before .before .before .before .place .ensures ∙ ap (λ (l : ℕ). a .n - l) (sym (length-drop 1 s)))))
 
 returns-8 : tie.Need-returns-8
 unfolding tokenIn readToken
 returns-8 c =
     let a = c .before .before .before .before .before .before .before .before .args in
-    let v = value 16 0 0 in
+    let v = plainCode 16 in
     c .plain5 .ensures ∙ ap (placed v) (c .before .before .before .before .before .place .ensures) ∙ sym (at-sign (a .n) (a .s .now) 61 v (c .before .before .before .before .before .before .if1 .left) (c .before .match .keys7) (λ r. refl))
 
 returns-9 : tie.Need-returns-9
@@ -132,20 +131,20 @@ returns-9 c =
     let s = a .s .now in
     c .either3 .ensures
     ∙ sym (at-equals (a .n) s 62 (operator atLeast) (λ r. some (operator greater, r)) (c .before .before .before .before .before .before .if1 .left) (c .before .match .keys8) (λ r. refl)
-    _ (c .before .before .before .equals-next .ensures) _ (c .before .before .before .before .place2 .ensures) _ (ap (placed (value 22 0 0)) (c .before .before .before .before .before .place .ensures ∙ ap (λ (l : ℕ). a .n - l) (sym (length-drop 1 s)))))
+    _ (c .before .before .before .equals-next .ensures) _ (c .before .before .before .before .place2 .ensures) _ (ap (placed (plainCode 22)) (c .before .before .before .before .before .place .ensures ∙ ap (λ (l : ℕ). a .n - l) (sym (length-drop 1 s)))))
 
 returns-10 : tie.Need-returns-10
 unfolding tokenIn readToken
 returns-10 c =
     let a = c .before .before .before .before .before .before .before .before .args in
-    let v = value 4 0 0 in
+    let v = plainCode 7 in
     c .plain6 .ensures ∙ ap (placed v) (c .before .before .before .before .before .place .ensures) ∙ sym (at-sign (a .n) (a .s .now) 123 v (c .before .before .before .before .before .before .if1 .left) (c .before .match .keys9) (λ r. refl))
 
 returns-11 : tie.Need-returns-11
 unfolding tokenIn readToken
 returns-11 c =
     let a = c .before .before .before .before .before .before .before .before .args in
-    let v = value 5 0 0 in
+    let v = plainCode 8 in
     c .plain7 .ensures ∙ ap (placed v) (c .before .before .before .before .before .place .ensures) ∙ sym (at-sign (a .n) (a .s .now) 125 v (c .before .before .before .before .before .before .if1 .left) (c .before .match .keys10) (λ r. refl))
 
 returns-12 : tie.Need-returns-12

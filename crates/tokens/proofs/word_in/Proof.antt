@@ -11,8 +11,12 @@ use Rattle.tokens.proofs.word_in.Tie as tie
 capital-of-requires : tie.Need-capital-of-requires
 capital-of-requires c κs = search needs
 
+plain-code-requires : tie.Need-plain-code-requires
+plain-code-requires c κs = search needs
+
 returns : tie.Need-returns
-returns c = sym (capital (c .before .before .before .args .w .now) (c .before .capital-of .result) (c .before .capital-of .ensures) (c .if1 .taken))
+returns c =
+    c .plain-code .ensures ∙ sym (capital (c .before .before .before .before .args .w .now) (c .before .before .capital-of .result) (c .before .before .capital-of .ensures) (c .before .if1 .taken))
 
 int-of-requires : tie.Need-int-of-requires
 int-of-requires c κs = search needs
@@ -45,6 +49,7 @@ word-in-spec =
     tie.close
     (tie.spec
     capital-of-requires
+    plain-code-requires
     returns
     int-of-requires
     enum-known-i

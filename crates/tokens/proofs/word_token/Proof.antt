@@ -1,14 +1,11 @@
 -- `tokens::word_token` meets its contract.
 use Prim.Native.Nat.{ℕ, _≤_, _-_}
-use mathlib.Core.Path.{_≡_, sym, ap, subst, _∙_}
+use mathlib.Core.Path.{_≡_, sym, ap, _∙_}
 use native.Mathlib.Omega.{arith}
 use lib.ListN.{length, take}
 use lib.Seq.{length-take-le}
-use Rattle.model.specs.Bytes.{Bytes}
-use Rattle.model.specs.Tokens.{wordByte, readWord}
-use Rattle.text.specs.declared.Value.{Value}
-use Rattle.tokens.specs.Codes.{codedToken}
-use Rattle.tokens.specs.Reading.{placed, lead, inRun}
+use Rattle.model.specs.Tokens.{readWord}
+use Rattle.tokens.specs.Reading.{codedToken, placed, inRun}
 use Rattle.tokens.proofs.Runs.{lead-le}
 use Rattle.tokens.proofs.Fronts.{no-word, word}
 use borrow.Author.Needs.{needs}
@@ -33,7 +30,8 @@ returns : tie.Need-returns
 returns c =
     let a = c .before .before .before .before .before .before .before .args in
     let s = a .s .now in
-    c .plain .ensures ∙ sym (no-word (a .n) s (c .before .before .before .word-in .result)
+    c .plain .ensures
+    ∙ sym (no-word (a .n) s (c .before .before .before .word-in .result)
     (c .before .before .before .word-in .ensures ∙ ap (λ (e : ℕ). codedToken (readWord (take e s))) (c .before .before .before .before .before .run-length .ensures)) (c .before .if1 .taken))
 
 place-requires : tie.Need-place-requires

@@ -1,69 +1,33 @@
--- No position passed has a value. Assumes nothing.
-use Prim.Native.Nat.{_≤_, _-_}
+use borrow.Author.Tests.{not-true, not-false}
+use Prim.Native.Nat.{ℕ}
 use native.Mathlib.Omega.{arith}
-use mathlib.Core.Path.{_≡_, sym, ap, _∙_}
-use mathlib.Core.Bool.{true, false, not}
+use mathlib.Core.Path.{_≡_, sym, ap, refl, _∙_}
+use mathlib.Core.List.{List}
+use lib.ListN.{length}
+use Rattle.model.specs.Notation.{any, isEmpty}
+use Rattle.text.specs.declared.Words.{Words}
+use Rattle.text.specs.Values.{sameWords}
+use Rattle.values.specs.Operands.{lent, valuesFrom, valuesOf, firstOf}
+use Rattle.values.proofs.Walks.{is-empty}
 use borrow.Author.Needs.{needs}
-use Rattle.model.specs.Notation.{any}
-use Rattle.text.specs.declared.Value.{Value}
-use Rattle.values.specs.Operands.{valuesBelow, valuesOf}
-use Rattle.values.proofs.Places.{none-yet, none-more, found, nothing, empty-any}
 use Rattle.values.proofs.absent.Statement.{statement}
 use Rattle.values.proofs.absent.Tie as tie
+use Rattle.values.proofs.absent.Reads as reads
+use Rattle.values.proofs.absent.Lts as lts
+use Rattle.values.proofs.first.Reads as first-reads
+use Rattle.values.proofs.value_from.Reads as value-from-reads
 
-abbrev Inv-loop : tie.InvT-loop
-Inv-loop rows table operand n i₀ i = (i ≤ n) × (any (λ (v : Value). true) (valuesBelow rows table operand i) ≡ false)
+-- src/lib.rt:268:64
+first-requires : tie.Need-first-requires
+first-requires c κs = search needs
 
-abbrev μ-loop : tie.MeasureT-loop
-μ-loop rows table operand n i₀ i = n - i
+-- src/lib.rt:268:9
+value-from-requires : tie.Need-value-from-requires
+value-from-requires c κs = search needs
 
-positions-requires : tie.Need-positions-requires Inv-loop μ-loop
-positions-requires c κs = search needs
-
-loop-holds : tie.Need-loop-holds Inv-loop μ-loop
-loop-holds c = (search needs, none-yet (c .before .before .args .rows .now) (c .before .before .args .table .now) (c .before .before .args .operand) (λ (v : Value). true))
-
-place-at-requires : tie.Need-place-at-requires Inv-loop μ-loop
-place-at-requires c κs = rw (c .before .before .positions .ensures) at (c .loop-test .taken)
-
-returns : tie.Need-returns Inv-loop μ-loop
-returns c =
-    sym (empty-any (valuesOf (c .before .before .before .before .before .before .args .rows .now) (c .before .before .before .before .before .before .args .table .now) (c .before .before .before .before .before .before .args .operand)) ∙ ap not (found (c .before .before .before .before .before .before .args .rows .now) (c .before .before .before .before .before .before .args .table .now) (c .before .before .before .before .before .before .args .operand)
-    (λ (v : Value). true)
-    (c .before .before .before .before .positions .result) (c .before .before .before .loop .i) (c .before .before .before .before .positions .ensures) (c .before .before .loop-test .taken) (rw (sym (ap (λ p. p .here) (c .before .place-at .ensures)) ∙ c .if1 .taken))))
-
-add-i : tie.Need-add-i Inv-loop μ-loop
-add-i c = omega arith
-
-loop-less : tie.Need-loop-less Inv-loop μ-loop
-loop-less c = omega arith
-
-loop-again : tie.Need-loop-again Inv-loop μ-loop
-loop-again c = (
-  omega arith,
-  none-more (c .before .before .before .before .before .before .args .rows .now) (c .before .before .before .before .before .before .args .table .now) (c .before .before .before .before .before .before .args .operand)
-      (λ (v : Value). true)
-      (c .before .before .before .loop .i) (c .before .before .before .loop .inv .1) (rw (sym (ap (λ p. p .here) (c .before .place-at .ensures)) ∙ c .if1 .left)),
-)
-
-returns-2 : tie.Need-returns-2 Inv-loop μ-loop
-returns-2 c =
-    let e : c .before .loop .i ≡ c .before .before .positions .result = omega arith in
-    sym (empty-any (valuesOf (c .before .before .before .before .args .rows .now) (c .before .before .before .before .args .table .now) (c .before .before .before .before .args .operand)) ∙ ap not (nothing (c .before .before .before .before .args .rows .now) (c .before .before .before .before .args .table .now) (c .before .before .before .before .args .operand)
-    (λ (v : Value). true)
-    (c .before .before .positions .result) (c .before .loop .i) (c .before .before .positions .ensures) e (c .before .loop .inv .1)))
+-- src/lib.rt:258:1
+returns : tie.Need-returns
+returns c = is-empty (valuesFrom (lent (c .before .before .before .before .before .before .args .code .now) (c .before .before .before .before .before .before .args .pairs .now) (c .before .before .before .before .before .before .args .session .now) (c .before .before .before .before .before .before .args .entries .now)) (c .before .before .before .before .before .before .args .operand)) (c .before .before .first .result) (c .before .value-from .result) (c .before .value-from .ensures) ∙ ap (λ (i : ℕ). isEmpty ((valuesFrom (lent (c .before .before .before .before .before .before .args .code .now) (c .before .before .before .before .before .before .args .pairs .now) (c .before .before .before .before .before .before .args .session .now) (c .before .before .before .before .before .before .args .entries .now)) (c .before .before .before .before .before .before .args .operand)) i)) (c .before .before .first .ensures)
 
 pub absent-spec : {M : Type 1} → statement M
-absent-spec =
-    tie.close
-    (tie.spec
-    Inv-loop
-    μ-loop
-    positions-requires
-    loop-holds
-    place-at-requires
-    returns
-    add-i
-    loop-less
-    loop-again
-    returns-2)
+absent-spec = tie.close (tie.spec first-requires value-from-requires returns)

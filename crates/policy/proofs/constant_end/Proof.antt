@@ -1,0 +1,47 @@
+use mathlib.Core.Path.{_∙_}
+use native.Mathlib.Omega.{arith}
+use Rattle.policy.proofs.Sets.{end-int, end-str}
+use borrow.Author.Needs.{needs}
+use Rattle.policy.proofs.constant_end.Statement.{statement}
+use Rattle.policy.proofs.constant_end.Tie as tie
+use Rattle.policy.proofs.constant_end.Reads as reads
+use Rattle.policy.proofs.constant_end.Lts as lts
+use Rattle.policy.proofs.kind_at.Reads as kind-at-reads
+use Rattle.policy.proofs.place.Reads as place-reads
+
+add-result : tie.Need-add-result
+add-result c = search needs
+
+returns : tie.Need-returns
+returns c = end-int (c .before .before .args .code .now) (c .before .before .args .kind) (c .before .before .args .at) (c .if1 .taken)
+
+add-result-2 : tie.Need-add-result-2
+add-result-2 c = search needs
+
+add-kind-at : tie.Need-add-kind-at
+add-kind-at c = search needs
+
+kind-at-requires : tie.Need-kind-at-requires
+kind-at-requires c κs = search needs
+
+place-requires : tie.Need-place-requires
+place-requires c κs = search needs
+
+add-result-3 : tie.Need-add-result-3
+add-result-3 c = search needs
+
+returns-2 : tie.Need-returns-2
+returns-2 c = end-str (c .before .before .before .before .args .code .now) (c .before .before .before .before .args .kind) (c .before .before .before .before .args .at) (c .place .result) (c .before .before .if1 .left) (c .place .ensures .0 ∙ c .before .kind-at .ensures)
+
+pub constant-end-spec : {M : Type 1} → statement M
+constant-end-spec =
+    tie.close
+    (tie.spec
+    add-result
+    returns
+    add-result-2
+    add-kind-at
+    kind-at-requires
+    place-requires
+    add-result-3
+    returns-2)

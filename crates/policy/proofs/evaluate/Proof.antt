@@ -1,0 +1,38 @@
+use Rattle.policy.specs.Readers.{lending}
+use Rattle.policy.proofs.Wholes.{evaluate-none, evaluate-read}
+use borrow.Author.Needs.{needs}
+use Rattle.policy.proofs.evaluate.Statement.{statement}
+use Rattle.policy.proofs.evaluate.Tie as tie
+use Rattle.policy.proofs.evaluate.Reads as reads
+use Rattle.policy.proofs.evaluate.Lts as lts
+use Rattle.policy.proofs.policy.Reads as policy-reads
+use Rattle.policy.proofs.whole.Reads as whole-reads
+
+policy-requires : tie.Need-policy-requires
+policy-requires c κs = c .before .before .before .before .pre
+
+whole-requires : tie.Need-whole-requires
+whole-requires c κs = search needs
+
+enum-told : tie.Need-enum-told
+enum-told c = search needs
+
+enum-known-x : tie.Need-enum-known-x
+enum-known-x c = search needs
+
+returns : tie.Need-returns
+returns c = evaluate-none (c .before .before .before .before .before .before .before .before .args .code .now) (lending (c .before .before .before .before .before .before .before .before .args .attributes .now) (c .before .before .before .before .before .before .before .before .args .pairs .now) (c .before .before .before .before .before .before .before .before .args .session .now) (c .before .before .before .before .before .before .before .before .args .entries .now)) (c .before .before .before .policy .result) (c .before .before .whole .result) (c .before .before .before .policy .ensures) (c .before .before .whole .ensures) (c .enum-told .given .1)
+
+returns-2 : tie.Need-returns-2
+returns-2 c = evaluate-read (c .before .before .before .before .before .before .before .before .before .args .code .now) (lending (c .before .before .before .before .before .before .before .before .before .args .attributes .now) (c .before .before .before .before .before .before .before .before .before .args .pairs .now) (c .before .before .before .before .before .before .before .before .before .args .session .now) (c .before .before .before .before .before .before .before .before .before .args .entries .now)) (c .before .before .before .before .policy .result) (c .before .before .before .whole .result) (c .before .before .before .before .policy .ensures) (c .before .before .before .whole .ensures) (c .before .x .given .0 .0) (c .before .x .given .1)
+
+pub evaluate-spec : {M : Type 1} → statement M
+evaluate-spec =
+    tie.close
+    (tie.spec
+    policy-requires
+    whole-requires
+    enum-told
+    enum-known-x
+    returns
+    returns-2)

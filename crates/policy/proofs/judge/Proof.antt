@@ -1,0 +1,57 @@
+use native.Mathlib.Omega.{arith}
+use Rattle.policy.proofs.Wholes.{judge-bad, judge-read}
+use borrow.Author.Needs.{needs}
+use Rattle.policy.proofs.judge.Statement.{statement}
+use Rattle.policy.proofs.judge.Tie as tie
+use Rattle.policy.proofs.judge.Reads as reads
+use Rattle.policy.proofs.judge.Lts as lts
+use Rattle.policy.proofs.policy.Reads as policy-reads
+use Rattle.policy.proofs.whole.Reads as whole-reads
+use Rattle.policy.proofs.refusal.Reads as refusal-reads
+use Rattle.tokens.proofs.encode.Reads as encode-reads
+
+encode-requires : tie.Need-encode-requires
+encode-requires c κs = c .before .before .before .before .pre
+
+same-length : tie.Need-same-length
+same-length c = search needs
+
+returns : tie.Need-returns
+returns c = judge-bad (c .before .before .before .before .before .before .before .before .args .s .now) (c .before .before .before .before .before .before .before .before .args .attributes .now) (c .before .before .before .before .before .before .before .before .args .code .now) (c .before .before .before .encode .last .1 .1 .0) (c .before .before .before .encode .result) (c .before .before .before .encode .ensures) (c .if1 .taken)
+
+slice-aggregate-policy : tie.Need-slice-aggregate-policy
+slice-aggregate-policy c = search needs
+
+slice-aggregate-policy-2 : tie.Need-slice-aggregate-policy-2
+slice-aggregate-policy-2 c = search needs
+
+policy-requires : tie.Need-policy-requires
+policy-requires c κs = search needs
+
+whole-requires : tie.Need-whole-requires
+whole-requires c κs = search needs
+
+refusal-requires : tie.Need-refusal-requires
+refusal-requires c κs = search needs
+
+same-length-2 : tie.Need-same-length-2
+same-length-2 c = search needs
+
+returns-2 : tie.Need-returns-2
+returns-2 c =
+    judge-read (c .before .before .before .before .before .before .before .before .before .before .before .before .before .before .before .before .args .s .now) (c .before .before .before .before .before .before .before .before .before .before .before .before .before .before .before .before .args .attributes .now) (c .before .before .before .before .before .before .before .before .before .before .before .before .before .before .before .before .args .code .now) (c .before .before .before .before .before .before .before .before .before .before .before .encode .last .1 .1 .0) (c .before .before .before .before .before .before .before .before .before .before .before .encode .result) (c .before .before .before .before .before .before .before .before .before .before .before .encode .ensures) (c .before .before .before .before .before .before .before .before .if1 .left) _ (c .before .before .before .policy .result) (c .before .whole .result) (c .before .before .before .policy .ensures) (c .before .whole .ensures) (c .refusal .result) (c .refusal .ensures)
+
+pub judge-spec : {M : Type 1} → statement M
+judge-spec =
+    tie.close
+    (tie.spec
+    encode-requires
+    same-length
+    returns
+    slice-aggregate-policy
+    slice-aggregate-policy-2
+    policy-requires
+    whole-requires
+    refusal-requires
+    same-length-2
+    returns-2)

@@ -1,0 +1,22 @@
+use mathlib.Core.Path.{sym}
+use lib.ListN.{List·getD-eq-default}
+use borrow.Author.Needs.{needs}
+use Rattle.policy.proofs.kind_at.Statement.{statement}
+use Rattle.policy.proofs.kind_at.Tie as tie
+use Rattle.policy.proofs.kind_at.Reads as reads
+use Rattle.policy.proofs.kind_at.Lts as lts
+
+-- src/lib.rt:198:9
+returns : tie.Need-returns
+returns c = sym (List·getD-eq-default (c .before .args .code .now) 0 (c .if1 .taken))
+
+-- src/lib.rt:200:5
+shared-slice-read-result : tie.Need-shared-slice-read-result
+shared-slice-read-result c = search needs
+
+-- src/lib.rt:194:1
+returns-2 : tie.Need-returns-2
+returns-2 c = search needs
+
+pub kind-at-spec : {M : Type 1} → statement M
+kind-at-spec = tie.close (tie.spec returns shared-slice-read-result returns-2)

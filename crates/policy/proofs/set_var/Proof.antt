@@ -1,0 +1,54 @@
+use mathlib.Core.Logic.{⊎-elim}
+use native.Mathlib.Omega.{arith}
+use borrow.Author.Tests.{not-true, not-false}
+use Rattle.policy.proofs.Sets.{set-none, set-off, set-on}
+use borrow.Author.Needs.{needs}
+use Rattle.policy.proofs.set_var.Statement.{statement}
+use Rattle.policy.proofs.set_var.Tie as tie
+use Rattle.policy.proofs.set_var.Reads as reads
+use Rattle.policy.proofs.set_var.Lts as lts
+use Rattle.policy.proofs.kind_at.Reads as kind-at-reads
+use Rattle.policy.proofs.items.Reads as items-reads
+use Rattle.policy.proofs.no_var.Reads as no-var-reads
+use Rattle.values.proofs.constant.Reads as constant-reads
+
+kind-at-requires : tie.Need-kind-at-requires
+kind-at-requires c κs = search needs
+
+items-requires : tie.Need-items-requires
+items-requires c κs = search needs
+
+no-var-requires : tie.Need-no-var-requires
+no-var-requires c κs = search needs
+
+returns : tie.Need-returns
+returns c = set-off (c .before .before .before .before .before .before .before .before .args .code .now) (c .before .before .before .before .before .before .before .before .args .at) (c .before .before .before .before .before .before .kind-at .result) (c .before .before .before .before .before .before .kind-at .ensures) (omega (arith, c .before .before .before .before .before .if1 .left)) (omega (arith, c .before .before .before .before .if2 .taken)) (c .before .before .before .items .result) (c .before .before .before .items .ensures) (c .no-var .result) (c .no-var .ensures) (not-true _ (c .before .if3 .taken))
+
+constant-requires : tie.Need-constant-requires
+constant-requires c κs = search needs
+
+add-t9 : tie.Need-add-t9
+add-t9 c = let w = c .before .before .before .before .items .ensures .further (not-false _ (c .before .before .if3 .left)) in omega (arith, w .1)
+
+no-var-requires-2 : tie.Need-no-var-requires-2
+no-var-requires-2 c κs = search needs
+
+returns-2 : tie.Need-returns-2
+returns-2 c = set-on (c .before .before .before .before .before .before .before .before .before .args .code .now) (c .before .before .before .before .before .before .before .before .before .args .at) (c .before .before .before .before .before .before .before .kind-at .result) (c .before .before .before .before .before .before .before .kind-at .ensures) (omega (arith, c .before .before .before .before .before .before .if1 .left)) (omega (arith, c .before .before .before .before .before .if2 .taken)) (c .before .before .before .before .items .result) (c .before .before .before .before .items .ensures) (c .before .constant .result) (c .before .constant .ensures) (not-false _ (c .before .before .if3 .left))
+
+returns-3 : tie.Need-returns-3
+returns-3 c = set-none (c .before .before .before .before .args .code .now) (c .before .before .before .before .args .at) (c .before .before .kind-at .result) (c .before .before .kind-at .ensures) (c .no-var2 .result) (c .no-var2 .ensures) (λ x y. ⊎-elim (λ w. omega (arith, x, w)) (λ w. omega (arith, y, w)) (c .before .if1 .came))
+
+pub set-var-spec : {M : Type 1} → statement M
+set-var-spec =
+    tie.close
+    (tie.spec
+    kind-at-requires
+    items-requires
+    no-var-requires
+    returns
+    constant-requires
+    add-t9
+    no-var-requires-2
+    returns-2
+    returns-3)

@@ -1,0 +1,36 @@
+use Rattle.policy.proofs.Wholes.{ends-none, ends-left, ends-on}
+use borrow.Author.Needs.{needs}
+use Rattle.policy.proofs.whole.Statement.{statement}
+use Rattle.policy.proofs.whole.Tie as tie
+use Rattle.policy.proofs.whole.Reads as reads
+use Rattle.policy.proofs.whole.Lts as lts
+use Rattle.policy.proofs.kind_at.Reads as kind-at-reads
+
+enum-told : tie.Need-enum-told
+enum-told c = search needs
+
+enum-known-r : tie.Need-enum-known-r
+enum-known-r c = search needs
+
+kind-at-requires : tie.Need-kind-at-requires
+kind-at-requires c κs = search needs
+
+returns : tie.Need-returns
+returns c = ends-none (c .before .before .before .args .code .now) (c .before .before .before .args .r) (c .enum-told .given .1)
+
+returns-2 : tie.Need-returns-2
+returns-2 c = ends-on (c .before .before .before .before .before .before .args .code .now) (c .before .before .before .before .before .before .args .r) (c .before .before .before .r .given .0 .0) (c .before .kind-at .result) (c .before .before .before .r .given .1) (c .before .kind-at .ensures) (c .if1 .taken)
+
+returns-3 : tie.Need-returns-3
+returns-3 c = ends-left (c .before .before .before .before .before .before .args .code .now) (c .before .before .before .before .before .before .args .r) (c .before .before .before .r .given .0 .0) (c .before .kind-at .result) (c .before .before .before .r .given .1) (c .before .kind-at .ensures) (c .if1 .left)
+
+pub whole-spec : {M : Type 1} → statement M
+whole-spec =
+    tie.close
+    (tie.spec
+    enum-told
+    enum-known-r
+    kind-at-requires
+    returns
+    returns-2
+    returns-3)

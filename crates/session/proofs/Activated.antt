@@ -1,0 +1,132 @@
+-- Refusal 17, told by the session. Assumes nothing.
+use Prim.Native.Nat.{ℕ, zero, suc, _+_, _-_, _*_, _≤_, _<_}
+use native.Mathlib.Omega.{arith}
+use mathlib.Core.Path.{_≡_, refl, sym, ap, ap₂, _∙_}
+use mathlib.Core.Bool.{Bool, true, false, not, _&&_, true≢false}
+use mathlib.Core.List.{List, [], _∷_, _++_}
+use mathlib.Core.Option.{Option, none, some, Option·some-injective}
+use lib.Dec.{eqb, ltb}
+use lib.ListN.{length, getD}
+use borrow.Author.Tests.{lt-ltb}
+use Rattle.model.specs.Notation.{if_then_else_, _is_, isEmpty, any, map, filter, below, nth}
+use Rattle.model.specs.Bytes.{Bytes}
+use Rattle.model.specs.Attributes.{Source, sameSource}
+use Rattle.model.specs.Atoms.{Atom}
+use Rattle.model.specs.Declarations.{Declarations, Attribute, isNamed, attributeNumber}
+use Rattle.model.specs.State.{State}
+use Rattle.model.specs.Block.{Block, activated}
+use Rattle.model.specs.Session.{held, userValues, readBy}
+use Rattle.model.specs.Refusals.{isHeld, notHeld}
+use Rattle.model.proofs.Lists.{any-ext, in-below}
+use Rattle.bits.specs.Bits.{bit, holds, anyBelow}
+use Rattle.codes.specs.Codes.{sourceCode}
+use Rattle.text.specs.declared.Words.{Words}
+use Rattle.text.specs.Values.{atomWords}
+use Rattle.rows.proofs.Places.{place-first}
+use Rattle.rows.proofs.Attributes.{named-eq, eq-named}
+use Rattle.values.specs.Operands.{Lent, lent, upFrom, chosen, pairWords, attributeOperand, valuesOf, Stands}
+use Rattle.session.specs.Opened.{SessionOf}
+use Rattle.session.specs.Words.{heldWords, unheldAt, unheldWords}
+use Rattle.session.proofs.Opens.{mask-bit, no-attribute}
+use Rattle.session.proofs.Names.{reads-number, session-coded}
+
+-- lists
+up-last : (k n : ℕ) → upFrom k (suc n) ≡ upFrom k n ++ (k + n) ∷ []
+up-last k zero = let e : k ≡ k + 0 = omega arith in ap (λ (m : ℕ). m ∷ []) e
+up-last k (suc n) =
+    let e : suc k + n ≡ k + suc n = omega arith in
+    ap (λ (l : List ℕ). k ∷ l) (up-last (suc k) n) ∙ ap (λ (m : ℕ). k ∷ (upFrom (suc k) n ++ m ∷ [])) e
+
+below-up : (n : ℕ) → below n ≡ upFrom 0 n
+below-up zero = refl
+below-up (suc n) = let e : n ≡ 0 + n = omega arith in ap₂ (λ (l : List ℕ) (m : ℕ). l ++ m ∷ []) (below-up n) e ∙ sym (up-last 0 n)
+
+some-filtered : (p : ℕ → Bool) (f : ℕ → Words) (l : List ℕ) → any p l ≡ not (isEmpty (map f (filter p l)))
+some-filtered p f [] = refl
+some-filtered p f (x ∷ l) = go (p x) (some-filtered p f l)
+  where
+    go : (t : Bool) → any p l ≡ not (isEmpty (map f (filter p l)))
+        → (elim t as (λ _. Bool) [ true ↦ true | false ↦ any p l ])
+        ≡ not (isEmpty (map f (elim t as (λ _. List ℕ) [ true ↦ x ∷ filter p l | false ↦ filter p l ])))
+    go true e = refl
+    go false e = e
+
+some-chosen : (p : ℕ → Bool) (f : ℕ → Words) (top : ℕ) → anyBelow top p ≡ not (isEmpty (chosen p f top 0))
+unfolding anyBelow chosen
+some-chosen p f top =
+    let d : top - 0 ≡ top = omega arith in
+    ap (any p) (below-up top) ∙ some-filtered p f (upFrom 0 top) ∙ sym (ap (λ (n : ℕ). not (isEmpty (map f (filter p (upFrom 0 n))))) d)
+
+some-mapped : {A B : Type 0} (f : A → B) (l : List A) → not (isEmpty (map f l)) ≡ ltb 0 (length l)
+some-mapped f [] = refl
+some-mapped f (x ∷ l) = sym (lt-ltb 0 (length (x ∷ l)) (omega arith))
+
+user-source : (s : Source) → eqb (sourceCode s) 1 ≡ sameSource s Source.user
+user-source Source.user = refl
+user-source Source.object = refl
+user-source Source.admin = refl
+user-source Source.env = refl
+user-source Source.connect = refl
+
+is-user : (s : Source) → sameSource s Source.user ≡ true → s ≡ Source.user
+is-user Source.user e = refl
+is-user Source.object e = absurd (true≢false (sym e))
+is-user Source.admin e = absurd (true≢false (sym e))
+is-user Source.env e = absurd (true≢false (sym e))
+is-user Source.connect e = absurd (true≢false (sym e))
+
+module _ (S : State) (b : Block) (attributes pairs session : List ℕ) (entries : Bytes) (of : SessionOf S b attributes pairs session entries) where
+  abbrev D : Declarations
+  D = S .declared
+
+  module _ (k : ℕ) (small : k < 32) (on : activated b k ≡ true) where
+    -- a user attribute has the number of its place
+    number-so : (a : Attribute) → nth (D .attributes) k ≡ some a → attributeNumber D (a .source) (a .name) ≡ some k
+    unfolding attributeNumber
+    number-so a at =
+        place-first (λ c. isNamed (c .source) (c .name) (a .source) (a .name)) (D .attributes) k a at
+        (eq-named (a .source) (a .name) (a .source) (a .name) refl refl) (λ i c l e. other i c l e (isNamed (c .source) (c .name) (a .source) (a .name)) refl)
+      where
+        other : (i : ℕ) (c : Attribute) → i < k → nth (D .attributes) i ≡ some c
+            → (t : Bool) → isNamed (c .source) (c .name) (a .source) (a .name) ≡ t → isNamed (c .source) (c .name) (a .source) (a .name) ≡ false
+        other i c l e false q = q
+        other i c l e true q = let z = of .declarations .attributes .unique i k c a e at q in absurd (omega arith)
+
+    held-so : (a : Attribute) → nth (D .attributes) k ≡ some a → a .source ≡ Source.user → anyBelow 256 (holds session k) ≡ ltb 0 (length (held S (b .user) Source.user (a .name)))
+    unfolding readBy userValues
+    held-so a at user =
+        let number : attributeNumber D Source.user (a .name) ≡ some k = ap (λ (s : Source). attributeNumber D s (a .name)) (sym user) ∙ number-so a at in
+        let values : readBy S b Source.user (a .name) ≡ held S (b .user) Source.user (a .name) =
+        ap (λ (o : Option ℕ). if o is activated b then held S (b .user) Source.user (a .name) else []) number
+        ∙ ap (λ (t : Bool). if t then held S (b .user) Source.user (a .name) else []) on in
+        some-chosen (holds session k) (pairWords pairs) 256
+        ∙ ap (λ (l : List Words). not (isEmpty l)) (session-coded S b attributes pairs session entries of [] Source.user (a .name) k number refl)
+        ∙ ap (λ (l : List Atom). not (isEmpty (map atomWords l))) values
+        ∙ some-mapped atomWords (held S (b .user) Source.user (a .name))
+
+    held-attribute : heldWords attributes session k ≡ isHeld S b k
+    unfolding heldWords isHeld
+    held-attribute = go (nth (D .attributes) k) refl
+      where
+        known : (a : Attribute) → nth (D .attributes) k ≡ some a → (t : Bool) → sameSource (a .source) Source.user ≡ t
+            → (t && anyBelow 256 (holds session k)) ≡ (t && ltb 0 (length (held S (b .user) Source.user (a .name))))
+        known a at true e = held-so a at (is-user (a .source) e)
+        known a at false e = refl
+
+        go : (o : Option Attribute) → nth (D .attributes) k ≡ o
+            → (eqb (getD attributes (8 * k) 0) 1 && anyBelow 256 (holds session k))
+            ≡ (o is λ a. sameSource (a .source) Source.user && ltb 0 (length (held S (b .user) Source.user (a .name))))
+        go (some a) at =
+            ap (λ (t : Bool). t && anyBelow 256 (holds session k)) (ap (λ (n : ℕ). eqb n 1) (of .attribute-rows .row k a at .source) ∙ user-source (a .source))
+            ∙ known a at (sameSource (a .source) Source.user) refl
+        go none at =
+            ap (λ (n : ℕ). eqb n 1 && anyBelow 256 (holds session k)) (of .attribute-rows .other k (no-attribute (D .attributes) k at) small)
+
+  pub unheld-so : unheldWords attributes session (b .mask) ≡ notHeld S b
+  unfolding notHeld anyBelow unheldAt
+  unheld-so = any-ext (λ k. bit (b .mask) k && not (heldWords attributes session k)) (λ k. activated b k && not (isHeld S b k)) (below 32) (λ k m. at k (in-below 32 m) (activated b k) refl)
+    where
+      at : (k : ℕ) → k < 32 → (t : Bool) → activated b k ≡ t → (bit (b .mask) k && not (heldWords attributes session k)) ≡ (activated b k && not (isHeld S b k))
+      at k small true e = ap₂ (λ (t u : Bool). t && not u) (mask-bit b k) (held-attribute k small e)
+      at k small false e =
+          ap (λ (t : Bool). t && not (heldWords attributes session k)) (mask-bit b k ∙ e) ∙ sym (ap (λ (t : Bool). t && not (isHeld S b k)) e)

@@ -1,0 +1,105 @@
+-- `tokens::write_name` meets its contract.
+use Prim.Native.Nat.{ℕ, _<_, _≤_}
+use mathlib.Core.Path.{_≡_, refl, sym, ap, _∙_}
+use mathlib.Core.Bool.{Bool, true, false}
+use mathlib.Core.Option.{Option, none, some}
+use native.Mathlib.Omega.{arith}
+use lib.ListN.{length-set}
+use Rattle.model.specs.Notation.{isNone}
+use Rattle.tokens.specs.declared.Written.{Written}
+use Rattle.model.specs.Declarations.{attributeNumber}
+use Rattle.rows.specs.Rows.{numberOr, AttributeRows}
+use Rattle.rows.proofs.Attributes.{number-small}
+use Rattle.tokens.proofs.Puts.{put-two}
+use borrow.Author.Needs.{needs}
+use Rattle.tokens.proofs.write_name.Statement.{statement}
+use Rattle.tokens.proofs.write_name.Tie as tie
+
+-- the number of a declared attribute is below the limit; where it is not, there is none
+below : (o : Option ℕ) (k : ℕ) → k ≡ numberOr 32 o → k < 32 → (k ≡ numberOr 255 o) × (isNone o ≡ false)
+below none k e h = absurd (omega arith)
+below (some n) k e h = (e, refl)
+
+above : (o : Option ℕ) (k : ℕ) → k ≡ numberOr 32 o → 32 ≤ k → ((n : ℕ) → o ≡ some n → n < 32) → (255 ≡ numberOr 255 o) × (true ≡ isNone o)
+above none k e h f = (refl, refl)
+above (some n) k e h f = absurd (omega (arith, f n refl))
+
+attribute-number-requires : tie.Need-attribute-number-requires
+attribute-number-requires c κs = search needs
+
+slice-write-code : tie.Need-slice-write-code
+slice-write-code c = search needs
+
+cast-code : tie.Need-cast-code
+cast-code c = search needs
+
+add-code : tie.Need-add-code
+add-code c = search needs
+
+slice-write-code-2 : tie.Need-slice-write-code-2
+slice-write-code-2 c = simp length-set (omega arith)
+
+add-up-to : tie.Need-add-up-to
+add-up-to c = search needs
+
+up-to-requires : tie.Need-up-to-requires
+up-to-requires c κs = search needs
+
+same-length : tie.Need-same-length
+same-length c = search needs
+
+returns : tie.Need-returns
+returns c =
+    let a = c .before .before .before .before .before .args in
+    let r = c .before .before .attribute-number in
+    record {
+      byte = r .result;
+      put = put-two (a .code .now) (a .at) 4 (r .result) (omega arith);
+      len = ap (λ (w : Written). w .len) (c .up-to .ensures);
+      number = λ D ord ar s n name from words.
+          let (x, y) = below (attributeNumber D s n) (r .result) (r .ensures .number D ord ar s n name from words) (c .before .if1 .taken) in
+          (x, ap (λ (w : Written). w .unknown) (c .up-to .ensures) ∙ sym y);
+    }
+
+add-code-2 : tie.Need-add-code-2
+add-code-2 c = search needs
+
+slice-write-code-3 : tie.Need-slice-write-code-3
+slice-write-code-3 c = simp length-set (omega arith)
+
+add-t11 : tie.Need-add-t11
+add-t11 c = search needs
+
+same-length-2 : tie.Need-same-length-2
+same-length-2 c = search needs
+
+returns-2 : tie.Need-returns-2
+returns-2 c =
+    let a = c .before .before .before .before .args in
+    let r = c .before .attribute-number in
+    record {
+      byte = 255;
+      put = put-two (a .code .now) (a .at) 4 255 (omega arith);
+      len = refl;
+      number = λ D ord ar s n name from words.
+          above (attributeNumber D s n) (r .result) (r .ensures .number D ord ar s n name from words) (c .if1 .left) (number-small D (a .attributes .now) ar s n);
+    }
+
+pub write-name-spec : {M : Type 1} → statement M
+write-name-spec =
+    tie.close
+    (tie.spec
+    attribute-number-requires
+    slice-write-code
+    cast-code
+    add-code
+    slice-write-code-2
+    add-up-to
+    up-to-requires
+    same-length
+    returns
+    add-code-2
+    slice-write-code-3
+    add-t11
+    same-length-2
+    returns-2)

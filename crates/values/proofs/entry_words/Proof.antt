@@ -1,0 +1,43 @@
+use mathlib.Core.Path.{_∙_}
+use Rattle.values.proofs.Places.{entry-number, entry-true, entry-false}
+use borrow.Author.Needs.{needs}
+use Rattle.values.proofs.entry_words.Statement.{statement}
+use Rattle.values.proofs.entry_words.Tie as tie
+use Rattle.values.proofs.entry_words.Reads as reads
+use Rattle.values.proofs.entry_words.Lts as lts
+use Rattle.values.proofs.one_word.Reads as one-word-reads
+
+-- src/lib.rt:145:9
+one-word-requires : tie.Need-one-word-requires
+one-word-requires c κs = search needs
+
+-- src/lib.rt:145:9
+returns : tie.Need-returns
+returns c = c .one-word .ensures ∙ entry-number (c .before .before .args .kind) (c .before .before .args .v) (c .before .if1 .taken)
+
+-- src/lib.rt:148:9
+one-word-requires-2 : tie.Need-one-word-requires-2
+one-word-requires-2 c κs = search needs
+
+-- src/lib.rt:148:9
+returns-2 : tie.Need-returns-2
+returns-2 c = c .one-word2 .ensures ∙ entry-true (c .before .before .before .args .kind) (c .before .before .before .args .v) (c .before .before .if1 .left) (c .before .if2 .taken)
+
+-- src/lib.rt:150:5
+one-word-requires-3 : tie.Need-one-word-requires-3
+one-word-requires-3 c κs = search needs
+
+-- src/lib.rt:141:1
+returns-3 : tie.Need-returns-3
+returns-3 c = c .one-word3 .ensures ∙ entry-false (c .before .before .before .args .kind) (c .before .before .before .args .v) (c .before .before .if1 .left) (c .before .if2 .left)
+
+pub entry-words-spec : {M : Type 1} → statement M
+entry-words-spec =
+    tie.close
+    (tie.spec
+    one-word-requires
+    returns
+    one-word-requires-2
+    returns-2
+    one-word-requires-3
+    returns-3)

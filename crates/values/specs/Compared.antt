@@ -1,0 +1,88 @@
+-- What a comparison asks of the values of two operands.
+use Prim.Native.Nat.{ℕ}
+use mathlib.Core.Path.{_≡_}
+use mathlib.Core.Bool.{Bool, true, false, not, _&&_, Bool·beq}
+use mathlib.Core.List.{List, [], _∷_}
+use lib.Dec.{eqb, leb, ltb}
+use Rattle.model.specs.Notation.{any, isEmpty, if_then_else_}
+use Rattle.model.specs.Limits.{largestInt}
+use Rattle.model.specs.Atoms.{Atom}
+use Rattle.model.specs.Truth as model
+use Rattle.model.specs.Truth.{truth, NOT}
+use Rattle.model.specs.Tokens.{Operator}
+use Rattle.model.specs.Comparison.{compareSets, loneValue}
+use Rattle.codes.specs.Codes.{operatorCode}
+use Rattle.truth.specs.declared.Truth.{Truth}
+use Rattle.truth.specs.Truths.{truthOf}
+use Rattle.text.specs.declared.Words.{Words}
+use Rattle.text.specs.Values.{words, sameWords}
+use Rattle.values.specs.declared.Operand.{Operand}
+use Rattle.values.specs.Operands.{Lent, Stands}
+
+abbrev pub amongValues : List Words → Words → Bool
+amongValues values w = any (sameWords w) values
+
+-- some left value is among the right, or with `wanted` false, some is not
+unfoldable pub someFound : Bool → List Words → List Words → Bool
+someFound wanted left right = any (λ w. Bool·beq (amongValues right w) wanted) left
+
+-- the greater of two numbers, or the less
+unfoldable pub further : Bool → ℕ → ℕ → ℕ
+further true a b = if ltb a b then b else a
+further false a b = if ltb b a then b else a
+
+-- the greatest, or the least, of `best` and the first words of the values
+unfoldable pub extremeFrom : Bool → ℕ → List Words → ℕ
+extremeFrom greatest best [] = best
+extremeFrom greatest best (w ∷ values) = extremeFrom greatest (further greatest best (w .first)) values
+
+-- what no int is beyond
+abbrev pub worst : Bool → ℕ
+worst true = 0
+worst false = largestInt
+
+abbrev pub greatestOf : List Words → ℕ
+greatestOf values = extremeFrom true (worst true) values
+
+abbrev pub leastOf : List Words → ℕ
+leastOf values = extremeFrom false (worst false) values
+
+-- the least of some values is below the greatest of others, or with `equal` not above it
+unfoldable pub isBelow : Bool → List Words → List Words → Bool
+isBelow equal low high = if equal then leb (leastOf low) (greatestOf high) else ltb (leastOf low) (greatestOf high)
+
+-- the operators by their numbers: `=` and IN, or with `!=` their negation
+abbrev pub equalityOf : ℕ → Bool → model.Truth
+equalityOf n common = if eqb n 18 then NOT (truth common) else truth common
+
+-- an order, by the least and the greatest
+unfoldable pub orderOf : ℕ → List Words → List Words → Bool
+orderOf n left right =
+    if eqb n 20 then isBelow false left right
+    else (if eqb n 21 then isBelow true left right
+    else (if eqb n 22 then isBelow false right left
+    else isBelow true right left))
+
+-- the operator of a number, on present values of one type; UNDEF where the number is no operator's
+unfoldable pub likeValues : ℕ → ℕ → List Words → List Words → model.Truth
+likeValues n kind left right =
+    if (leb 16 n && leb n 18) then equalityOf n (someFound true left right)
+    else (if eqb n 19 then NOT (truth (someFound false left right))
+    else (if (leb 20 n && leb n 23) then (if eqb kind 1 then truth (orderOf n left right) else model.UNDEF)
+    else model.UNDEF))
+
+unfoldable pub compareValues : ℕ → ℕ → ℕ → List Words → List Words → model.Truth
+compareValues n kind kind′ left right =
+    if (eqb kind kind′ && (not (isEmpty left) && not (isEmpty right))) then likeValues n kind left right else model.UNDEF
+
+unfoldable pub loneOf : ℕ → List Words → model.Truth
+loneOf kind values = if (eqb kind 3 && not (isEmpty values)) then truth (amongValues values (words 1 0 0)) else model.UNDEF
+
+-- r is what the operator of a number says of the atoms that two operands stand for; of a number that is no operator's, UNDEF
+pub record Compared (L : Lent) (n : ℕ) (left right : Operand) (r : Truth) : Type 0 where
+  pub by-operator : (o : Operator) (l m : List Atom) → n ≡ operatorCode o → Stands L left l → Stands L right m → truthOf r ≡ compareSets o l m
+  pub by-none : ((o : Operator) → n ≡ operatorCode o → ⊥) → truthOf r ≡ model.UNDEF
+
+-- r is what a lone attribute comes to, with the atoms that an operand stands for
+pub record Lone (L : Lent) (o : Operand) (r : Truth) : Type 0 where
+  pub lone-value : (l : List Atom) → Stands L o l → truthOf r ≡ loneValue l
