@@ -54,6 +54,12 @@ source-some admin e = omega arith
 source-some env e = omega arith
 source-some connect e = omega arith
 
+-- nor of a type
+pub type-some : (t : AtomType) → typeCode t ≡ 0 → ⊥
+type-some AtomType.int e = omega arith
+type-some AtomType.str e = omega arith
+type-some AtomType.bool e = omega arith
+
 pub type-injective : (a b : AtomType) → typeCode a ≡ typeCode b → a ≡ b
 type-injective = code-injective typeCode types reads
   where

@@ -1,5 +1,5 @@
 -- Laws for a loop that has come to place i of a list of bytes: what is left from there on. Assumes nothing.
-use Prim.Native.Nat.{ℕ, zero, suc, _+_, _≤_, _<_}
+use Prim.Native.Nat.{ℕ, zero, suc, _+_, _-_, _≤_, _<_}
 use mathlib.Core.Path.{_≡_, refl, sym, ap, _∙_}
 use mathlib.Core.Bool.{Bool, true, false, not}
 use mathlib.Core.List.{List, [], _∷_, _++_}
@@ -7,8 +7,8 @@ use mathlib.Core.Option.{none}
 use native.Mathlib.Numerals.{add-one}
 use native.Mathlib.Omega.{arith}
 use borrow.Author.Tests.{eq-eqb, ne-eqb, not-true}
-use lib.ListN.{length, getD, take, drop, drop-of-length-le}
-use lib.Seq.{drop-cons, take-suc}
+use lib.ListN.{length, getD, take, drop, length-drop, drop-of-length-le}
+use lib.Seq.{drop-cons, take-suc, take-all}
 use lib.Dec.{eqb}
 use Rattle.model.specs.Notation.{all, _>>=_}
 use Rattle.model.specs.Bytes.{Bytes, cut, same}
@@ -22,6 +22,10 @@ next s i h = rw (add-one, drop-cons s i 0)
 
 pub done : (s : Bytes) (i : ℕ) → length s ≤ i → drop i s ≡ []
 done s i h = drop-of-length-le s h
+
+-- a part up to the end of a list
+pub tail-part : (a : ℕ) (s : Bytes) → take (length s - a) (drop a s) ≡ drop a s
+tail-part a s = take-all (length s - a) (drop a s) (omega (arith, length-drop a s))
 
 -- a test that each byte passes
 module _ (p : ℕ → Bool) (s : Bytes) (i : ℕ) where
