@@ -1,0 +1,4 @@
+pub mod Readers
+pub mod Places
+pub mod Frames
+pub mod Forms
