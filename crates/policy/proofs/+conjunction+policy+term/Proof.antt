@@ -63,7 +63,9 @@ abbrev term-claims : ℕ → term-lts.Claims
 term-claims t = (term-head-reads.Asked, term-head-reads.Learnt, policy-below t, policy.Post, close-reads.Asked, close-reads.Learnt)
 
 conjunction-term-requires : (t : ℕ) → conjunction-lts.Need-term-requires (conjunction-claims t) (conjunction-at t) conjunction.Post
-conjunction-term-requires t c κs = (omega (arith, c .before .before .before .before .pre .0), c .before .before .before .before .pre .1)
+conjunction-term-requires t c κs =
+    let the-pre = c .before .before .before .before .pre in
+    (omega (arith, the-pre .0), the-pre .1)
 
 conjunction-enum-told : (t : ℕ) → conjunction-lts.Need-enum-told (conjunction-claims t) (conjunction-at t) conjunction.Post
 conjunction-enum-told t c = search needs
@@ -78,22 +80,57 @@ conjunction-add-conjunction : (t : ℕ) → conjunction-lts.Need-add-conjunction
 conjunction-add-conjunction t c = let w = level-falls (c .before .before .before .before .before .before .before .before .before .before .before .args .code .now) (lending (c .before .before .before .before .before .before .before .before .before .before .before .args .attributes .now) (c .before .before .before .before .before .before .before .before .before .before .before .args .pairs .now) (c .before .before .before .before .before .before .before .before .before .before .before .args .session .now) (c .before .before .before .before .before .before .before .before .before .before .before .args .entries .now)) 1 conjunctions (c .before .before .before .before .before .before .before .before .before .before .before .args .at) (c .before .before .before .before .before .before .term .result) (c .before .before .before .before .before .before .term .ensures) (c .before .before .before .before .x .given .0 .0) (c .before .before .kind-at .result) (c .before .before .before .before .x .given .1) (c .before .before .kind-at .ensures) (c .before .if1 .taken) in omega (arith, w .1)
 
 conjunction-conjunction-requires : (t : ℕ) → conjunction-lts.Need-conjunction-requires (conjunction-claims t) (conjunction-at t) conjunction.Post
-conjunction-conjunction-requires t c κs = let w = level-falls (c .before .before .before .before .before .before .before .before .before .before .before .args .code .now) (lending (c .before .before .before .before .before .before .before .before .before .before .before .args .attributes .now) (c .before .before .before .before .before .before .before .before .before .before .before .args .pairs .now) (c .before .before .before .before .before .before .before .before .before .before .before .args .session .now) (c .before .before .before .before .before .before .before .before .before .before .before .args .entries .now)) 1 conjunctions (c .before .before .before .before .before .before .before .before .before .before .before .args .at) (c .before .before .before .before .before .before .term .result) (c .before .before .before .before .before .before .term .ensures) (c .before .before .before .before .x .given .0 .0) (c .before .before .kind-at .result) (c .before .before .before .before .x .given .1) (c .before .before .kind-at .ensures) (c .before .if1 .taken) in (omega (arith, w .0, w .1, c .before .before .before .before .before .before .before .before .before .before .before .pre .0), c .before .before .before .before .before .before .before .before .before .before .before .pre .1)
+conjunction-conjunction-requires t c κs =
+    let a = c .before .before .before .before .before .before .before .before .before .before .before .args in
+    let code = a .code .now in
+    let L = lending (a .attributes .now) (a .pairs .now) (a .session .now) (a .entries .now) in
+    let the-term = c .before .before .before .before .before .before .term in
+    let the-x = c .before .before .before .before .x in
+    let the-kind-at = c .before .before .kind-at in
+    let the-pre = c .before .before .before .before .before .before .before .before .before .before .before .pre in
+    let w = level-falls code L 1 conjunctions (a .at) (the-term .result) (the-term .ensures) (the-x .given .0 .0) (the-kind-at .result)
+    (the-x .given .1) (the-kind-at .ensures) (c .before .if1 .taken) in (omega (arith, w .0, w .1, the-pre .0), the-pre .1)
 
 conjunction-join-requires : (t : ℕ) → conjunction-lts.Need-join-requires (conjunction-claims t) (conjunction-at t) conjunction.Post
 conjunction-join-requires t c κs = search needs
 
 conjunction-returns : (t : ℕ) → conjunction-lts.Need-returns (conjunction-claims t) (conjunction-at t) conjunction.Post
-conjunction-returns t c = level-none (c .before .before .before .before .before .before .before .args .code .now) (lending (c .before .before .before .before .before .before .before .args .attributes .now) (c .before .before .before .before .before .before .before .args .pairs .now) (c .before .before .before .before .before .before .before .args .session .now) (c .before .before .before .before .before .before .before .args .entries .now)) 1 conjunctions (c .before .before .before .before .before .before .before .args .at) (c .before .before .term .result) (c .before .before .term .ensures) (c .enum-told .given .1)
+conjunction-returns t c =
+    let a = c .before .before .before .before .before .before .before .args in
+    let code = a .code .now in
+    let L = lending (a .attributes .now) (a .pairs .now) (a .session .now) (a .entries .now) in
+    let the-term = c .before .before .term in
+    level-none code L 1 conjunctions (a .at) (the-term .result) (the-term .ensures) (c .enum-told .given .1)
 
 conjunction-returns-2 : (t : ℕ) → conjunction-lts.Need-returns-2 (conjunction-claims t) (conjunction-at t) conjunction.Post
-conjunction-returns-2 t c = level-more (c .before .before .before .before .before .before .before .before .before .before .before .before .before .args .code .now) (lending (c .before .before .before .before .before .before .before .before .before .before .before .before .before .args .attributes .now) (c .before .before .before .before .before .before .before .before .before .before .before .before .before .args .pairs .now) (c .before .before .before .before .before .before .before .before .before .before .before .before .before .args .session .now) (c .before .before .before .before .before .before .before .before .before .before .before .before .before .args .entries .now)) 1 conjunctions (c .before .before .before .before .before .before .before .before .before .before .before .before .before .args .at) (c .before .before .before .before .before .before .before .before .term .result) (c .before .before .before .before .before .before .before .before .term .ensures) (c .before .before .before .before .before .before .x .given .0 .0) (c .before .before .before .before .kind-at .result) (c .before .before .before .before .before .before .x .given .1) (c .before .before .before .before .kind-at .ensures) (c .before .conjunction .result) (c .join .result) (c .before .before .before .if1 .taken) (c .before .conjunction .ensures) (c .join .ensures)
+conjunction-returns-2 t c =
+    let a = c .before .before .before .before .before .before .before .before .before .before .before .before .before .args in
+    let code = a .code .now in
+    let L = lending (a .attributes .now) (a .pairs .now) (a .session .now) (a .entries .now) in
+    let the-term = c .before .before .before .before .before .before .before .before .term in
+    let the-x = c .before .before .before .before .before .before .x in
+    let the-kind-at = c .before .before .before .before .kind-at in
+    let the-conjunction = c .before .conjunction in
+    let the-join = c .join in
+    level-more code L 1 conjunctions (a .at) (the-term .result) (the-term .ensures) (the-x .given .0 .0) (the-kind-at .result) (the-x .given .1)
+    (the-kind-at .ensures) (the-conjunction .result) (the-join .result) (c .before .before .before .if1 .taken) (the-conjunction .ensures)
+    (the-join .ensures)
 
 conjunction-returns-3 : (t : ℕ) → conjunction-lts.Need-returns-3 (conjunction-claims t) (conjunction-at t) conjunction.Post
-conjunction-returns-3 t c = level-stop (c .before .before .before .before .before .before .before .before .before .before .args .code .now) (lending (c .before .before .before .before .before .before .before .before .before .before .args .attributes .now) (c .before .before .before .before .before .before .before .before .before .before .args .pairs .now) (c .before .before .before .before .before .before .before .before .before .before .args .session .now) (c .before .before .before .before .before .before .before .before .before .before .args .entries .now)) 1 conjunctions (c .before .before .before .before .before .before .before .before .before .before .args .at) (c .before .before .before .before .before .term .result) (c .before .before .before .before .before .term .ensures) (c .before .before .before .x .given .0 .0) (c .before .kind-at .result) (c .before .before .before .x .given .1) (c .before .kind-at .ensures) (c .if1 .left)
+conjunction-returns-3 t c =
+    let a = c .before .before .before .before .before .before .before .before .before .before .args in
+    let code = a .code .now in
+    let L = lending (a .attributes .now) (a .pairs .now) (a .session .now) (a .entries .now) in
+    let the-term = c .before .before .before .before .before .term in
+    let the-x = c .before .before .before .x in
+    let the-kind-at = c .before .kind-at in
+    level-stop code L 1 conjunctions (a .at) (the-term .result) (the-term .ensures) (the-x .given .0 .0) (the-kind-at .result) (the-x .given .1)
+    (the-kind-at .ensures) (c .if1 .left)
 
 policy-conjunction-requires : (t : ℕ) → policy-lts.Need-conjunction-requires (policy-claims t) (policy-at t) policy.Post
-policy-conjunction-requires t c κs = (omega (arith, c .before .before .before .before .pre .0), c .before .before .before .before .pre .1)
+policy-conjunction-requires t c κs =
+    let the-pre = c .before .before .before .before .pre in
+    (omega (arith, the-pre .0), the-pre .1)
 
 policy-enum-told : (t : ℕ) → policy-lts.Need-enum-told (policy-claims t) (policy-at t) policy.Post
 policy-enum-told t c = search needs
@@ -108,19 +145,52 @@ policy-add-policy : (t : ℕ) → policy-lts.Need-add-policy (policy-claims t) (
 policy-add-policy t c = let w = level-falls (c .before .before .before .before .before .before .before .before .before .before .before .args .code .now) (lending (c .before .before .before .before .before .before .before .before .before .before .before .args .attributes .now) (c .before .before .before .before .before .before .before .before .before .before .before .args .pairs .now) (c .before .before .before .before .before .before .before .before .before .before .before .args .session .now) (c .before .before .before .before .before .before .before .before .before .before .before .args .entries .now)) 2 policies (c .before .before .before .before .before .before .before .before .before .before .before .args .at) (c .before .before .before .before .before .before .conjunction .result) (c .before .before .before .before .before .before .conjunction .ensures) (c .before .before .before .before .x .given .0 .0) (c .before .before .kind-at .result) (c .before .before .before .before .x .given .1) (c .before .before .kind-at .ensures) (c .before .if1 .taken) in omega (arith, w .1)
 
 policy-policy-requires : (t : ℕ) → policy-lts.Need-policy-requires (policy-claims t) (policy-at t) policy.Post
-policy-policy-requires t c κs = let w = level-falls (c .before .before .before .before .before .before .before .before .before .before .before .args .code .now) (lending (c .before .before .before .before .before .before .before .before .before .before .before .args .attributes .now) (c .before .before .before .before .before .before .before .before .before .before .before .args .pairs .now) (c .before .before .before .before .before .before .before .before .before .before .before .args .session .now) (c .before .before .before .before .before .before .before .before .before .before .before .args .entries .now)) 2 policies (c .before .before .before .before .before .before .before .before .before .before .before .args .at) (c .before .before .before .before .before .before .conjunction .result) (c .before .before .before .before .before .before .conjunction .ensures) (c .before .before .before .before .x .given .0 .0) (c .before .before .kind-at .result) (c .before .before .before .before .x .given .1) (c .before .before .kind-at .ensures) (c .before .if1 .taken) in (omega (arith, w .0, w .1, c .before .before .before .before .before .before .before .before .before .before .before .pre .0), c .before .before .before .before .before .before .before .before .before .before .before .pre .1)
+policy-policy-requires t c κs =
+    let a = c .before .before .before .before .before .before .before .before .before .before .before .args in
+    let code = a .code .now in
+    let L = lending (a .attributes .now) (a .pairs .now) (a .session .now) (a .entries .now) in
+    let the-conjunction = c .before .before .before .before .before .before .conjunction in
+    let the-x = c .before .before .before .before .x in
+    let the-kind-at = c .before .before .kind-at in
+    let the-pre = c .before .before .before .before .before .before .before .before .before .before .before .pre in
+    let w = level-falls code L 2 policies (a .at) (the-conjunction .result) (the-conjunction .ensures) (the-x .given .0 .0) (the-kind-at .result)
+    (the-x .given .1) (the-kind-at .ensures) (c .before .if1 .taken) in (omega (arith, w .0, w .1, the-pre .0), the-pre .1)
 
 policy-join-requires : (t : ℕ) → policy-lts.Need-join-requires (policy-claims t) (policy-at t) policy.Post
 policy-join-requires t c κs = search needs
 
 policy-returns : (t : ℕ) → policy-lts.Need-returns (policy-claims t) (policy-at t) policy.Post
-policy-returns t c = level-none (c .before .before .before .before .before .before .before .args .code .now) (lending (c .before .before .before .before .before .before .before .args .attributes .now) (c .before .before .before .before .before .before .before .args .pairs .now) (c .before .before .before .before .before .before .before .args .session .now) (c .before .before .before .before .before .before .before .args .entries .now)) 2 policies (c .before .before .before .before .before .before .before .args .at) (c .before .before .conjunction .result) (c .before .before .conjunction .ensures) (c .enum-told .given .1)
+policy-returns t c =
+    let a = c .before .before .before .before .before .before .before .args in
+    let code = a .code .now in
+    let L = lending (a .attributes .now) (a .pairs .now) (a .session .now) (a .entries .now) in
+    let the-conjunction = c .before .before .conjunction in
+    level-none code L 2 policies (a .at) (the-conjunction .result) (the-conjunction .ensures) (c .enum-told .given .1)
 
 policy-returns-2 : (t : ℕ) → policy-lts.Need-returns-2 (policy-claims t) (policy-at t) policy.Post
-policy-returns-2 t c = level-more (c .before .before .before .before .before .before .before .before .before .before .before .before .before .args .code .now) (lending (c .before .before .before .before .before .before .before .before .before .before .before .before .before .args .attributes .now) (c .before .before .before .before .before .before .before .before .before .before .before .before .before .args .pairs .now) (c .before .before .before .before .before .before .before .before .before .before .before .before .before .args .session .now) (c .before .before .before .before .before .before .before .before .before .before .before .before .before .args .entries .now)) 2 policies (c .before .before .before .before .before .before .before .before .before .before .before .before .before .args .at) (c .before .before .before .before .before .before .before .before .conjunction .result) (c .before .before .before .before .before .before .before .before .conjunction .ensures) (c .before .before .before .before .before .before .x .given .0 .0) (c .before .before .before .before .kind-at .result) (c .before .before .before .before .before .before .x .given .1) (c .before .before .before .before .kind-at .ensures) (c .before .policy .result) (c .join .result) (c .before .before .before .if1 .taken) (c .before .policy .ensures) (c .join .ensures)
+policy-returns-2 t c =
+    let a = c .before .before .before .before .before .before .before .before .before .before .before .before .before .args in
+    let code = a .code .now in
+    let L = lending (a .attributes .now) (a .pairs .now) (a .session .now) (a .entries .now) in
+    let the-conjunction = c .before .before .before .before .before .before .before .before .conjunction in
+    let the-x = c .before .before .before .before .before .before .x in
+    let the-kind-at = c .before .before .before .before .kind-at in
+    let the-policy = c .before .policy in
+    let the-join = c .join in
+    level-more code L 2 policies (a .at) (the-conjunction .result) (the-conjunction .ensures) (the-x .given .0 .0) (the-kind-at .result)
+    (the-x .given .1) (the-kind-at .ensures) (the-policy .result) (the-join .result) (c .before .before .before .if1 .taken) (the-policy .ensures)
+    (the-join .ensures)
 
 policy-returns-3 : (t : ℕ) → policy-lts.Need-returns-3 (policy-claims t) (policy-at t) policy.Post
-policy-returns-3 t c = level-stop (c .before .before .before .before .before .before .before .before .before .before .args .code .now) (lending (c .before .before .before .before .before .before .before .before .before .before .args .attributes .now) (c .before .before .before .before .before .before .before .before .before .before .args .pairs .now) (c .before .before .before .before .before .before .before .before .before .before .args .session .now) (c .before .before .before .before .before .before .before .before .before .before .args .entries .now)) 2 policies (c .before .before .before .before .before .before .before .before .before .before .args .at) (c .before .before .before .before .before .conjunction .result) (c .before .before .before .before .before .conjunction .ensures) (c .before .before .before .x .given .0 .0) (c .before .kind-at .result) (c .before .before .before .x .given .1) (c .before .kind-at .ensures) (c .if1 .left)
+policy-returns-3 t c =
+    let a = c .before .before .before .before .before .before .before .before .before .before .args in
+    let code = a .code .now in
+    let L = lending (a .attributes .now) (a .pairs .now) (a .session .now) (a .entries .now) in
+    let the-conjunction = c .before .before .before .before .before .conjunction in
+    let the-x = c .before .before .before .x in
+    let the-kind-at = c .before .kind-at in
+    level-stop code L 2 policies (a .at) (the-conjunction .result) (the-conjunction .ensures) (the-x .given .0 .0) (the-kind-at .result)
+    (the-x .given .1) (the-kind-at .ensures) (c .if1 .left)
 
 term-term-head-requires : (t : ℕ) → term-lts.Need-term-head-requires (term-claims t) (term-at t) term.Post
 term-term-head-requires t c κs = c .before .before .before .before .pre .1
@@ -135,19 +205,47 @@ term-enum-known-negated : (t : ℕ) → term-lts.Need-enum-known-negated (term-c
 term-enum-known-negated t c = search needs
 
 term-policy-requires : (t : ℕ) → term-lts.Need-policy-requires (term-claims t) (term-at t) term.Post
-term-policy-requires t c κs = let w = head-falls (c .before .before .before .before .before .before .before .before .args .code .now) (lending (c .before .before .before .before .before .before .before .before .args .attributes .now) (c .before .before .before .before .before .before .before .before .args .pairs .now) (c .before .before .before .before .before .before .before .before .args .session .now) (c .before .before .before .before .before .before .before .before .args .entries .now)) (c .before .before .before .before .before .before .before .before .args .at) (c .before .before .before .term-head .result) (c .before .before .before .term-head .ensures) (c .before .negated .given .0 .0) (c .before .negated .given .0 .1 .0) (c .before .negated .given .1) in (omega (arith, w .0, w .1, c .before .before .before .before .before .before .before .before .pre .0), c .before .before .before .before .before .before .before .before .pre .1)
+term-policy-requires t c κs =
+    let a = c .before .before .before .before .before .before .before .before .args in
+    let code = a .code .now in
+    let L = lending (a .attributes .now) (a .pairs .now) (a .session .now) (a .entries .now) in
+    let the-term-head = c .before .before .before .term-head in
+    let the-negated = c .before .negated in
+    let the-pre = c .before .before .before .before .before .before .before .before .pre in
+    let w = head-falls code L (a .at) (the-term-head .result) (the-term-head .ensures) (the-negated .given .0 .0) (the-negated .given .0 .1 .0)
+    (the-negated .given .1) in (omega (arith, w .0, w .1, the-pre .0), the-pre .1)
 
 term-close-requires : (t : ℕ) → term-lts.Need-close-requires (term-claims t) (term-at t) term.Post
 term-close-requires t c κs = search needs
 
 term-returns : (t : ℕ) → term-lts.Need-returns (term-claims t) (term-at t) term.Post
-term-returns t c = head-none (c .before .before .before .before .before .before .before .args .code .now) (lending (c .before .before .before .before .before .before .before .args .attributes .now) (c .before .before .before .before .before .before .before .args .pairs .now) (c .before .before .before .before .before .before .before .args .session .now) (c .before .before .before .before .before .before .before .args .entries .now)) (c .before .before .before .before .before .before .before .args .at) (c .before .before .term-head .result) (c .before .before .term-head .ensures) (c .enum-told .given .1)
+term-returns t c =
+    let a = c .before .before .before .before .before .before .before .args in
+    let code = a .code .now in
+    let L = lending (a .attributes .now) (a .pairs .now) (a .session .now) (a .entries .now) in
+    let the-term-head = c .before .before .term-head in
+    head-none code L (a .at) (the-term-head .result) (the-term-head .ensures) (c .enum-told .given .1)
 
 term-returns-2 : (t : ℕ) → term-lts.Need-returns-2 (term-claims t) (term-at t) term.Post
-term-returns-2 t c = head-leaf (c .before .before .before .before .before .before .before .before .args .code .now) (lending (c .before .before .before .before .before .before .before .before .args .attributes .now) (c .before .before .before .before .before .before .before .before .args .pairs .now) (c .before .before .before .before .before .before .before .before .args .session .now) (c .before .before .before .before .before .before .before .before .args .entries .now)) (c .before .before .before .before .before .before .before .before .args .at) (c .before .before .before .term-head .result) (c .before .before .before .term-head .ensures) (c .before .x .given .0 .0) (c .before .x .given .1)
+term-returns-2 t c =
+    let a = c .before .before .before .before .before .before .before .before .args in
+    let code = a .code .now in
+    let L = lending (a .attributes .now) (a .pairs .now) (a .session .now) (a .entries .now) in
+    let the-term-head = c .before .before .before .term-head in
+    let the-x = c .before .x in
+    head-leaf code L (a .at) (the-term-head .result) (the-term-head .ensures) (the-x .given .0 .0) (the-x .given .1)
 
 term-returns-3 : (t : ℕ) → term-lts.Need-returns-3 (term-claims t) (term-at t) term.Post
-term-returns-3 t c = head-open (c .before .before .before .before .before .before .before .before .before .before .args .code .now) (lending (c .before .before .before .before .before .before .before .before .before .before .args .attributes .now) (c .before .before .before .before .before .before .before .before .before .before .args .pairs .now) (c .before .before .before .before .before .before .before .before .before .before .args .session .now) (c .before .before .before .before .before .before .before .before .before .before .args .entries .now)) (c .before .before .before .before .before .before .before .before .before .before .args .at) (c .before .before .before .before .before .term-head .result) (c .before .before .before .before .before .term-head .ensures) (c .before .before .before .negated .given .0 .0) (c .before .before .before .negated .given .0 .1 .0) (c .before .before .before .negated .given .1) (c .before .policy .result) (c .close .result) (c .before .policy .ensures) (c .close .ensures)
+term-returns-3 t c =
+    let a = c .before .before .before .before .before .before .before .before .before .before .args in
+    let code = a .code .now in
+    let L = lending (a .attributes .now) (a .pairs .now) (a .session .now) (a .entries .now) in
+    let the-term-head = c .before .before .before .before .before .term-head in
+    let the-negated = c .before .before .before .negated in
+    let the-policy = c .before .policy in
+    let the-close = c .close in
+    head-open code L (a .at) (the-term-head .result) (the-term-head .ensures) (the-negated .given .0 .0) (the-negated .given .0 .1 .0)
+    (the-negated .given .1) (the-policy .result) (the-close .result) (the-policy .ensures) (the-close .ensures)
 
 pub +conjunction+policy+term-spec : {M : Type 1} → statement M
 +conjunction+policy+term-spec = close μ-conjunction μ-policy μ-term (λ t. conjunction-lts.spec (conjunction-claims t)

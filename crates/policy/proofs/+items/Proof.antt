@@ -43,7 +43,10 @@ items-no-constants-requires : (t : ℕ) → items-lts.Need-no-constants-requires
 items-no-constants-requires t c κs = search needs
 
 items-returns : (t : ℕ) → items-lts.Need-returns (items-claims t) (items-at t) items.Post
-items-returns t c = items-short (c .before .before .before .args .code .now) (c .before .before .before .args .kind) (c .before .before .before .args .at) (c .no-constants .result) (c .no-constants .ensures) (c .before .if1 .taken)
+items-returns t c =
+    let a = c .before .before .before .args in
+    let the-no-constants = c .no-constants in
+    items-short (a .code .now) (a .kind) (a .at) (the-no-constants .result) (the-no-constants .ensures) (c .before .if1 .taken)
 
 items-shared-slice-read-if2 : (t : ℕ) → items-lts.Need-shared-slice-read-if2 (items-claims t) (items-at t) items.Post
 items-shared-slice-read-if2 t c = search needs
@@ -52,7 +55,10 @@ items-no-constants-requires-2 : (t : ℕ) → items-lts.Need-no-constants-requir
 items-no-constants-requires-2 t c κs = search needs
 
 items-returns-2 : (t : ℕ) → items-lts.Need-returns-2 (items-claims t) (items-at t) items.Post
-items-returns-2 t c = items-other (c .before .before .before .before .before .args .code .now) (c .before .before .before .before .before .args .kind) (c .before .before .before .before .before .args .at) (c .no-constants2 .result) (c .no-constants2 .ensures) (c .before .if2 .taken)
+items-returns-2 t c =
+    let a = c .before .before .before .before .before .args in
+    let the-no-constants2 = c .no-constants2 in
+    items-other (a .code .now) (a .kind) (a .at) (the-no-constants2 .result) (the-no-constants2 .ensures) (c .before .if2 .taken)
 
 items-constant-end-requires : (t : ℕ) → items-lts.Need-constant-end-requires (items-claims t) (items-at t) items.Post
 items-constant-end-requires t c κs = search needs
@@ -61,25 +67,51 @@ items-kind-at-requires : (t : ℕ) → items-lts.Need-kind-at-requires (items-cl
 items-kind-at-requires t c κs = search needs
 
 items-returns-3 : (t : ℕ) → items-lts.Need-returns-3 (items-claims t) (items-at t) items.Post
-items-returns-3 t c = items-last (c .before .before .before .before .before .before .before .args .code .now) (c .before .before .before .before .before .before .before .args .kind) (c .before .before .before .before .before .before .before .args .at) (c .before .before .before .if2 .left) (c .before .before .constant-end .result) (c .before .kind-at .result) (c .before .before .constant-end .ensures) (c .before .kind-at .ensures) (c .if3 .taken)
+items-returns-3 t c =
+    let a = c .before .before .before .before .before .before .before .args in
+    let the-constant-end = c .before .before .constant-end in
+    let the-kind-at = c .before .kind-at in
+    items-last (a .code .now) (a .kind) (a .at) (c .before .before .before .if2 .left) (the-constant-end .result) (the-kind-at .result)
+    (the-constant-end .ensures) (the-kind-at .ensures) (c .if3 .taken)
 
 items-no-constants-requires-3 : (t : ℕ) → items-lts.Need-no-constants-requires-3 (items-claims t) (items-at t) items.Post
 items-no-constants-requires-3 t c κs = search needs
 
 items-returns-4 : (t : ℕ) → items-lts.Need-returns-4 (items-claims t) (items-at t) items.Post
-items-returns-4 t c = items-off (c .before .before .before .before .before .before .before .before .before .args .code .now) (c .before .before .before .before .before .before .before .before .before .args .kind) (c .before .before .before .before .before .before .before .before .before .args .at) (c .before .before .before .before .before .if2 .left) (c .before .before .before .before .constant-end .result) (c .before .before .before .kind-at .result) (c .before .before .before .before .constant-end .ensures) (c .before .before .before .kind-at .ensures) (c .no-constants3 .result) (c .no-constants3 .ensures) (c .before .before .if3 .left) (c .before .if4 .taken)
+items-returns-4 t c =
+    let a = c .before .before .before .before .before .before .before .before .before .args in
+    let the-constant-end = c .before .before .before .before .constant-end in
+    let the-kind-at = c .before .before .before .kind-at in
+    let the-no-constants3 = c .no-constants3 in
+    items-off (a .code .now) (a .kind) (a .at) (c .before .before .before .before .before .if2 .left) (the-constant-end .result) (the-kind-at .result)
+    (the-constant-end .ensures) (the-kind-at .ensures) (the-no-constants3 .result) (the-no-constants3 .ensures) (c .before .before .if3 .left)
+    (c .before .if4 .taken)
 
 items-add-items : (t : ℕ) → items-lts.Need-add-items (items-claims t) (items-at t) items.Post
 items-add-items t c = let w = items-within (c .before .before .before .before .before .before .before .before .args .code .now) (c .before .before .before .before .before .before .before .before .args .kind) (c .before .before .before .before .before .before .before .before .args .at) (c .before .before .before .before .if2 .left) (c .before .before .before .constant-end .result) (c .before .before .kind-at .result) (c .before .before .before .constant-end .ensures) (c .before .before .kind-at .ensures) (omega (arith, c .if4 .left)) in omega (arith, w)
 
 items-items-requires : (t : ℕ) → items-lts.Need-items-requires (items-claims t) (items-at t) items.Post
-items-items-requires t c κs = let w = items-within (c .before .before .before .before .before .before .before .before .args .code .now) (c .before .before .before .before .before .before .before .before .args .kind) (c .before .before .before .before .before .before .before .before .args .at) (c .before .before .before .before .if2 .left) (c .before .before .before .constant-end .result) (c .before .before .kind-at .result) (c .before .before .before .constant-end .ensures) (c .before .before .kind-at .ensures) (omega (arith, c .if4 .left)) in (omega (arith, w, c .before .before .before .constant-end .ensures .further, c .before .before .before .before .before .before .before .before .pre .0), tt)
+items-items-requires t c κs =
+    let a = c .before .before .before .before .before .before .before .before .args in
+    let the-constant-end = c .before .before .before .constant-end in
+    let the-kind-at = c .before .before .kind-at in
+    let w = items-within (a .code .now) (a .kind) (a .at) (c .before .before .before .before .if2 .left) (the-constant-end .result)
+    (the-kind-at .result) (the-constant-end .ensures) (the-kind-at .ensures) (omega (arith, c .if4 .left)) in
+    (omega (arith, w, the-constant-end .ensures .further, c .before .before .before .before .before .before .before .before .pre .0), tt)
 
 items-one-more-requires : (t : ℕ) → items-lts.Need-one-more-requires (items-claims t) (items-at t) items.Post
 items-one-more-requires t c κs = search needs
 
 items-returns-5 : (t : ℕ) → items-lts.Need-returns-5 (items-claims t) (items-at t) items.Post
-items-returns-5 t c = items-more (c .before .before .before .before .before .before .before .before .before .before .args .code .now) (c .before .before .before .before .before .before .before .before .before .before .args .kind) (c .before .before .before .before .before .before .before .before .before .before .args .at) (c .before .before .before .before .before .before .if2 .left) (c .before .before .before .before .before .constant-end .result) (c .before .before .before .before .kind-at .result) (c .before .before .before .before .before .constant-end .ensures) (c .before .before .before .before .kind-at .ensures) (c .before .items .result) (c .one-more .result) (c .before .before .if4 .left) (c .before .items .ensures) (c .one-more .ensures)
+items-returns-5 t c =
+    let a = c .before .before .before .before .before .before .before .before .before .before .args in
+    let the-constant-end = c .before .before .before .before .before .constant-end in
+    let the-kind-at = c .before .before .before .before .kind-at in
+    let the-items = c .before .items in
+    let the-one-more = c .one-more in
+    items-more (a .code .now) (a .kind) (a .at) (c .before .before .before .before .before .before .if2 .left) (the-constant-end .result)
+    (the-kind-at .result) (the-constant-end .ensures) (the-kind-at .ensures) (the-items .result) (the-one-more .result) (c .before .before .if4 .left)
+    (the-items .ensures) (the-one-more .ensures)
 
 pub +items-spec : {M : Type 1} → statement M
 +items-spec = close μ-items λ t. items-lts.spec (items-claims t)

@@ -8,7 +8,9 @@ use Rattle.policy.proofs.leaf.Reads as leaf-reads
 use Rattle.values.proofs.lone.Reads as lone-reads
 
 returns : tie.Need-returns
-returns c = alone-none (c .before .before .before .before .before .args .code .now) (c .before .before .before .before .before .args .pairs .now) (c .before .before .before .before .before .args .session .now) (c .before .before .before .before .before .args .entries .now) (c .before .before .before .before .before .args .v) (c .if1 .taken)
+returns c =
+    let a = c .before .before .before .before .before .args in
+    alone-none (a .code .now) (a .pairs .now) (a .session .now) (a .entries .now) (a .v) (c .if1 .taken)
 
 lone-requires : tie.Need-lone-requires
 lone-requires c κs = search needs
@@ -17,7 +19,12 @@ leaf-requires : tie.Need-leaf-requires
 leaf-requires c κs = search needs
 
 returns-2 : tie.Need-returns-2
-returns-2 c = alone-on (c .before .before .before .before .before .before .before .before .args .code .now) (c .before .before .before .before .before .before .before .before .args .pairs .now) (c .before .before .before .before .before .before .before .before .args .session .now) (c .before .before .before .before .before .before .before .before .args .entries .now) (c .before .before .before .before .before .before .before .before .args .v) (c .before .lone .result) (c .before .before .before .if1 .left) (c .before .lone .ensures) (c .leaf .result) (c .leaf .ensures)
+returns-2 c =
+    let a = c .before .before .before .before .before .before .before .before .args in
+    let the-lone = c .before .lone in
+    let the-leaf = c .leaf in
+    alone-on (a .code .now) (a .pairs .now) (a .session .now) (a .entries .now) (a .v) (the-lone .result) (c .before .before .before .if1 .left)
+    (the-lone .ensures) (the-leaf .result) (the-leaf .ensures)
 
 pub alone-spec : {M : Type 1} → statement M
 alone-spec =

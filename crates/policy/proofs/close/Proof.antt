@@ -23,8 +23,10 @@ kind-at-requires c κs = search needs
 -- src/lib.rt:212:55
 add-closed-part : tie.Need-add-closed-part
 add-closed-part c =
+    let a = c .before .before .before .before .before .before .before .args in
+    let the-kind-at = c .before .before .kind-at in
     let x = c .before .before .before .before .r .given in
-    let w = close-within (c .before .before .before .before .before .before .before .args .code .now) (c .before .before .before .before .before .before .before .args .negated) (c .before .before .before .before .before .before .before .args .r) (x .0 .0) (c .before .before .kind-at .result) (x .1) (c .before .before .kind-at .ensures) (c .before .if1 .taken) in
+    let w = close-within (a .code .now) (a .negated) (a .r) (x .0 .0) (the-kind-at .result) (x .1) (the-kind-at .ensures) (c .before .if1 .taken) in
     omega (arith, w)
 
 -- src/lib.rt:212:31
@@ -33,19 +35,27 @@ closed-part-requires c κs = search needs
 
 -- src/lib.rt:204:1
 returns : tie.Need-returns
-returns c = close-none (c .before .before .before .args .code .now) (c .before .before .before .args .negated) (c .before .before .before .args .r) (c .enum-told .given .1)
+returns c =
+    let a = c .before .before .before .args in
+    close-none (a .code .now) (a .negated) (a .r) (c .enum-told .given .1)
 
 -- src/lib.rt:204:1
 returns-2 : tie.Need-returns-2
 returns-2 c =
+    let a = c .before .before .before .before .before .before .before .before .args in
+    let the-kind-at = c .before .before .before .kind-at in
+    let the-closed-part = c .closed-part in
     let x = c .before .before .before .before .before .r .given in
-    close-on (c .before .before .before .before .before .before .before .before .args .code .now) (c .before .before .before .before .before .before .before .before .args .negated) (c .before .before .before .before .before .before .before .before .args .r) (x .0 .0) (c .before .before .before .kind-at .result) (x .1) (c .before .before .before .kind-at .ensures) (c .closed-part .result) (c .before .before .if1 .taken) (c .closed-part .ensures)
+    close-on (a .code .now) (a .negated) (a .r) (x .0 .0) (the-kind-at .result) (x .1) (the-kind-at .ensures) (the-closed-part .result)
+    (c .before .before .if1 .taken) (the-closed-part .ensures)
 
 -- src/lib.rt:204:1
 returns-3 : tie.Need-returns-3
 returns-3 c =
+    let a = c .before .before .before .before .before .before .args in
+    let the-kind-at = c .before .kind-at in
     let x = c .before .before .before .r .given in
-    close-off (c .before .before .before .before .before .before .args .code .now) (c .before .before .before .before .before .before .args .negated) (c .before .before .before .before .before .before .args .r) (x .0 .0) (c .before .kind-at .result) (x .1) (c .before .kind-at .ensures) (c .if1 .left)
+    close-off (a .code .now) (a .negated) (a .r) (x .0 .0) (the-kind-at .result) (x .1) (the-kind-at .ensures) (c .if1 .left)
 
 pub close-spec : {M : Type 1} → statement M
 close-spec =

@@ -13,7 +13,9 @@ add-result : tie.Need-add-result
 add-result c = search needs
 
 returns : tie.Need-returns
-returns c = end-int (c .before .before .args .code .now) (c .before .before .args .kind) (c .before .before .args .at) (c .if1 .taken)
+returns c =
+    let a = c .before .before .args in
+    end-int (a .code .now) (a .kind) (a .at) (c .if1 .taken)
 
 add-result-2 : tie.Need-add-result-2
 add-result-2 c = search needs
@@ -31,7 +33,10 @@ add-result-3 : tie.Need-add-result-3
 add-result-3 c = search needs
 
 returns-2 : tie.Need-returns-2
-returns-2 c = end-str (c .before .before .before .before .args .code .now) (c .before .before .before .before .args .kind) (c .before .before .before .before .args .at) (c .place .result) (c .before .before .if1 .left) (c .place .ensures .0 ∙ c .before .kind-at .ensures)
+returns-2 c =
+    let a = c .before .before .before .before .args in
+    let the-place = c .place in
+    end-str (a .code .now) (a .kind) (a .at) (the-place .result) (c .before .before .if1 .left) (the-place .ensures .0 ∙ c .before .kind-at .ensures)
 
 pub constant-end-spec : {M : Type 1} → statement M
 constant-end-spec =

@@ -21,10 +21,23 @@ enum-known-x : tie.Need-enum-known-x
 enum-known-x c = search needs
 
 returns : tie.Need-returns
-returns c = evaluate-none (c .before .before .before .before .before .before .before .before .args .code .now) (lending (c .before .before .before .before .before .before .before .before .args .attributes .now) (c .before .before .before .before .before .before .before .before .args .pairs .now) (c .before .before .before .before .before .before .before .before .args .session .now) (c .before .before .before .before .before .before .before .before .args .entries .now)) (c .before .before .before .policy .result) (c .before .before .whole .result) (c .before .before .before .policy .ensures) (c .before .before .whole .ensures) (c .enum-told .given .1)
+returns c =
+    let a = c .before .before .before .before .before .before .before .before .args in
+    let code = a .code .now in
+    let L = lending (a .attributes .now) (a .pairs .now) (a .session .now) (a .entries .now) in
+    let the-policy = c .before .before .before .policy in
+    let the-whole = c .before .before .whole in
+    evaluate-none code L (the-policy .result) (the-whole .result) (the-policy .ensures) (the-whole .ensures) (c .enum-told .given .1)
 
 returns-2 : tie.Need-returns-2
-returns-2 c = evaluate-read (c .before .before .before .before .before .before .before .before .before .args .code .now) (lending (c .before .before .before .before .before .before .before .before .before .args .attributes .now) (c .before .before .before .before .before .before .before .before .before .args .pairs .now) (c .before .before .before .before .before .before .before .before .before .args .session .now) (c .before .before .before .before .before .before .before .before .before .args .entries .now)) (c .before .before .before .before .policy .result) (c .before .before .before .whole .result) (c .before .before .before .before .policy .ensures) (c .before .before .before .whole .ensures) (c .before .x .given .0 .0) (c .before .x .given .1)
+returns-2 c =
+    let a = c .before .before .before .before .before .before .before .before .before .args in
+    let code = a .code .now in
+    let L = lending (a .attributes .now) (a .pairs .now) (a .session .now) (a .entries .now) in
+    let the-policy = c .before .before .before .before .policy in
+    let the-whole = c .before .before .before .whole in
+    let the-x = c .before .x in
+    evaluate-read code L (the-policy .result) (the-whole .result) (the-policy .ensures) (the-whole .ensures) (the-x .given .0 .0) (the-x .given .1)
 
 pub evaluate-spec : {M : Type 1} → statement M
 evaluate-spec =

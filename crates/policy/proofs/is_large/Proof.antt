@@ -7,13 +7,19 @@ use Rattle.policy.proofs.is_large.Reads as reads
 use Rattle.policy.proofs.is_large.Lts as lts
 
 returns : tie.Need-returns
-returns c = over-terms (c .before .before .args .x) (c .if1 .taken)
+returns c =
+    let a = c .before .before .args in
+    over-terms (a .x) (c .if1 .taken)
 
 returns-2 : tie.Need-returns-2
-returns-2 c = over-depth (c .before .before .before .before .args .x) (c .before .before .if1 .left) (c .if2 .taken)
+returns-2 c =
+    let a = c .before .before .before .before .args in
+    over-depth (a .x) (c .before .before .if1 .left) (c .if2 .taken)
 
 returns-3 : tie.Need-returns-3
-returns-3 c = over-set (c .before .before .before .before .before .args .x) (c .before .before .before .if1 .left) (c .before .if2 .left)
+returns-3 c =
+    let a = c .before .before .before .before .before .args in
+    over-set (a .x) (c .before .before .before .if1 .left) (c .before .if2 .left)
 
 pub is-large-spec : {M : Type 1} → statement M
 is-large-spec =

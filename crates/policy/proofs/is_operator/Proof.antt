@@ -9,11 +9,15 @@ use Rattle.policy.proofs.is_operator.Lts as lts
 
 -- src/lib.rt:235:9
 returns : tie.Need-returns
-returns c = sym (ap (λ (x : Bool). x && leb (c .before .args .kind) 23) (lt-leb 16 (c .before .args .kind) (c .if1 .taken)))
+returns c =
+    let a = c .before .args in
+    sym (ap (λ (x : Bool). x && leb (a .kind) 23) (lt-leb 16 (a .kind) (c .if1 .taken)))
 
 -- src/lib.rt:231:1
 returns-2 : tie.Need-returns-2
-returns-2 c = sym (ap (λ (x : Bool). x && leb (c .before .args .kind) 23) (le-leb 16 (c .before .args .kind) (c .if1 .left)))
+returns-2 c =
+    let a = c .before .args in
+    sym (ap (λ (x : Bool). x && leb (a .kind) 23) (le-leb 16 (a .kind) (c .if1 .left)))
 
 pub is-operator-spec : {M : Type 1} → statement M
 is-operator-spec = tie.close (tie.spec returns returns-2)

@@ -17,7 +17,10 @@ same-length : tie.Need-same-length
 same-length c = search needs
 
 returns : tie.Need-returns
-returns c = judge-bad (c .before .before .before .before .before .before .before .before .args .s .now) (c .before .before .before .before .before .before .before .before .args .attributes .now) (c .before .before .before .before .before .before .before .before .args .code .now) (c .before .before .before .encode .last .1 .1 .0) (c .before .before .before .encode .result) (c .before .before .before .encode .ensures) (c .if1 .taken)
+returns c =
+    let a = c .before .before .before .before .before .before .before .before .args in
+    let the-encode = c .before .before .before .encode in
+    judge-bad (a .s .now) (a .attributes .now) (a .code .now) (the-encode .last .1 .1 .0) (the-encode .result) (the-encode .ensures) (c .if1 .taken)
 
 slice-aggregate-policy : tie.Need-slice-aggregate-policy
 slice-aggregate-policy c = search needs
@@ -39,7 +42,14 @@ same-length-2 c = search needs
 
 returns-2 : tie.Need-returns-2
 returns-2 c =
-    judge-read (c .before .before .before .before .before .before .before .before .before .before .before .before .before .before .before .before .args .s .now) (c .before .before .before .before .before .before .before .before .before .before .before .before .before .before .before .before .args .attributes .now) (c .before .before .before .before .before .before .before .before .before .before .before .before .before .before .before .before .args .code .now) (c .before .before .before .before .before .before .before .before .before .before .before .encode .last .1 .1 .0) (c .before .before .before .before .before .before .before .before .before .before .before .encode .result) (c .before .before .before .before .before .before .before .before .before .before .before .encode .ensures) (c .before .before .before .before .before .before .before .before .if1 .left) _ (c .before .before .before .policy .result) (c .before .whole .result) (c .before .before .before .policy .ensures) (c .before .whole .ensures) (c .refusal .result) (c .refusal .ensures)
+    let a = c .before .before .before .before .before .before .before .before .before .before .before .before .before .before .before .before .args in
+    let the-encode = c .before .before .before .before .before .before .before .before .before .before .before .encode in
+    let the-policy = c .before .before .before .policy in
+    let the-whole = c .before .whole in
+    let the-refusal = c .refusal in
+    judge-read (a .s .now) (a .attributes .now) (a .code .now) (the-encode .last .1 .1 .0) (the-encode .result) (the-encode .ensures)
+    (c .before .before .before .before .before .before .before .before .if1 .left) _ (the-policy .result) (the-whole .result) (the-policy .ensures)
+    (the-whole .ensures) (the-refusal .result) (the-refusal .ensures)
 
 pub judge-spec : {M : Type 1} → statement M
 judge-spec =

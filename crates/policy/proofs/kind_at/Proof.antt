@@ -8,7 +8,9 @@ use Rattle.policy.proofs.kind_at.Lts as lts
 
 -- src/lib.rt:198:9
 returns : tie.Need-returns
-returns c = sym (List·getD-eq-default (c .before .args .code .now) 0 (c .if1 .taken))
+returns c =
+    let a = c .before .args in
+    sym (List·getD-eq-default (a .code .now) 0 (c .if1 .taken))
 
 -- src/lib.rt:200:5
 shared-slice-read-result : tie.Need-shared-slice-read-result

@@ -16,16 +16,32 @@ is-large-requires : tie.Need-is-large-requires
 is-large-requires c κs = search needs
 
 returns : tie.Need-returns
-returns c = refuse-large (c .before .before .before .before .before .args .r) (c .before .before .before .before .before .args .unknown) (c .before .before .before .r .given .0 .0) (c .before .before .before .r .given .1) (c .before .is-large .result) (c .before .is-large .ensures) (c .if1 .taken)
+returns c =
+    let a = c .before .before .before .before .before .args in
+    let the-r = c .before .before .before .r in
+    let the-is-large = c .before .is-large in
+    refuse-large (a .r) (a .unknown) (the-r .given .0 .0) (the-r .given .1) (the-is-large .result) (the-is-large .ensures) (c .if1 .taken)
 
 returns-2 : tie.Need-returns-2
-returns-2 c = refuse-unknown (c .before .before .before .before .before .before .args .r) (c .before .before .before .before .before .before .args .unknown) (c .before .before .before .before .r .given .0 .0) (c .before .before .before .before .r .given .1) (c .before .before .is-large .result) (c .before .before .is-large .ensures) (c .before .if1 .left) (c .if2 .taken)
+returns-2 c =
+    let a = c .before .before .before .before .before .before .args in
+    let the-r = c .before .before .before .before .r in
+    let the-is-large = c .before .before .is-large in
+    refuse-unknown (a .r) (a .unknown) (the-r .given .0 .0) (the-r .given .1) (the-is-large .result) (the-is-large .ensures) (c .before .if1 .left)
+    (c .if2 .taken)
 
 returns-3 : tie.Need-returns-3
-returns-3 c = refuse-none (c .before .before .args .r) (c .before .before .args .unknown) (c .enum-told .given .1)
+returns-3 c =
+    let a = c .before .before .args in
+    refuse-none (a .r) (a .unknown) (c .enum-told .given .1)
 
 returns-4 : tie.Need-returns-4
-returns-4 c = accept (c .before .before .before .before .before .before .args .r) (c .before .before .before .before .before .before .args .unknown) (c .before .before .before .before .r .given .0 .0) (c .before .before .before .before .r .given .1) (c .before .before .is-large .result) (c .before .before .is-large .ensures) (c .before .if1 .left) (c .if2 .left)
+returns-4 c =
+    let a = c .before .before .before .before .before .before .args in
+    let the-r = c .before .before .before .before .r in
+    let the-is-large = c .before .before .is-large in
+    accept (a .r) (a .unknown) (the-r .given .0 .0) (the-r .given .1) (the-is-large .result) (the-is-large .ensures) (c .before .if1 .left)
+    (c .if2 .left)
 
 pub refusal-spec : {M : Type 1} → statement M
 refusal-spec =

@@ -22,7 +22,14 @@ no-var-requires : tie.Need-no-var-requires
 no-var-requires c κs = search needs
 
 returns : tie.Need-returns
-returns c = set-off (c .before .before .before .before .before .before .before .before .args .code .now) (c .before .before .before .before .before .before .before .before .args .at) (c .before .before .before .before .before .before .kind-at .result) (c .before .before .before .before .before .before .kind-at .ensures) (omega (arith, c .before .before .before .before .before .if1 .left)) (omega (arith, c .before .before .before .before .if2 .taken)) (c .before .before .before .items .result) (c .before .before .before .items .ensures) (c .no-var .result) (c .no-var .ensures) (not-true _ (c .before .if3 .taken))
+returns c =
+    let a = c .before .before .before .before .before .before .before .before .args in
+    let the-kind-at = c .before .before .before .before .before .before .kind-at in
+    let the-items = c .before .before .before .items in
+    let the-no-var = c .no-var in
+    set-off (a .code .now) (a .at) (the-kind-at .result) (the-kind-at .ensures) (omega (arith, c .before .before .before .before .before .if1 .left))
+    (omega (arith, c .before .before .before .before .if2 .taken)) (the-items .result) (the-items .ensures) (the-no-var .result) (the-no-var .ensures)
+    (not-true _ (c .before .if3 .taken))
 
 constant-requires : tie.Need-constant-requires
 constant-requires c κs = search needs
@@ -34,10 +41,23 @@ no-var-requires-2 : tie.Need-no-var-requires-2
 no-var-requires-2 c κs = search needs
 
 returns-2 : tie.Need-returns-2
-returns-2 c = set-on (c .before .before .before .before .before .before .before .before .before .args .code .now) (c .before .before .before .before .before .before .before .before .before .args .at) (c .before .before .before .before .before .before .before .kind-at .result) (c .before .before .before .before .before .before .before .kind-at .ensures) (omega (arith, c .before .before .before .before .before .before .if1 .left)) (omega (arith, c .before .before .before .before .before .if2 .taken)) (c .before .before .before .before .items .result) (c .before .before .before .before .items .ensures) (c .before .constant .result) (c .before .constant .ensures) (not-false _ (c .before .before .if3 .left))
+returns-2 c =
+    let a = c .before .before .before .before .before .before .before .before .before .args in
+    let the-kind-at = c .before .before .before .before .before .before .before .kind-at in
+    let the-items = c .before .before .before .before .items in
+    let the-constant = c .before .constant in
+    set-on (a .code .now) (a .at) (the-kind-at .result) (the-kind-at .ensures)
+    (omega (arith, c .before .before .before .before .before .before .if1 .left))
+    (omega (arith, c .before .before .before .before .before .if2 .taken)) (the-items .result) (the-items .ensures) (the-constant .result)
+    (the-constant .ensures) (not-false _ (c .before .before .if3 .left))
 
 returns-3 : tie.Need-returns-3
-returns-3 c = set-none (c .before .before .before .before .args .code .now) (c .before .before .before .before .args .at) (c .before .before .kind-at .result) (c .before .before .kind-at .ensures) (c .no-var2 .result) (c .no-var2 .ensures) (λ x y. ⊎-elim (λ w. omega (arith, x, w)) (λ w. omega (arith, y, w)) (c .before .if1 .came))
+returns-3 c =
+    let a = c .before .before .before .before .args in
+    let the-kind-at = c .before .before .kind-at in
+    let the-no-var2 = c .no-var2 in
+    set-none (a .code .now) (a .at) (the-kind-at .result) (the-kind-at .ensures) (the-no-var2 .result) (the-no-var2 .ensures)
+    (λ x y. ⊎-elim (λ w. omega (arith, x, w)) (λ w. omega (arith, y, w)) (c .before .if1 .came))
 
 pub set-var-spec : {M : Type 1} → statement M
 set-var-spec =

@@ -16,7 +16,10 @@ use Rattle.values.proofs.constant.Reads as constant-reads
 use Rattle.values.proofs.attribute.Reads as attribute-reads
 
 add-kind-at : tie.Need-add-kind-at
-add-kind-at c = let w = var-within (c .before .before .before .args .code .now) (c .before .before .before .args .attributes .now) (c .before .before .before .args .at) (c .before .before .before .args .kind) (c .before .before .before .pre .1) (omega (arith, c .match .keys1)) in omega (arith, w)
+add-kind-at c =
+    let a = c .before .before .before .args in
+    let w = var-within (a .code .now) (a .attributes .now) (a .at) (a .kind) (c .before .before .before .pre .1) (omega (arith, c .match .keys1)) in
+    omega (arith, w)
 
 kind-at-requires : tie.Need-kind-at-requires
 kind-at-requires c κs = search needs
@@ -28,16 +31,25 @@ attribute-requires : tie.Need-attribute-requires
 attribute-requires c κs = search needs
 
 add-t11 : tie.Need-add-t11
-add-t11 c = let w = var-within (c .before .before .before .before .before .before .args .code .now) (c .before .before .before .before .before .before .args .attributes .now) (c .before .before .before .before .before .before .args .at) (c .before .before .before .before .before .before .args .kind) (c .before .before .before .before .before .before .pre .1) (omega (arith, c .before .before .before .match .keys1)) in omega (arith, w)
+add-t11 c =
+    let a = c .before .before .before .before .before .before .args in
+    let w = var-within (a .code .now) (a .attributes .now) (a .at) (a .kind) (c .before .before .before .before .before .before .pre .1)
+    (omega (arith, c .before .before .before .match .keys1)) in omega (arith, w)
 
 add-set-var : tie.Need-add-set-var
-add-set-var c = let w = var-within (c .before .before .before .args .code .now) (c .before .before .before .args .attributes .now) (c .before .before .before .args .at) (c .before .before .before .args .kind) (c .before .before .before .pre .1) (omega (arith, c .match .keys2)) in omega (arith, w)
+add-set-var c =
+    let a = c .before .before .before .args in
+    let w = var-within (a .code .now) (a .attributes .now) (a .at) (a .kind) (c .before .before .before .pre .1) (omega (arith, c .match .keys2)) in
+    omega (arith, w)
 
 set-var-requires : tie.Need-set-var-requires
 set-var-requires c κs = search needs
 
 constant-end-requires : tie.Need-constant-end-requires
-constant-end-requires c κs = var-within (c .before .before .before .before .before .args .code .now) (c .before .before .before .before .before .args .attributes .now) (c .before .before .before .before .before .args .at) (c .before .before .before .before .before .args .kind) (c .before .before .before .before .before .pre .1) (omega (arith, c .before .if1 .left))
+constant-end-requires c κs =
+    let a = c .before .before .before .before .before .args in
+    var-within (a .code .now) (a .attributes .now) (a .at) (a .kind) (c .before .before .before .before .before .pre .1)
+    (omega (arith, c .before .if1 .left))
 
 constant-requires : tie.Need-constant-requires
 constant-requires c κs = search needs
@@ -46,16 +58,38 @@ no-var-requires : tie.Need-no-var-requires
 no-var-requires c κs = search needs
 
 returns : tie.Need-returns
-returns c = var-name (c .before .before .before .before .before .before .args .code .now) (c .before .before .before .before .before .before .args .attributes .now) (c .before .before .before .before .before .before .args .at) (c .before .before .before .before .before .before .args .kind) (c .before .before .before .before .before .before .pre .1) (c .before .before .before .match .keys1) (c .before .place .result) (c .before .place .ensures .0 ∙ c .before .before .kind-at .ensures) (c .attribute .result) (c .attribute .ensures)
+returns c =
+    let a = c .before .before .before .before .before .before .args in
+    let the-place = c .before .place in
+    let the-attribute = c .attribute in
+    var-name (a .code .now) (a .attributes .now) (a .at) (a .kind) (c .before .before .before .before .before .before .pre .1)
+    (c .before .before .before .match .keys1) (the-place .result) (the-place .ensures .0 ∙ c .before .before .kind-at .ensures)
+    (the-attribute .result) (the-attribute .ensures)
 
 returns-2 : tie.Need-returns-2
-returns-2 c = var-set (c .before .before .before .before .args .code .now) (c .before .before .before .before .args .attributes .now) (c .before .before .before .before .args .at) (c .before .before .before .before .args .kind) (c .before .before .before .before .pre .1) (c .set-var .result) (c .before .match .keys2) (c .set-var .ensures)
+returns-2 c =
+    let a = c .before .before .before .before .args in
+    let the-set-var = c .set-var in
+    var-set (a .code .now) (a .attributes .now) (a .at) (a .kind) (c .before .before .before .before .pre .1) (the-set-var .result)
+    (c .before .match .keys2) (the-set-var .ensures)
 
 returns-3 : tie.Need-returns-3
-returns-3 c = var-constant (c .before .before .before .before .before .before .before .args .code .now) (c .before .before .before .before .before .before .before .args .attributes .now) (c .before .before .before .before .before .before .before .args .at) (c .before .before .before .before .before .before .before .args .kind) (c .before .before .before .before .before .before .before .pre .1) (omega (arith, c .before .before .before .if1 .left)) (omega (arith, c .before .before .if2 .taken)) (c .before .constant-end .result) (c .before .constant-end .ensures) (c .constant .result) (c .constant .ensures)
+returns-3 c =
+    let a = c .before .before .before .before .before .before .before .args in
+    let the-constant-end = c .before .constant-end in
+    let the-constant = c .constant in
+    var-constant (a .code .now) (a .attributes .now) (a .at) (a .kind) (c .before .before .before .before .before .before .before .pre .1)
+    (omega (arith, c .before .before .before .if1 .left)) (omega (arith, c .before .before .if2 .taken)) (the-constant-end .result)
+    (the-constant-end .ensures) (the-constant .result) (the-constant .ensures)
 
 returns-4 : tie.Need-returns-4
-returns-4 c = var-none (c .before .before .before .before .before .args .code .now) (c .before .before .before .before .before .args .attributes .now) (c .before .before .before .before .before .args .at) (c .before .before .before .before .before .args .kind) (c .before .before .before .before .before .pre .1) (c .no-var .result) (c .no-var .ensures) (λ x y. ⊎-elim (λ w. omega (arith, x, w)) (λ w. omega (arith, y, w)) (c .before .if1 .came)) (c .before .before .match .rest .0 .1) (c .before .before .match .rest .1)
+returns-4 c =
+    let a = c .before .before .before .before .before .args in
+    let the-no-var = c .no-var in
+    let the-match = c .before .before .match in
+    var-none (a .code .now) (a .attributes .now) (a .at) (a .kind) (c .before .before .before .before .before .pre .1) (the-no-var .result)
+    (the-no-var .ensures) (λ x y. ⊎-elim (λ w. omega (arith, x, w)) (λ w. omega (arith, y, w)) (c .before .if1 .came)) (the-match .rest .0 .1)
+    (the-match .rest .1)
 
 pub var-at-spec : {M : Type 1} → statement M
 var-at-spec =

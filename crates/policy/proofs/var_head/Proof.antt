@@ -26,10 +26,23 @@ alone-requires : tie.Need-alone-requires
 alone-requires c κs = search needs
 
 returns : tie.Need-returns
-returns c = not-compared (c .before .before .before .before .before .before .before .before .args .code .now) (lending (c .before .before .before .before .before .before .before .before .args .attributes .now) (c .before .before .before .before .before .before .before .before .args .pairs .now) (c .before .before .before .before .before .before .before .before .args .session .now) (c .before .before .before .before .before .before .before .before .args .entries .now)) (c .before .before .before .before .before .before .before .before .args .v) (c .before .before .before .kind-at .result) (c .before .before .before .kind-at .ensures) (c .alone .result) (no-operator (c .before .before .before .kind-at .result) (sym (c .before .before .is-operator .ensures) ∙ not-true _ (c .before .if1 .taken))) (c .alone .ensures)
+returns c =
+    let a = c .before .before .before .before .before .before .before .before .args in
+    let code = a .code .now in
+    let L = lending (a .attributes .now) (a .pairs .now) (a .session .now) (a .entries .now) in
+    let the-kind-at = c .before .before .before .kind-at in
+    let the-alone = c .alone in
+    not-compared code L (a .v) (the-kind-at .result) (the-kind-at .ensures) (the-alone .result)
+    (no-operator (the-kind-at .result) (sym (c .before .before .is-operator .ensures) ∙ not-true _ (c .before .if1 .taken))) (the-alone .ensures)
 
 add-n : tie.Need-add-n
-add-n c = let w = operator-within (c .before .before .before .before .before .before .before .before .args .code .now) (lending (c .before .before .before .before .before .before .before .before .args .attributes .now) (c .before .before .before .before .before .before .before .before .args .pairs .now) (c .before .before .before .before .before .before .before .before .args .session .now) (c .before .before .before .before .before .before .before .before .args .entries .now)) (c .before .before .before .before .before .before .before .before .args .v) (c .before .before .before .kind-at .result) (c .before .before .before .kind-at .ensures) (an-operator (c .before .before .before .kind-at .result) (sym (c .before .before .is-operator .ensures) ∙ not-false _ (c .before .if1 .left))) in omega (arith, w)
+add-n c =
+    let a = c .before .before .before .before .before .before .before .before .args in
+    let code = a .code .now in
+    let L = lending (a .attributes .now) (a .pairs .now) (a .session .now) (a .entries .now) in
+    let the-kind-at = c .before .before .before .kind-at in
+    let w = operator-within code L (a .v) (the-kind-at .result) (the-kind-at .ensures)
+    (an-operator (the-kind-at .result) (sym (c .before .before .is-operator .ensures) ∙ not-false _ (c .before .if1 .left))) in omega (arith, w)
 
 kind-at-requires-2 : tie.Need-kind-at-requires-2
 kind-at-requires-2 c κs = search needs
@@ -41,7 +54,18 @@ alone-requires-2 : tie.Need-alone-requires-2
 alone-requires-2 c κs = search needs
 
 returns-2 : tie.Need-returns-2
-returns-2 c = no-second (c .before .before .before .before .before .before .before .before .before .before .before .before .before .args .code .now) (lending (c .before .before .before .before .before .before .before .before .before .before .before .before .before .args .attributes .now) (c .before .before .before .before .before .before .before .before .before .before .before .before .before .args .pairs .now) (c .before .before .before .before .before .before .before .before .before .before .before .before .before .args .session .now) (c .before .before .before .before .before .before .before .before .before .before .before .before .before .args .entries .now)) (c .before .before .before .before .before .before .before .before .before .before .before .before .before .args .v) (c .before .before .before .before .before .before .before .before .kind-at .result) (c .before .before .before .before .before .before .before .before .kind-at .ensures) (an-operator (c .before .before .before .before .before .before .before .before .kind-at .result) (sym (c .before .before .before .before .before .before .before .is-operator .ensures) ∙ not-false _ (c .before .before .before .before .before .before .if1 .left))) (c .before .before .before .var-at .result) (c .before .before .before .var-at .ensures) (c .alone2 .result) (not-true _ (c .before .if2 .taken)) (c .alone2 .ensures)
+returns-2 c =
+    let a = c .before .before .before .before .before .before .before .before .before .before .before .before .before .args in
+    let code = a .code .now in
+    let L = lending (a .attributes .now) (a .pairs .now) (a .session .now) (a .entries .now) in
+    let the-kind-at = c .before .before .before .before .before .before .before .before .kind-at in
+    let the-var-at = c .before .before .before .var-at in
+    let the-alone2 = c .alone2 in
+    no-second code L (a .v) (the-kind-at .result) (the-kind-at .ensures)
+    (an-operator (the-kind-at .result)
+    (sym (c .before .before .before .before .before .before .before .is-operator .ensures) ∙ not-false _
+    (c .before .before .before .before .before .before .if1 .left))) (the-var-at .result) (the-var-at .ensures) (the-alone2 .result)
+    (not-true _ (c .before .if2 .taken)) (the-alone2 .ensures)
 
 compare-requires : tie.Need-compare-requires
 compare-requires c κs = search needs
@@ -53,7 +77,22 @@ leaf-requires : tie.Need-leaf-requires
 leaf-requires c κs = search needs
 
 returns-3 : tie.Need-returns-3
-returns-3 c = compared (c .before .before .before .before .before .before .before .before .before .before .before .before .before .before .before .before .before .args .code .now) (lending (c .before .before .before .before .before .before .before .before .before .before .before .before .before .before .before .before .before .args .attributes .now) (c .before .before .before .before .before .before .before .before .before .before .before .before .before .before .before .before .before .args .pairs .now) (c .before .before .before .before .before .before .before .before .before .before .before .before .before .before .before .before .before .args .session .now) (c .before .before .before .before .before .before .before .before .before .before .before .before .before .before .before .before .before .args .entries .now)) (c .before .before .before .before .before .before .before .before .before .before .before .before .before .before .before .before .before .args .v) (c .before .before .before .before .before .before .before .before .before .before .before .before .kind-at .result) (c .before .before .before .before .before .before .before .before .before .before .before .before .kind-at .ensures) (an-operator (c .before .before .before .before .before .before .before .before .before .before .before .before .kind-at .result) (sym (c .before .before .before .before .before .before .before .before .before .before .before .is-operator .ensures) ∙ not-false _ (c .before .before .before .before .before .before .before .before .before .before .if1 .left))) (c .before .before .before .before .before .before .before .var-at .result) (c .before .before .before .before .before .before .before .var-at .ensures) (not-false _ (c .before .before .before .before .before .if2 .left)) (c .before .before .compare .result) (c .before .before .compare .ensures) (c .before .larger .result) (c .before .larger .ensures) (c .leaf .result) (c .leaf .ensures)
+returns-3 c =
+    let a = c .before .before .before .before .before .before .before .before .before .before .before .before .before .before .before .before .before
+    .args in
+    let code = a .code .now in
+    let L = lending (a .attributes .now) (a .pairs .now) (a .session .now) (a .entries .now) in
+    let the-kind-at = c .before .before .before .before .before .before .before .before .before .before .before .before .kind-at in
+    let the-var-at = c .before .before .before .before .before .before .before .var-at in
+    let the-compare = c .before .before .compare in
+    let the-larger = c .before .larger in
+    let the-leaf = c .leaf in
+    compared code L (a .v) (the-kind-at .result) (the-kind-at .ensures)
+    (an-operator (the-kind-at .result)
+    (sym (c .before .before .before .before .before .before .before .before .before .before .before .is-operator .ensures) ∙ not-false _
+    (c .before .before .before .before .before .before .before .before .before .before .if1 .left))) (the-var-at .result) (the-var-at .ensures)
+    (not-false _ (c .before .before .before .before .before .if2 .left)) (the-compare .result) (the-compare .ensures) (the-larger .result)
+    (the-larger .ensures) (the-leaf .result) (the-leaf .ensures)
 
 pub var-head-spec : {M : Type 1} → statement M
 var-head-spec =

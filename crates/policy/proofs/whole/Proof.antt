@@ -16,13 +16,23 @@ kind-at-requires : tie.Need-kind-at-requires
 kind-at-requires c κs = search needs
 
 returns : tie.Need-returns
-returns c = ends-none (c .before .before .before .args .code .now) (c .before .before .before .args .r) (c .enum-told .given .1)
+returns c =
+    let a = c .before .before .before .args in
+    ends-none (a .code .now) (a .r) (c .enum-told .given .1)
 
 returns-2 : tie.Need-returns-2
-returns-2 c = ends-on (c .before .before .before .before .before .before .args .code .now) (c .before .before .before .before .before .before .args .r) (c .before .before .before .r .given .0 .0) (c .before .kind-at .result) (c .before .before .before .r .given .1) (c .before .kind-at .ensures) (c .if1 .taken)
+returns-2 c =
+    let a = c .before .before .before .before .before .before .args in
+    let the-r = c .before .before .before .r in
+    let the-kind-at = c .before .kind-at in
+    ends-on (a .code .now) (a .r) (the-r .given .0 .0) (the-kind-at .result) (the-r .given .1) (the-kind-at .ensures) (c .if1 .taken)
 
 returns-3 : tie.Need-returns-3
-returns-3 c = ends-left (c .before .before .before .before .before .before .args .code .now) (c .before .before .before .before .before .before .args .r) (c .before .before .before .r .given .0 .0) (c .before .kind-at .result) (c .before .before .before .r .given .1) (c .before .kind-at .ensures) (c .if1 .left)
+returns-3 c =
+    let a = c .before .before .before .before .before .before .args in
+    let the-r = c .before .before .before .r in
+    let the-kind-at = c .before .kind-at in
+    ends-left (a .code .now) (a .r) (the-r .given .0 .0) (the-kind-at .result) (the-r .given .1) (the-kind-at .ensures) (c .if1 .left)
 
 pub whole-spec : {M : Type 1} → statement M
 whole-spec =
