@@ -1,30 +1,25 @@
-/* Times what the evaluation of a rule is made of, on the valley file's data with the valley request: opening the session, comparing operands,
-   a lone attribute. Prints nanoseconds for each, the best of several rounds. */
+/* Times one evaluation of a rule: the valley's rules 0 and 1, and a rule of 16 terms, on the valley file's data with the valley request; and what
+   comes once for a request (the session) and once for a load (a rule's code). Prints nanoseconds, the best of several rounds. */
 #include <stdbool.h>
 #include <stdint.h>
 #include <stdio.h>
 #include <string.h>
 #include <time.h>
 
+extern uint8_t zhul_time_judge(const uint8_t *policy, size_t policy_length, const uint64_t *attributes, uint8_t *code);
 extern bool zhul_time_open(const uint64_t *attributes, const uint64_t *table, size_t user, size_t object, uint32_t mask, uint64_t *session);
-extern uint8_t zhul_time_compare(const uint8_t *code, size_t code_length, const uint64_t *attributes, const uint64_t *pairs,
-                                 const uint64_t *session, const uint8_t *entries, size_t entries_length, uint8_t operator_, size_t left,
-                                 uint8_t kind, size_t start, size_t end);
-extern uint8_t zhul_time_lone(const uint8_t *code, size_t code_length, const uint64_t *attributes, const uint64_t *pairs,
-                              const uint64_t *session, const uint8_t *entries, size_t entries_length, size_t k);
+extern uint8_t zhul_time_evaluate(const uint8_t *code, const uint64_t *attributes, const uint64_t *pairs, const uint64_t *session,
+                                  const uint8_t *entries, size_t entries_length);
 
 enum { ROUNDS = 9, TURNS = 1000000 };
 enum { USER = 1, OBJECT = 2, ENV = 4 };
-enum { INT = 1, STR = 2, BOOL = 3, COMMA = 9, EQUAL = 16, IN = 17, SUBSET = 19, LESS = 20 };
-enum { FALSE_ = 0, UNDEF = 1, TRUE_ = 2 };
+enum { INT = 1, STR = 2, BOOL = 3 };
+enum { UNDEF = 1, TRUE_ = 2 };
 
 static uint64_t attributes[256], pairs[1024], table[1024], session[128];
+static uint8_t code[768];
 static const uint8_t entries[5] = {4, 10, 0, 0, 0};
-
-/* `17`, `{1,2,3}` and `{"day","season"}` */
-static const uint8_t code[] = {INT, 17, 0, 0, 0,
-                               INT, 1, 0, 0, 0, COMMA, INT, 2, 0, 0, 0, COMMA, INT, 3, 0, 0, 0,
-                               STR, 3, 'd', 'a', 'y', COMMA, STR, 6, 's', 'e', 'a', 's', 'o', 'n'};
+static const char *policy;
 
 static uint64_t packed(const char *text) {
     uint64_t word = 0;
@@ -60,16 +55,8 @@ static void valley(void) {
 }
 
 static uint8_t open_session(void) { return zhul_time_open(attributes, table, 4, 5, 3, session); }
-
-static uint8_t compared(uint8_t operator_, size_t left, uint8_t kind, size_t start, size_t end) {
-    return zhul_time_compare(code, sizeof code, attributes, pairs, session, entries, sizeof entries, operator_, left, kind, start, end);
-}
-
-static uint8_t zones(void) { return compared(EQUAL, 1, 0, 3, 0); }
-static uint8_t hour(void) { return compared(LESS, 4, INT, 0, 5); }
-static uint8_t zone_in(void) { return compared(IN, 1, INT, 5, 22); }
-static uint8_t kind_subset(void) { return compared(SUBSET, 0, STR, 22, 36); }
-static uint8_t staff(void) { return zhul_time_lone(code, sizeof code, attributes, pairs, session, entries, sizeof entries, 2); }
+static uint8_t judge(void) { return zhul_time_judge((const uint8_t *)policy, strlen(policy), attributes, code); }
+static uint8_t evaluate(void) { return zhul_time_evaluate(code, attributes, pairs, session, entries, sizeof entries); }
 
 static double nanoseconds(void) {
     struct timespec t;
@@ -88,16 +75,24 @@ static int measure(const char *name, uint8_t (*call)(void), uint8_t wanted) {
         if (sum != (uint64_t)wanted * TURNS) return printf("%s: not the same value at each turn\n", name), 1;
         if (each < best) best = each;
     }
-    printf("%-40s %8.1f ns\n", name, best);
+    printf("%-28s %8.1f ns\n", name, best);
     return 0;
+}
+
+static int rule(const char *name, const char *text, uint8_t wanted) {
+    policy = text;
+    if (judge() != 0) return printf("%s: refused\n", name), 1;
+    return measure(name, evaluate, wanted);
 }
 
 int main(void) {
     valley();
-    return measure("open the session, refusal 17", open_session, false)
-        | measure("user.zone = object.zone", zones, TRUE_)
-        | measure("env.hour < 17", hour, TRUE_)
-        | measure("user.staff", staff, UNDEF)
-        | measure("user.zone IN {1,2,3}", zone_in, TRUE_)
-        | measure("user.kind SUBSET {\"day\",\"season\"}", kind_subset, TRUE_);
+    return measure("the session and refusal 17", open_session, false)
+        | rule("valley rule 0", "user.zone = object.zone AND env.hour < 17", TRUE_)
+        | measure("its code, at load", judge, 0)
+        | rule("valley rule 1", "user.staff", UNDEF)
+        | rule("rule of 16 terms",
+               "user.zone=object.zone AND env.hour<17 AND env.hour>=8 AND user.zone IN{1,2,3}AND(user.kind IN{\"day\",\"season\"}"
+               "OR NOT user.staff)AND user.zone!=9 AND object.zone SUBSET{2}AND user.zone<=3 OR TRUE AND 1<2 AND{1,2}={2}"
+               "OR 5=6 OR FALSE OR UNDEF OR 3=4", TRUE_);
 }
