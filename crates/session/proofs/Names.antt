@@ -205,7 +205,7 @@ module _ (S : State) (b : Block) (attributes pairs session : List ℕ) (entries 
         let above : 3 < getD attributes (8 * k) 0 = omega (arith, source-row) in
         let block = of .entries-of in
         let not-str : sameType (a .type) AtomType.str ≡ false =
-        sym (ap (λ (t : Bool). t && sameType (a .type) AtomType.str) (ap fromBlock (named-eq (a .source) (a .name) s n has .0) ∙ from)) ∙ of .block-types k a at in
+        sym (ap (λ (t : Bool). t && sameType (a .type) AtomType.str) (ap fromBlock (named-eq (a .source) (a .name) s n has .0) ∙ from)) ∙ of .declarations .attributes .typed k a at in
         subst (λ (o : Operand). Stands L o (each (λ e. given s n (e .value) (nth (D .attributes) (e .attribute))) (b .entries)))
         (in-entries attributes k small zero-not above (typeCode (a .type)) typed-row)
         (subst (λ (l : List _). Stands L (operand (typeCode (a .type)) 1 k 0) (each (λ e. given s n (e .value) (nth (D .attributes) (e .attribute))) l)) (sym (block .are))

@@ -3,12 +3,10 @@ use Prim.Native.Nat.{ℕ, _<_}
 use mathlib.Core.Path.{_≡_}
 use mathlib.Core.Bool.{Bool, false, _&&_}
 use mathlib.Core.List.{List}
-use mathlib.Core.Option.{some}
 use Rattle.model.specs.Notation.{nth, _is_}
 use Rattle.model.specs.Limits.{attributeLimit, pairLimit}
 use Rattle.model.specs.Bytes.{Bytes}
-use Rattle.model.specs.Attributes.{Source, AtomType, fromBlock, sameType}
-use Rattle.model.specs.Declarations.{Attribute}
+use Rattle.model.specs.Attributes.{Source}
 use Rattle.model.specs.Table.{effectiveSet}
 use Rattle.model.specs.State.{State}
 use Rattle.model.specs.Block.{Block, activated}
@@ -33,10 +31,9 @@ mayRead S b k p = pairOf (S .declared) k p && (nth (S .declared .attributes) k i
 abbrev pub Opened : State → Block → List ℕ → Type 0
 Opened S b session = (k p : ℕ) → k < attributeLimit → p < pairLimit → holds session k p ≡ mayRead S b k p
 
--- rows, session and entries are those of a state and a block. "env and connect are never str"
+-- rows, session and entries are those of a state and a block
 pub record SessionOf (S : State) (b : Block) (attributes pairs session : List ℕ) (entries : Bytes) : Type 0 where
   pub declarations : WellDeclared (S .declared)
-  pub block-types : (i : ℕ) (a : Attribute) → nth (S .declared .attributes) i ≡ some a → (fromBlock (a .source) && sameType (a .type) AtomType.str) ≡ false
   pub attribute-rows : AttributeRows attributes (S .declared)
   pub pair-rows : PairRows pairs (S .declared)
   pub opened : Opened S b session
