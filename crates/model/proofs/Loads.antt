@@ -22,10 +22,10 @@ use Rattle.model.proofs.Accepted.{ReadAs, line-reads}
 
 -- "A file is read as its lines one after another": lines that are all accepted, the first of them in a state and behind a line with a key, and the
 -- state and the key that the last one leaves
-pub data Read : State → Option Key → List Bytes → State → Option Key → Type 0 where
-  end : {S : State} {previous : Option Key} → Read S previous [] S previous
+pub data AcceptedLines : State → Option Key → List Bytes → State → Option Key → Type 0 where
+  end : {S : State} {previous : Option Key} → AcceptedLines S previous [] S previous
   next : {S T : State} {previous last : Option Key} {line : Bytes} {lines : List Bytes} {key : Key} {l : Line}
-      → lineRefusal S previous line ≡ 0 → ReadAs line key l → Read (after l S) (some key) lines T last → Read S previous (line ∷ lines) T last
+      → lineRefusal S previous line ≡ 0 → ReadAs line key l → AcceptedLines (after l S) (some key) lines T last → AcceptedLines S previous (line ∷ lines) T last
 
 -- "The first is `rights=1`"
 abbrev pub firstLine : Bytes
@@ -37,7 +37,7 @@ pub record AcceptedFile (file : Bytes) (count : ℕ) (S : State) : Type 0 where
   pub others : List Bytes
   pub last : Option Key
   pub lines-are : linesOf file ≡ firstLine ∷ others
-  pub read : Read empty none others S last
+  pub read : AcceptedLines empty none others S last
   pub counted : count ≡ length (linesOf file)
 
 -- "the first offending line of a file decides": those before it are accepted, n wins among its tests, and its place is counted from 1
@@ -49,7 +49,7 @@ pub record Offending (file : Bytes) (n place : ℕ) : Type 0 where
   pub lines-are : linesOf file ≡ firstLine ∷ (before ++ (line ∷ others))
   pub state : State
   pub previous : Option Key
-  pub read : Read empty none before state previous
+  pub read : AcceptedLines empty none before state previous
   pub wins : Wins (lineTests state previous line) n
   pub placed : place ≡ length (firstLine ∷ before) + 1
 
@@ -62,27 +62,27 @@ pub data RefusedFile (file : Bytes) : ℕ → ℕ → Type 0 where
 -- ---- lines read on
 
 -- what reading on answers, behind n lines
-data Reading (S : State) (previous : Option Key) (n : ℕ) (lines : List Bytes) : Loaded → Type 0 where
-  all : {T : State} {last : Option Key} {count : ℕ} → Read S previous lines T last → count ≡ n + length lines
-      → Reading S previous n lines (record { number = 0; line = count; state = T })
+data ReadingOn (S : State) (previous : Option Key) (n : ℕ) (lines : List Bytes) : Loaded → Type 0 where
+  all : {T : State} {last : Option Key} {count : ℕ} → AcceptedLines S previous lines T last → count ≡ n + length lines
+      → ReadingOn S previous n lines (record { number = 0; line = count; state = T })
   stopped : (before : List Bytes) (line : Bytes) (others : List Bytes) {T : State} {last : Option Key} {m place : ℕ}
-      → lines ≡ before ++ (line ∷ others) → Read S previous before T last → Wins (lineTests T last line) m → place ≡ n + length before + 1
-      → Reading S previous n lines (refusedAt m place)
+      → lines ≡ before ++ (line ∷ others) → AcceptedLines S previous before T last → Wins (lineTests T last line) m → place ≡ n + length before + 1
+      → ReadingOn S previous n lines (refusedAt m place)
 
 -- an accepted line more in front
 one-more : {S : State} {previous : Option Key} {n : ℕ} {line : Bytes} {lines : List Bytes} {key : Key} {l : Line} {r : Loaded}
-    → lineRefusal S previous line ≡ 0 → ReadAs line key l → Reading (after l S) (some key) (suc n) lines r → Reading S previous n (line ∷ lines) r
+    → lineRefusal S previous line ≡ 0 → ReadAs line key l → ReadingOn (after l S) (some key) (suc n) lines r → ReadingOn S previous n (line ∷ lines) r
 one-more e a (all {count = count} r c) = all {count = count} (next e a r) (omega arith)
 one-more {line = l} e a (stopped before line others {place = place} p r w c) =
     stopped (l ∷ before) line others {place = place} (ap (λ (ls : List Bytes). l ∷ ls) p) (next e a r) w (omega arith)
 
-read-on : (S : State) (previous : Option Key) (n : ℕ) (lines : List Bytes) → Reading S previous n lines (readOn S previous n lines)
+read-on : (S : State) (previous : Option Key) (n : ℕ) (lines : List Bytes) → ReadingOn S previous n lines (readOn S previous n lines)
 unfolding readOn
 read-on S previous n [] = all {count = n} end (omega arith)
 read-on S previous n (l ∷ ls) = go (eqb (lineRefusal S previous l) 0) refl (λ T p. read-on T p (suc n) ls)
   where
-    go : (b : Bool) → eqb (lineRefusal S previous l) 0 ≡ b → ((T : State) (p : Option Key) → Reading T p (suc n) ls (readOn T p (suc n) ls))
-        → Reading S previous n (l ∷ ls) (if b then readOn (stepped S (readLine l)) (keyOf l) (suc n) ls else refusedAt (lineRefusal S previous l) (suc n))
+    go : (b : Bool) → eqb (lineRefusal S previous l) 0 ≡ b → ((T : State) (p : Option Key) → ReadingOn T p (suc n) ls (readOn T p (suc n) ls))
+        → ReadingOn S previous n (l ∷ ls) (if b then readOn (stepped S (readLine l)) (keyOf l) (suc n) ls else refusedAt (lineRefusal S previous l) (suc n))
     go true e more =
         let r = eqb-true (lineRefusal S previous l) 0 e in
         let (key, line, a) = line-reads S previous l r in
@@ -91,7 +91,7 @@ read-on S previous n (l ∷ ls) = go (eqb (lineRefusal S previous l) 0) refl (λ
         stopped [] l ls {place = suc n} refl end (line-refused S previous l (lineRefusal S previous l) .0 (refl, eqb-false _ 0 e)) (omega arith)
 
 -- lines that are accepted are passed over
-read-through : {S T : State} {previous last : Option Key} {lines : List Bytes} → Read S previous lines T last
+read-through : {S T : State} {previous last : Option Key} {lines : List Bytes} → AcceptedLines S previous lines T last
     → (n k : ℕ) → k ≡ n + length lines → (rest : List Bytes) → readOn S previous n (lines ++ rest) ≡ readOn T last k rest
 unfolding readOn
 read-through {S} {previous = previous} end n k c rest = ap (λ (i : ℕ). readOn S previous i rest) (omega arith)
@@ -161,7 +161,7 @@ module _ (file : Bytes) where
       (λ p q e. absurd (omega arith))
       (λ p q. go p (right-first file q) (read-on empty none 1 (otherLines (linesOf file))))
     where
-      go : {r : Loaded} → tooLong file ≡ false → linesOf file ≡ firstLine ∷ otherLines (linesOf file) → Reading empty none 1 (otherLines (linesOf file)) r
+      go : {r : Loaded} → tooLong file ≡ false → linesOf file ≡ firstLine ∷ otherLines (linesOf file) → ReadingOn empty none 1 (otherLines (linesOf file)) r
           → r .number ≡ 0 → AcceptedFile file (r .line) (r .state)
       go p q (all {last = last} a c) e = record {
         not-too-long = p;
@@ -188,7 +188,7 @@ module _ (file : Bytes) where
       (λ p q n. wrong-first p q)
       (λ p q. go p (right-first file q) (read-on empty none 1 (otherLines (linesOf file))))
     where
-      go : {r : Loaded} → tooLong file ≡ false → linesOf file ≡ firstLine ∷ otherLines (linesOf file) → Reading empty none 1 (otherLines (linesOf file)) r
+      go : {r : Loaded} → tooLong file ≡ false → linesOf file ≡ firstLine ∷ otherLines (linesOf file) → ReadingOn empty none 1 (otherLines (linesOf file)) r
           → (r .number ≡ 0 → ⊥) → RefusedFile file (r .number) (r .line)
       go p q (all a c) n = absurd (n refl)
       go p q (stopped before line others {T = T} {last = last} {place = place} s a w c) n =

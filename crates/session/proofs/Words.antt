@@ -18,7 +18,7 @@ use Rattle.bits.proofs.Bits.{bit-and}
 use Rattle.bits.proofs.Sets.{four, member-part, member-none}
 use Rattle.bits.proofs.Counts.{any-at}
 use Rattle.rows.specs.Rows.{masked}
-use Rattle.session.specs.Words.{holderFor, inTable, openedPair, OpenedWords, Stored, heldWords, unheldAt, unheldWords}
+use Rattle.session.specs.Words.{holderFor, inTable, openedPair, OpenedWords, WordsWritten, heldWords, unheldAt, unheldWords}
 
 -- the holder whose set is read, by the source
 module _ (rows : List ℕ) (nobody user object mask k : ℕ) where
@@ -119,7 +119,7 @@ module _ (s : List ℕ) (k : ℕ) (w : List ℕ) (long : length s ≡ 128) (smal
       word3 =
           getD-set-same (set (set (set s (4 * k) (getD w 0 0)) (4 * k + 1) (getD w 1 0)) (4 * k + 2) (getD w 2 0)) (4 * k + 3) (getD w 3 0) 0 (simp length-set (omega arith))
 
-  pub stores : Stored s k (member w) stored
+  pub stores : WordsWritten s k (member w) stored
   unfolding holds member
   stores j p h = go (ℕ-discrete j k)
     where
@@ -142,7 +142,7 @@ OpenedBelow rows table user object mask session n = (k p : ℕ) → k < n → p 
 module _ (rows table : List ℕ) (user object mask k : ℕ) (before after words : List ℕ) (holder : ℕ)
     (held : holder ≡ holderFor rows (length table) user object mask k)
     (word : (p : ℕ) → p < 256 → member words p ≡ (inTable table holder p && masked rows k p))
-    (put : Stored before k (member words) after) where
+    (put : WordsWritten before k (member words) after) where
   pub one-more : OpenedBelow rows table user object mask before k → OpenedBelow rows table user object mask after (k + 1)
   unfolding openedPair
   one-more f j p l h = put j p h ∙ go (ℕ-discrete j k)

@@ -33,8 +33,8 @@ OpenedWords rows table user object mask session =
     (k p : ℕ) → k < attributeLimit → p < pairLimit → holds session k p ≡ openedPair rows table user object mask k p
 
 -- the words of attribute k are w, those of the others as before
-abbrev pub Stored : List ℕ → ℕ → (ℕ → Bool) → List ℕ → Type 0
-Stored before k f after = (j p : ℕ) → p < pairLimit → holds after j p ≡ (if eqb j k then f p else holds before j p)
+abbrev pub WordsWritten : List ℕ → ℕ → (ℕ → Bool) → List ℕ → Type 0
+WordsWritten before k f after = (j p : ℕ) → p < pairLimit → holds after j p ≡ (if eqb j k then f p else holds before j p)
 
 -- the table holds exactly the effective pairs of holder k
 pub record SetOf (S : State) (table : List ℕ) (k : ℕ) : Type 0 where

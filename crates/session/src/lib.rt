@@ -6,7 +6,7 @@ ghost use Rattle.model.specs.Limits.{pairLimit};
 ghost use Rattle.bits.specs.Bits.{member, Numbers};
 ghost use Rattle.rows.specs.Rows.{masked};
 ghost use mathlib.Core.Bool.{_&&_};
-ghost use Rattle.session.specs.Words.{holderFor, inTable, OpenedWords, Stored, heldWords, unheldAt, unheldWords};
+ghost use Rattle.session.specs.Words.{holderFor, inTable, OpenedWords, WordsWritten, heldWords, unheldAt, unheldWords};
 use codes::ADMIN;
 use codes::OBJECT;
 use codes::USER;
@@ -58,7 +58,7 @@ fn words_of(attributes: &[u64], table: &[u64], holder: usize, k: usize) -> [u64;
 // Writes the words of attribute k.
 fn write(session: &mut [u64], k: usize, words: [u64; 4])
     requires { ⌜ (length (now session) ≡ 128) × (k < 32) ⌝ }
-    ensures { λ _. ⌜ Stored (now (session .entry)) k (member words) (now (session .exit)) ⌝ }
+    ensures { λ _. ⌜ WordsWritten (now (session .entry)) k (member words) (now (session .exit)) ⌝ }
 {
     session[4 * k] = words[0];
     session[4 * k + 1] = words[1];

@@ -17,7 +17,7 @@ use Rattle.bits.proofs.Counts.{any-ext, any-find, find-any}
 use Rattle.bits.proofs.Bits.{bit-none}
 use Rattle.ties.specs.TieArrays.{inUse, tied, Distinct}
 use Rattle.ties.proofs.Masks.{in-use-lt}
-use Rattle.sets.specs.Settled.{Solves, RightAt, Right, Stored, ShortChains, Chain, one, more, Deep, Settled, Spared, AllDeep, GroupsRight, NoGroups, Told, StoredEach}
+use Rattle.sets.specs.Settled.{Solves, RightAt, Right, Stored, ShortChains, Chain, one, more, Deep, Settled, Spared, AllDeep, GroupsRight, NoGroups, MarksChanged, StoredEach}
 use Rattle.sets.proofs.Parts.{holds-kept}
 use Rattle.sets.proofs.Telling.{SameAt, others-same, told-none, told-more}
 
@@ -184,7 +184,7 @@ other-right own slots {t₁} {t₂} k mask i f b n r p h = holds-kept t₁ t₂ 
 module _ {ups own slots t t₁ t₂ m m₁ m₂ : List ℕ} {d d₁ : ℕ} {deep : Type 0} (d₂ group k mask : ℕ) (low : group < 64) (live : inUse (length ups) slots group ≡ true)
     (long : length t₁ ≡ 4 * length ups) (at : k ≡ getD slots group 0) (by : mask ≡ getD ups k 0) (new : bit d₁ group ≡ false)
     (a : Settled ups own slots t t₁ m m₁ d d₁ deep (λ g. bit mask g ≡ true))
-    (b : Stored own slots k mask t₁ t₂) (c : Told m₁ m₂ t₁ t₂)
+    (b : Stored own slots k mask t₁ t₂) (c : MarksChanged m₁ m₂ t₁ t₂)
     (e : (j : ℕ) → bit d₂ j ≡ (bit d₁ j || eqb j group)) where
   own-right : (f : ℕ → ℕ → Bool) → Solves ups own slots f → Right (length ups) slots f t₁ d₁ → deep → RightAt f t₂ k
   unfolding Right
@@ -232,7 +232,7 @@ module _ {ups own slots wanted t t₁ m m₁ : List ℕ} (k : ℕ) (a : StoredEa
 
   -- holder k is stored, and the next of the set is n
   pub each-taken : {t₂ m₂ : List ℕ} (mask n : ℕ) → k < length ups → length t₁ ≡ 4 * length ups → mask ≡ getD ups k 0 → member wanted k ≡ true
-      → Stored own slots k mask t₁ t₂ → Told m₁ m₂ t₁ t₂ → k < n → ((j : ℕ) → k + 1 ≤ j → j < n → member wanted j ≡ false) → StoredEach ups own slots wanted t t₂ m m₂ n
+      → Stored own slots k mask t₁ t₂ → MarksChanged m₁ m₂ t₁ t₂ → k < n → ((j : ℕ) → k + 1 ≤ j → j < n → member wanted j ≡ false) → StoredEach ups own slots wanted t t₂ m m₂ n
   unfolding GroupsRight
   each-taken {t₂} mask n few long by on b c less none = record {
     right = λ f s r no-groups i l o.

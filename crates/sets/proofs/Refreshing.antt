@@ -27,7 +27,7 @@ use Rattle.ties.specs.TieArrays.{inUse, tied, meets, isGroup, groupOf, under, R
 use Rattle.ties.proofs.Masks.{in-use-lt}
 use Rattle.ties.proofs.Keeps.{slot-group, group-any}
 use Rattle.ties.proofs.Below.{above-meets, holders-fit}
-use Rattle.sets.specs.Settled.{Solves, RightAt, Right, Stored, Told, unlike, Settled, AllDeep, StoredEach}
+use Rattle.sets.specs.Settled.{Solves, RightAt, Right, Stored, MarksChanged, unlike, Settled, AllDeep, StoredEach}
 use Rattle.sets.specs.Filled.{KeepsSets}
 use Rattle.sets.specs.Refreshed.{EditedAt, Elsewhere, Rewritten, Refreshed}
 use Rattle.sets.proofs.Parts.{holds-kept}
@@ -124,7 +124,7 @@ module _ (ups slots : List ℕ) (e m : ℕ) (marks : Marks ups slots e m) where
 -- ---- a user or object: nobody is below it, and its own set is all
 
 module _ (ups own slots : List ℕ) (e up : ℕ) (t t′ marks marks′ : List ℕ) (none : Marks ups slots e 0) (long : length t ≡ 4 * length ups) (by : up ≡ getD ups e 0)
-    (b : Stored own slots e up t t′) (c : Told marks marks′ t t′) where
+    (b : Stored own slots e up t t′) (c : MarksChanged marks marks′ t t′) where
   under-none : (k : ℕ) → under ups 0 e k ≡ eqb k e
   unfolding under meets
   under-none k =

@@ -13,7 +13,7 @@ use borrow.Rule.Slice.PartMut.{putMid}
 use Rattle.bits.specs.Bits.{bit, member, holds, differ}
 use Rattle.bits.proofs.Sets.{member-part, same-beq, four, stored4}
 use Rattle.bits.proofs.Counts.{any-ext, any-at}
-use Rattle.sets.specs.Settled.{unlike, Told, Stored}
+use Rattle.sets.specs.Settled.{unlike, MarksChanged, Stored}
 use Rattle.sets.proofs.Parts.{holds-put, holds-past, holds-kept}
 
 -- holder k's words are the same in two tables
@@ -66,11 +66,11 @@ or-swap false false = refl
 
 -- ---- marks
 
-pub told-none : (m t : List ℕ) → Told m m t t
+pub told-none : (m t : List ℕ) → MarksChanged m m t t
 told-none m t = record { marks = λ k. sym (ap (λ (b : Bool). member m k || b) (unlike-same t t k (λ j e. refl)) ∙ or-false (member m k)) }
 
 -- one after another, where each holder's words stay on one of the two ways
-pub told-more : {m m₁ m₂ t t₁ t₂ : List ℕ} → Told m m₁ t t₁ → Told m₁ m₂ t₁ t₂ → ((k : ℕ) → SameAt t t₁ k ⊎ SameAt t₁ t₂ k) → Told m m₂ t t₂
+pub told-more : {m m₁ m₂ t t₁ t₂ : List ℕ} → MarksChanged m m₁ t t₁ → MarksChanged m₁ m₂ t₁ t₂ → ((k : ℕ) → SameAt t t₁ k ⊎ SameAt t₁ t₂ k) → MarksChanged m m₂ t t₂
 told-more {m} {m₁} {m₂} {t} {t₁} {t₂} a b same = record { marks = λ k. more k }
   where
     more : (k : ℕ) → member m₂ k ≡ (member m k || unlike t t₂ k)
@@ -88,14 +88,14 @@ module _ {own slots t t′ : List ℕ} {k mask : ℕ} (stored : Stored own slots
   pub others-same : (i : ℕ) → (i ≡ k → ⊥) → SameAt t t′ i
   others-same i n j e = stored .others j (λ x. n (sym e ∙ x))
 
-  pub told-changed : (m m′ : List ℕ) → unlike t t′ k ≡ true → ((i : ℕ) → member m′ i ≡ (member m i || eqb i k)) → Told m m′ t t′
+  pub told-changed : (m m′ : List ℕ) → unlike t t′ k ≡ true → ((i : ℕ) → member m′ i ≡ (member m i || eqb i k)) → MarksChanged m m′ t t′
   told-changed m m′ on put = record { marks = λ i. put i ∙ ap (λ (b : Bool). member m i || b) (go i (ℕ-discrete i k)) }
     where
       go : (i : ℕ) → Dec (i ≡ k) → eqb i k ≡ unlike t t′ i
       go i (yes e) = eq-eqb i k e ∙ sym (ap (unlike t t′) e ∙ on)
       go i (no n) = ne-eqb i k n ∙ sym (unlike-same t t′ i (others-same i n))
 
-  pub told-unchanged : (m : List ℕ) → unlike t t′ k ≡ false → Told m m t t′
+  pub told-unchanged : (m : List ℕ) → unlike t t′ k ≡ false → MarksChanged m m t t′
   told-unchanged m off = record { marks = λ i. sym (ap (λ (b : Bool). member m i || b) (go i (ℕ-discrete i k)) ∙ or-false (member m i)) }
     where
       go : (i : ℕ) → Dec (i ≡ k) → unlike t t′ i ≡ false

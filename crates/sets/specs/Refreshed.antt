@@ -11,7 +11,7 @@ use Rattle.model.specs.Table.{table}
 use Rattle.model.specs.Edits.{changes}
 use Rattle.model.specs.Standing.{Standing, DifferAt}
 use Rattle.ties.specs.TieArrays.{tied, Distinct, KeepsTies, Room, Under}
-use Rattle.sets.specs.Settled.{Told}
+use Rattle.sets.specs.Settled.{MarksChanged}
 use Rattle.sets.specs.Filled.{KeepsSets}
 
 -- U is what an edit of holder e's ties made of T, both of standing states of D, and the arrays keep it
@@ -30,7 +30,7 @@ Elsewhere ups slots e t t′ =
 pub record Rewritten (ups own slots : List ℕ) (e : ℕ) (t t′ m m′ : List ℕ) : Type 0 where
   pub right : (D : Declarations) (T U : Ties) → EditedAt ups own slots e D T U → Room D (length ups)
       → KeepsSets (length ups) t D T → KeepsSets (length ups) t′ D U
-  pub told : Distinct (length ups) slots → Told m m′ t t′
+  pub told : Distinct (length ups) slots → MarksChanged m m′ t t′
   pub elsewhere : Elsewhere ups slots e t t′
 
 -- from the table t to t′: r holders' sets changed. A table for document 01's number of holders goes from one state's table to the other's.

@@ -46,7 +46,7 @@ unfoldable pub unlike : List ℕ → List ℕ → ℕ → Bool
 unlike t u k = anyBelow pairLimit (λ p. not (Bool·beq (holds t k p) (holds u k p)))
 
 -- from the marks m to m′ just those holders are marked too whose sets in t and in u are not the same
-pub record Told (m m′ t u : List ℕ) : Type 0 where
+pub record MarksChanged (m m′ t u : List ℕ) : Type 0 where
   pub marks : (k : ℕ) → member m′ k ≡ (member m k || unlike t u k)
 
 -- each chain of ties up from the group of slot g is shorter than n
@@ -73,7 +73,7 @@ pub record Settled (ups own slots t t′ m m′ : List ℕ) (d d′ : ℕ) (deep
   pub others : (j : ℕ)
       → ((q : ℕ) → q < groupLimit → inUse (length ups) slots q ≡ true → bit d q ≡ false → bit d′ q ≡ true → j / 4 ≡ getD slots q 0 → ⊥)
       → getD t′ j 0 ≡ getD t j 0
-  pub told : Distinct (length ups) slots → Told m m′ t t′
+  pub told : Distinct (length ups) slots → MarksChanged m m′ t t′
 
 -- the groups of the mask `path` are not new in d′
 unfoldable pub Spared : ℕ → ℕ → ℕ → Type 0
@@ -95,4 +95,4 @@ pub record StoredEach (ups own slots wanted t t′ m m′ : List ℕ) (n : ℕ) 
   pub right : (f : ℕ → ℕ → Bool) → Solves ups own slots f → GroupsRight (length ups) slots f t → NoGroups (length ups) slots wanted
       → (k : ℕ) → k < n → member wanted k ≡ true → RightAt f t′ k
   pub others : (j : ℕ) → (member wanted (j / 4) ≡ true → j / 4 < n → ⊥) → getD t′ j 0 ≡ getD t j 0
-  pub told : Told m m′ t t′
+  pub told : MarksChanged m m′ t t′

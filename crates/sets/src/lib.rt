@@ -5,7 +5,7 @@ ghost use Prim.Native.Nat.{_*_, _%_, _<_, _≤_};
 ghost use lib.ListN.{length, getD};
 ghost use Rattle.model.specs.Limits.{groupLimit};
 ghost use Rattle.bits.specs.Bits.{bit, member, holds, differ, Numbers, anyBelow};
-ghost use Rattle.sets.specs.Settled.{markWords, Shaped, Marked, unlike, Told, Stored, Settled, Deep, Spared, AllDeep, StoredEach};
+ghost use Rattle.sets.specs.Settled.{markWords, Shaped, Marked, unlike, MarksChanged, Stored, Settled, Deep, Spared, AllDeep, StoredEach};
 ghost use Rattle.sets.specs.Filled.{Filled};
 ghost use Rattle.sets.specs.Refreshed.{Rewritten, Refreshed};
 
@@ -80,7 +80,7 @@ fn store_marked(
     mask: u64,
 )
     requires { ⌜ (length (now table) % 4 ≡ 0) × (length (now own) ≡ length (now table)) × (length (now slots) ≡ groupLimit) × (length (now table) ≤ 256 * length (now marks)) ⌝ }
-    ensures { λ _. ⌜ Stored (now (own .entry)) (now (slots .entry)) k mask (now (table .entry)) (now (table .exit)) × Told (now (marks .entry)) (now (marks .exit)) (now (table .entry)) (now (table .exit)) ⌝ }
+    ensures { λ _. ⌜ Stored (now (own .entry)) (now (slots .entry)) k mask (now (table .entry)) (now (table .exit)) × MarksChanged (now (marks .entry)) (now (marks .exit)) (now (table .entry)) (now (table .exit)) ⌝ }
 {
     if store(table, own, slots, k, mask) {
         bits::insert(marks, k);

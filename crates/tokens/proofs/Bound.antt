@@ -14,14 +14,14 @@ use Rattle.model.proofs.Options.{bound}
 use Rattle.codes.specs.Codes.{endCode}
 use Rattle.tokens.specs.RuleCode.{carried, encodeToken, ruleCode, size}
 use Rattle.tokens.proofs.RuleCode.{size-carried}
-use Rattle.tokens.proofs.Seen.{Room, ReadAt, Seen, ended, refused, read, seen}
+use Rattle.tokens.proofs.Seen.{CodeRoom, ReadAt, Seen, ended, refused, read, seen}
 
 module _ (D : Declarations) (s : Bytes) where
   -- the code of the tokens from a place on, behind what is written when the place is reached
   abbrev Fits : ℕ → ℕ → Type 0
   Fits at len = (ts : List Token) → tokensWithin (length (drop at s)) (drop at s) ≡ some ts → len + length (each (encodeToken D) ts) ≤ 3 * length s + 2
 
-  step : (at len : ℕ) → at ≤ length s → Room s at len → Seen s at → ((next l : ℕ) → at < next → next ≤ length s → Room s next l → Fits next l) → Fits at len
+  step : (at len : ℕ) → at ≤ length s → CodeRoom s at len → Seen s at → ((next l : ℕ) → at < next → next ≤ length s → CodeRoom s next l → Fits next l) → Fits at len
   step at len w r (ended p q) more ts e =
       let z : [] ≡ ts = Option·some-injective _ _ (sym (q (length (drop at s)) (omega arith)) ∙ e) in
       let f = r .few in
@@ -33,7 +33,7 @@ module _ (D : Declarations) (s : Bytes) where
       let z : t ∷ us ≡ ts = Option·some-injective _ _ g in
       omega (arith, size-carried D t, sym (ap (λ (us : List Token). length (each (encodeToken D) us)) z) ∙ length-append (encodeToken D t) (each (encodeToken D) us))
 
-  fits : (k at len : ℕ) → length s ≤ at + k → at ≤ length s → Room s at len → Fits at len
+  fits : (k at len : ℕ) → length s ≤ at + k → at ≤ length s → CodeRoom s at len → Fits at len
   fits zero at len h w r = step at len w r (seen s at) (λ next l a b c. absurd (omega arith))
   fits (suc k) at len h w r = step at len w r (seen s at) (λ next l a b c. fits k next l (omega arith) b c)
 

@@ -22,9 +22,9 @@ use Rattle.tokens.specs.declared.Written.{Written}
 use Rattle.tokens.specs.declared.Encoded.{Encoded}
 use Rattle.tokens.specs.RuleCode.{encodeToken, ruleCode, size, Encodes, CodeOf}
 use Rattle.tokens.specs.Reading.{plainCode, codeOf, placed, tokenAt, lead}
-use Rattle.tokens.specs.Writing.{Stands, Given, Wrote}
+use Rattle.tokens.specs.Writing.{TokenStands, Given, Wrote}
 use Rattle.tokens.proofs.Puts.{put-front, put-behind, put-length}
-use Rattle.tokens.proofs.Seen.{within-enough, within-nil, Room, ReadAt, Seen, ended, refused, read, seen}
+use Rattle.tokens.proofs.Seen.{within-enough, within-nil, CodeRoom, ReadAt, Seen, ended, refused, read, seen}
 
 -- laws of lists that are gone through from the front
 module _ {A : Type 0} where
@@ -53,7 +53,7 @@ or-false false = refl
 pub record Passed (s : Bytes) (attributes : List ℕ) (before code : Bytes) (at len : ℕ) (unknown : Bool) : Type 0 where
   pub tokens : List Token
   pub within : at ≤ length s
-  pub room : Room s at len
+  pub room : CodeRoom s at len
   pub left : (n m : ℕ) → length s ≤ n → length (drop at s) ≤ m → tokensWithin n s ≡ (tokensWithin m (drop at s) >>= λ ts. some (tokens ++ ts))
   pub long : length code ≡ length before
   pub behind : drop len code ≡ drop len before
@@ -109,7 +109,7 @@ module _ {s : Bytes} {attributes : List ℕ} {before code : Bytes} {at len : ℕ
       go (read t next r) = absurd (omega (arith, kind-range t, sym k ∙ ap (λ (t : Placed). t .code .kind) (r .code)))
 
   -- what is read there is a token of the policy
-  stands : (t : Placed) (u : Token) (next : ℕ) → t ≡ tokenAt s at → ReadAt s at u next → Stands s t u
+  stands : (t : Placed) (u : Token) (next : ℕ) → t ≡ tokenAt s at → ReadAt s at u next → TokenStands s t u
   stands t u next e r =
       let f : t ≡ placed (codeOf u) next = e ∙ r .code in
       let n : t .next ≡ next = ap (λ (v : Placed). v .next) f in
@@ -124,7 +124,7 @@ module _ {s : Bytes} {attributes : List ℕ} {before code : Bytes} {at len : ℕ
     pub passed-given : Given s t len (length code)
     passed-given = go (seen s at)
       where
-        fits : (next : ℕ) (k : ℕ) → next ≤ length s → Room s next k → k ≤ length code
+        fits : (next : ℕ) (k : ℕ) → next ≤ length s → CodeRoom s next k → k ≤ length code
         fits next k h r = let f = r .few in let l = p .long in omega arith
 
         go : Seen s at → Given s t len (length code)
@@ -142,7 +142,7 @@ module _ {s : Bytes} {attributes : List ℕ} {before code : Bytes} {at len : ℕ
 
     module _ {after : Bytes} {w : Written} (put : Wrote s attributes t code len after w) where
       -- what is written fits, and what is known of it
-      step : (next : ℕ) (more : List Token) → t .next ≡ next → next ≤ length s → Room s next (w .len)
+      step : (next : ℕ) (more : List Token) → t .next ≡ next → next ≤ length s → CodeRoom s next (w .len)
           → ((n m : ℕ) → length s ≤ n → length (drop next s) ≤ m → tokensWithin n s ≡ (tokensWithin m (drop next s) >>= λ ts. some (p .tokens ++ more ++ ts)))
           → ((D : Declarations) → WellDeclared D → AttributeRows attributes D
           → (put .bytes ≡ each (encodeToken D) more) × (any (unknownName D) (p .tokens ++ more) ≡ (any (unknownName D) (p .tokens) || w .unknown)))
@@ -155,7 +155,7 @@ module _ {s : Bytes} {attributes : List ℕ} {before code : Bytes} {at len : ℕ
           record {
             tokens = p .tokens ++ more;
             within = subst (λ (k : ℕ). k ≤ length s) (sym n) h;
-            room = subst (λ (k : ℕ). Room s k (w .len)) (sym n) r;
+            room = subst (λ (k : ℕ). CodeRoom s k (w .len)) (sym n) r;
             left = subst (λ (k : ℕ). (i m : ℕ) → length s ≤ i → length (drop k s) ≤ m → tokensWithin i s ≡ (tokensWithin m (drop k s) >>= λ ts. some (p .tokens ++ more ++ ts))) (sym n) left;
             long = put-length (put .put) fits ∙ l;
             behind = ap (λ (k : ℕ). drop k after) e ∙ put-behind (put .put) fits ∙ drop-more code before len (length (put .bytes)) (p .behind) ∙ ap (λ (k : ℕ). drop k before) (sym e);
@@ -192,7 +192,7 @@ module _ {s : Bytes} {attributes : List ℕ} {before code : Bytes} {at len : ℕ
               let st = stands t u next here r in
               let l : len + size u ≡ w .len = sym (put .len ∙ ap (λ (k : ℕ). len + k) (put .long u st)) in
               step next (u ∷ []) (ap (λ (v : Placed). v .next) (here ∙ r .code)) (r .within)
-              (subst (Room s next) l (r .room len (p .room)))
+              (subst (CodeRoom s next) l (r .room len (p .room)))
               (λ n m i j. p .left n (length (drop at s)) i (omega arith)
               ∙ ap (λ (o : Option (List Token)). o >>= λ ts. some (p .tokens ++ ts)) (r .tokens (length (drop at s)) m (omega arith) j)
               ∙ bind-more u (tokensWithin m (drop next s)))

@@ -94,7 +94,7 @@ within-some (suc n) m x u {t} {rest} e f h k =
     within-cons n x u e ∙ ap (others n) f ∙ ap (λ (o : Option (List Token)). o >>= λ ts. some (t ∷ ts)) (within-enough n m rest (omega arith) k)
 
 -- how much code there is when a place is reached: three bytes for each byte passed, and two more where no word begins there
-pub record Room (s : Bytes) (at len : ℕ) : Type 0 where
+pub record CodeRoom (s : Bytes) (at len : ℕ) : Type 0 where
   pub few : len ≤ 3 * at + 2
   pub fewer : 0 < lead wordByte (drop at s) → len ≤ 3 * at
 
@@ -105,7 +105,7 @@ pub record ReadAt (s : Bytes) (at : ℕ) (t : Token) (next : ℕ) : Type 0 where
   pub after : at < next
   pub within : next ≤ length s
   pub text : (u : Bytes) → t ≡ str u → (length u + 1 ≤ next) × (take (length u) (drop (next - 1 - length u) s) ≡ u)
-  pub room : (len : ℕ) → Room s at len → Room s next (len + size t)
+  pub room : (len : ℕ) → CodeRoom s at len → CodeRoom s next (len + size t)
   pub tokens : (n m : ℕ) → length (drop at s) ≤ n → length (drop next s) ≤ m → tokensWithin n (drop at s) ≡ (tokensWithin m (drop next s) >>= λ ts. some (t ∷ ts))
 
 -- what the token at a place says of the tokens from there on
@@ -155,7 +155,7 @@ module _ (s : Bytes) (at x : ℕ) (u : Bytes) (e : unspaced (drop at s) ≡ x �
       let a : v ++ (34 ∷ []) ++ rest ≡ v ++ (34 ∷ rest) = append-assoc v (34 ∷ []) rest in
       (omega arith, ap (λ (q : ℕ). take (length v) (drop q s)) p ∙ ap (take (length v)) (d ∙ a) ∙ take-at v (34 ∷ rest) (length v) refl)
 
-  room-there : (len : ℕ) → Room s at len → Room s next (len + size t)
+  room-there : (len : ℕ) → CodeRoom s at len → CodeRoom s next (len + size t)
   unfolding next start
   room-there len r = go (k .cost)
     where
@@ -166,7 +166,7 @@ module _ (s : Bytes) (at x : ℕ) (u : Bytes) (e : unspaced (drop at s) ≡ x �
           let f = r .fewer (subst (λ (q : Bytes). 0 < lead wordByte q) (from-start ∙ ap (λ (q : ℕ). drop q s) z) h) in
           omega arith
 
-      go : Cost t (x ∷ u) rest (length (k .front)) → Room s (at + spaces + length (k .front)) (len + size t)
+      go : Cost t (x ∷ u) rest (length (k .front)) → CodeRoom s (at + spaces + length (k .front)) (len + size t)
       go (word a b c) =
           let f = begun a (decLt 0 spaces) in
           let g : lead wordByte (drop next s) ≡ 0 = ap (lead wordByte) (sym from-next) ∙ b in

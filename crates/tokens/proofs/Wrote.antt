@@ -19,7 +19,7 @@ use Rattle.tokens.specs.declared.Token.{Token as Placed}
 use Rattle.tokens.specs.declared.Written.{Written}
 use Rattle.tokens.specs.RuleCode.{lowBytes, encodeToken, size}
 use Rattle.tokens.specs.Reading.{plainCode, codeOf, sourceIn, lowIn, highIn}
-use Rattle.tokens.specs.Writing.{upTo, Put, NamePut, Stands, Given, ended, token, Wrote}
+use Rattle.tokens.specs.Writing.{upTo, Put, NamePut, TokenStands, Given, ended, token, Wrote}
 
 -- tokens take a byte at least
 size-some : (u : Token) → 1 ≤ size u
@@ -41,7 +41,7 @@ fixed-code (operator o) a b c = (refl, λ D. (refl, refl))
 fixed-code (mark m) a b c = (refl, λ D. (refl, refl))
 
 -- the token by its numbers
-module _ {s : Bytes} {t : Placed} {u : Token} (st : Stands s t u) where
+module _ {s : Bytes} {t : Placed} {u : Token} (st : TokenStands s t u) where
   kind-is : kindOf u ≡ t .code .kind
   kind-is = sym (ap (λ (v : Code). v .kind) (st .code))
 
@@ -124,7 +124,7 @@ module _ {s : Bytes} {attributes : List ℕ} {t : Placed} {before : Bytes} {at :
             (ap (λ (l : Bytes). 2 ∷ length l ∷ l) g ∙ sym (ap (encodeToken D) f), ap (λ (w : Written). w .unknown) e ∙ sym (ap (unknownName D) f));
       }
     where
-      spelt : (u : Token) → Stands s t u → (w : Bytes) × (u ≡ str w) × (v ≡ w)
+      spelt : (u : Token) → TokenStands s t u → (w : Bytes) × (u ≡ str w) × (v ≡ w)
       spelt u st =
           let (w, f) = str-kind u (kind-is st ∙ k) in
           let l : t .code .low ≡ length w = low-is st ∙ ap lowIn f in

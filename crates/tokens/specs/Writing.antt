@@ -39,7 +39,7 @@ pub record NamePut (attributes : List ℕ) (name : Code) (before : Bytes) (at : 
       → (byte ≡ numberOr unknownNumber (attributeNumber D s n)) × (r .unknown ≡ isNone (attributeNumber D s n))
 
 -- t is the token u of the policy s: the text of a str stands before the last byte that it takes
-pub record Stands (s : Bytes) (t : Placed) (u : Token) : Type 0 where
+pub record TokenStands (s : Bytes) (t : Placed) (u : Token) : Type 0 where
   pub well : isToken u ≡ true
   pub code : t .code ≡ codeOf u
   pub within : t .next ≤ length s
@@ -48,7 +48,7 @@ pub record Stands (s : Bytes) (t : Placed) (u : Token) : Type 0 where
 -- t is the end or a token, and there is room for its code
 pub data Given (s : Bytes) (t : Placed) (at n : ℕ) : Type 0 where
   ended : t .code ≡ plainCode endCode → at ≤ n → Given s t at n
-  token : (u : Token) → Stands s t u → at + size u ≤ n → Given s t at n
+  token : (u : Token) → TokenStands s t u → at + size u ≤ n → Given s t at n
 
 -- the code of a token is written, and none for the end
 pub record Wrote (s : Bytes) (attributes : List ℕ) (t : Placed) (before : Bytes) (at : ℕ) (after : Bytes) (r : Written) : Type 0 where
@@ -56,6 +56,6 @@ pub record Wrote (s : Bytes) (attributes : List ℕ) (t : Placed) (before : Byte
   pub put : Put before at bytes after
   pub len : r .len ≡ at + length bytes
   pub end : t .code ≡ plainCode endCode → (bytes ≡ []) × (r .unknown ≡ false)
-  pub long : (u : Token) → Stands s t u → length bytes ≡ size u
-  pub token : (D : Declarations) → WellDeclared D → AttributeRows attributes D → (u : Token) → Stands s t u
+  pub long : (u : Token) → TokenStands s t u → length bytes ≡ size u
+  pub token : (D : Declarations) → WellDeclared D → AttributeRows attributes D → (u : Token) → TokenStands s t u
       → (bytes ≡ encodeToken D u) × (r .unknown ≡ unknownName D u)
