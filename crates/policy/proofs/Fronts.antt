@@ -1,13 +1,13 @@
 -- What a byte of rule code says of the tokens from its place on.
-use Prim.Native.Nat.{ℕ, zero, suc, _+_, _≤_, _<_}
+use Prim.Native.Nat.{ℕ, _+_, _≤_, _<_}
 use mathlib.Core.Path.{_≡_, refl, sym, ap, subst, _∙_}
 use mathlib.Core.Bool.{Bool, true, false}
 use mathlib.Core.List.{List, [], _∷_}
-use mathlib.Core.Option.{Option, none, some}
+use mathlib.Core.Option.{none, some}
 use native.Mathlib.Omega.{arith}
 use native.Mathlib.Decide.{decLt}
 use lib.ListN.{length, getD, List·getD-eq-default}
-use Rattle.model.specs.Notation.{onlyIf, any, all}
+use Rattle.model.specs.Notation.{onlyIf, any}
 use Rattle.model.specs.Bytes.{Bytes}
 use Rattle.model.specs.Tokens.{Token, name, int, str, truth, operator, mark, Mark, Operator, markWord, asConstant, isToken}
 use Rattle.model.specs.Grammar.{isMark, behindMark, readOperator}
@@ -15,7 +15,7 @@ use Rattle.model.specs.Refusals.{unknownName}
 use Rattle.model.proofs.Lists.{all-parts}
 use Rattle.model.proofs.Words.{false-is-true, same-word, marks, reads-mark, same-refl}
 use Rattle.codes.specs.Codes.{kindOf, markCode, operatorCode}
-use Rattle.codes.proofs.TokenKinds.{mark-range, operator-range, truth-range}
+use Rattle.codes.proofs.TokenKinds.{operator-range}
 use Rattle.tokens.specs.RuleCode.{size}
 use Rattle.tokens.proofs.RuleCode.{coded-end, coded-front, fixed-here, operator-here}
 use Rattle.policy.specs.Readers.{Asked, From}

@@ -1,6 +1,6 @@
 -- How a term begins: the code's heads, and what a term is from its head.
-use Prim.Native.Nat.{ℕ, zero, suc, _+_, _-_, _*_, _≤_, _<_, min, max}
-use mathlib.Core.Path.{_≡_, refl, sym, ap, ap₂, subst, _∙_}
+use Prim.Native.Nat.{ℕ, _+_, _-_, _*_, _≤_, _<_, max}
+use mathlib.Core.Path.{_≡_, refl, sym, ap, subst, _∙_}
 use mathlib.Core.Bool.{Bool, true, false, _&&_}
 use mathlib.Core.List.{List, [], _∷_}
 use mathlib.Core.Option.{Option, none, some, Option·some-injective}
@@ -15,18 +15,16 @@ use Rattle.model.specs.Atoms.{Atom}
 use Rattle.model.specs.Tokens as model
 use Rattle.model.specs.Tokens.{Mark, Operator}
 use Rattle.model.specs.Grammar as grammar
-use Rattle.model.specs.Grammar.{Policy, constant, lone, compare, constants, attribute, atomsIn, oneType, isMark, behindMark, readOperator, readItems, readSet, readVar, readComparison, readSimple, readTerm, closed, termWithin, policyWithin}
+use Rattle.model.specs.Grammar.{compare, constants, attribute, oneType, isMark, behindMark, readOperator, readItems, readSet, readVar, readComparison, readSimple, readTerm, closed, termWithin, policyWithin}
 use Rattle.model.proofs.Results.{case-so}
 use Rattle.model.proofs.Words.{false-is-true, none-is-some}
 use Rattle.model.proofs.Options.{bind-some, parts, both}
 use Rattle.model.proofs.Complete.{above}
-use Rattle.codes.specs.Codes.{markCode, operatorCode, truthCode}
-use Rattle.codes.proofs.TokenKinds.{mark-range, truth-range, operator-range}
+use Rattle.codes.specs.Codes.{operatorCode}
+use Rattle.codes.proofs.TokenKinds.{truth-range}
 use Rattle.tokens.proofs.RuleCode.{truth-here, name-here}
 use Rattle.truth.specs.declared.Truth.{Truth}
 use Rattle.truth.specs.declared.Truth.the-variants.{False, Undef, True}
-use Rattle.truth.specs.Truths.{truthOf}
-use Rattle.values.specs.declared.Operand.{Operand}
 use Rattle.values.specs.Compared.{Compared, Lone}
 use Rattle.policy.specs.declared.Part.{Part}
 use Rattle.policy.specs.declared.Reading.{Reading}
@@ -34,9 +32,9 @@ use Rattle.policy.specs.declared.Reading.the-variants.{Read, Malformed}
 use Rattle.policy.specs.declared.Head.{Head}
 use Rattle.policy.specs.declared.Head.the-variants.{Leaf, Open, Neither}
 use Rattle.policy.specs.declared.Var.{Var}
-use Rattle.policy.specs.Starts.{Start, whole, opened, neither, simpleStart, negatedStart, readOr, plainStart, termStart, aloneStart, negatedIf, closedBy}
-use Rattle.policy.specs.Readers.{Lending, lending, lentWith, Asked, From, Reads, Answers, Ahead, Reader, Terms, Policies, Closes, Starts, Further, Heads, NegatedHead, Spoken, VarReads, VarAnswers, Vars, Alone, VarHeads, leafPart}
-use Rattle.policy.proofs.Fronts.{inside, told, ended, is-mark, isnt-mark, mark-on, mark-off, operator-on, operator-off}
+use Rattle.policy.specs.Starts.{Start, whole, opened, neither, simpleStart, negatedStart, readOr, plainStart, termStart, aloneStart, closedBy}
+use Rattle.policy.specs.Readers.{Lending, lending, lentWith, Asked, From, Answers, Ahead, Terms, Policies, Closes, Starts, Further, Heads, NegatedHead, Spoken, VarReads, VarAnswers, Vars, Alone, VarHeads, leafPart}
+use Rattle.policy.proofs.Fronts.{inside, told, is-mark, isnt-mark, mark-on, mark-off, operator-on, operator-off}
 use Rattle.policy.proofs.Parts.{negated-starts, not-further}
 use Rattle.policy.proofs.Shorter.{mark-fewer}
 

@@ -1,8 +1,8 @@
 -- The code's answers where parts are joined, closed and negated.
-use Prim.Native.Nat.{ℕ, zero, suc, _+_, _*_, _≤_, _<_, min, max}
+use Prim.Native.Nat.{ℕ, suc, _+_, _*_, _≤_, _<_}
 use mathlib.Core.Path.{_≡_, refl, sym, ap, subst, _∙_}
 use mathlib.Core.Bool.{Bool, true, false}
-use mathlib.Core.List.{List, [], _∷_}
+use mathlib.Core.List.{List, []}
 use mathlib.Core.Option.{Option, none, some}
 use native.Mathlib.Omega.{arith}
 use lib.ListN.{length, getD}
@@ -20,7 +20,7 @@ use Rattle.policy.specs.declared.Part.{Part}
 use Rattle.policy.specs.declared.Reading.{Reading}
 use Rattle.policy.specs.declared.Reading.the-variants.{Read, Malformed}
 use Rattle.policy.specs.Starts.{joinOf, joinedTo}
-use Rattle.policy.specs.Readers.{Lending, Asked, From, Reads, Answers, Ahead, Reader, Joins}
+use Rattle.policy.specs.Readers.{Lending, Asked, From, Answers, Ahead, Reader, Joins}
 use Rattle.policy.proofs.Shorter.{Fewer, term-within, conjunction-within}
 use Rattle.policy.proofs.Fronts.{inside, mark-on, mark-off, behind-mark}
 

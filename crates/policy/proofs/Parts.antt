@@ -1,8 +1,8 @@
 -- Parts made of parts: negated, closed by a parenthesis, joined.
-use Prim.Native.Nat.{ℕ, suc, _+_, _≤_, _<_, min, max}
+use Prim.Native.Nat.{ℕ, _+_, _≤_, _<_}
 use mathlib.Core.Path.{_≡_, refl, sym, ap, ap₂, subst, _∙_}
 use mathlib.Core.Bool.{Bool, true, false}
-use mathlib.Core.List.{List, [], _∷_}
+use mathlib.Core.List.{List, []}
 use mathlib.Core.Option.{Option, none, some}
 use native.Mathlib.Omega.{arith}
 use lib.ListN.{length, getD}
@@ -13,15 +13,13 @@ use Rattle.model.specs.Tokens as model
 use Rattle.model.specs.Tokens.{Mark}
 use Rattle.model.specs.Grammar as grammar
 use Rattle.model.specs.Grammar.{Policy, not, parenthesised, behindMark}
-use Rattle.codes.specs.Codes.{markCode}
-use Rattle.truth.specs.Truths.{truthOf}
 use Rattle.policy.specs.declared.Part.{Part}
 use Rattle.policy.specs.declared.Reading.{Reading}
 use Rattle.policy.specs.declared.Reading.the-variants.{Read, Malformed}
 use Rattle.policy.specs.declared.Head.{Head}
 use Rattle.policy.specs.declared.Head.the-variants.{Leaf, Open, Neither}
 use Rattle.policy.specs.Starts.{Start, whole, opened, neither, negatedStart, negatedIf, closedBy, joinOf, joinedTo}
-use Rattle.policy.specs.Readers.{Lending, Asked, From, Reads, Answers, Ahead, Closes, Joins, Negated, NegatedHead, ClosedPart, JoinedPart, Starts, Further, notIf, joinTruths}
+use Rattle.policy.specs.Readers.{Lending, Asked, From, Reads, Answers, Closes, Joins, Negated, NegatedHead, ClosedPart, JoinedPart, Starts, Further}
 use Rattle.policy.proofs.Fronts.{inside, mark-on, mark-off, behind-mark}
 
 module _ (code : Bytes) (L : Lending) (A : Asked) where

@@ -1,40 +1,35 @@
 -- Constants, sets and attributes in rule code.
-use Prim.Native.Nat.{ℕ, zero, suc, _+_, _-_, _≤_, _<_, min}
+use Prim.Native.Nat.{ℕ, _+_, _≤_, _<_, min}
 use mathlib.Core.Path.{_≡_, refl, sym, ap, ap₂, subst, _∙_}
 use mathlib.Core.Bool.{Bool, true, false}
-use mathlib.Core.List.{List, [], _∷_}
+use mathlib.Core.List.{List, [], _∷_, _++_}
 use mathlib.Core.Option.{Option, none, some, Option·some-injective}
 use native.Mathlib.Omega.{arith}
-use lib.Dec.{eqb, leb}
-use lib.ListN.{length, getD, take, drop}
-use borrow.Author.Tests.{eq-eqb, ne-eqb, leb-true}
-use Rattle.model.specs.Notation.{_>>=_, onlyIf, all, map, isNone}
+use lib.Dec.{eqb}
+use lib.ListN.{length, getD}
+use borrow.Author.Tests.{eq-eqb, ne-eqb}
+use Rattle.model.specs.Notation.{_>>=_, onlyIf, all, isNone}
 use Rattle.model.specs.Bytes.{Bytes}
-use Rattle.model.specs.Limits.{largestInt, textBytes}
-use Rattle.model.specs.Block.{byteAt, valueAt}
 use Rattle.model.specs.Attributes.{AtomType, sameType}
-use Rattle.model.specs.Atoms.{Atom, isAtom, isText, typeOf}
+use Rattle.model.specs.Atoms.{Atom, isAtom, typeOf}
 use Rattle.model.specs.Tokens.{Token, name, int, str, truth, operator, mark, Mark, asConstant, isToken}
 use Rattle.model.specs.Declarations.{Declarations, attributeNumber}
-use Rattle.model.specs.Grammar as grammar
-use Rattle.model.specs.Grammar.{constants, attribute, oneType, behindMark, readItems, readSet, readVar}
+use Rattle.model.specs.Grammar.{constants, oneType, behindMark, readItems, readSet, readVar}
 use Rattle.model.proofs.Words.{false-is-true, none-is-some}
 use Rattle.model.proofs.Lists.{all-cons}
-use Rattle.model.proofs.Options.{parts}
 use Rattle.codes.specs.Codes.{kindOf, typeCode}
-use Rattle.codes.proofs.TokenKinds.{truth-range, operator-range, mark-range, int-kind, str-kind}
+use Rattle.codes.proofs.TokenKinds.{truth-range, operator-range, mark-range}
 use Rattle.text.specs.declared.Words.{Words}
-use Rattle.text.specs.Packing.{threeWords}
-use Rattle.text.specs.Values.{words, atomWords}
+use Rattle.text.specs.Values.{atomWords}
 use Rattle.rows.specs.Rows.{numberOr}
-use Rattle.tokens.specs.RuleCode.{Coded, size, unknownNumber}
-use Rattle.tokens.proofs.RuleCode.{coded-within, some-here, name-here, name-number, int-value, str-length, str-text}
+use Rattle.tokens.specs.RuleCode.{encodeToken, ruleCode, Coded, size, unknownNumber}
+use Rattle.tokens.proofs.RuleCode.{size-carried, code-cons, coded-within, name-here, name-number, str-length}
 use Rattle.values.specs.declared.Operand.{Operand}
-use Rattle.values.specs.Operands.{found, nothing, operand, constantAt, constantsFrom, Stands, valuesFrom, firstOf, attributeOperand}
-use Rattle.values.proofs.Constants.{int-short, int-whole, str-short, str-whole, as-int, as-str, constants-find}
+use Rattle.values.specs.Operands.{operand, constantsFrom, Stands, valuesFrom, firstOf, attributeOperand}
+use Rattle.values.proofs.RuleConstants.{step, none-behind}
 use Rattle.policy.specs.declared.Var.{Var}
 use Rattle.policy.specs.declared.Constants.{Constants}
-use Rattle.policy.specs.Readers.{Lending, lentWith, Asked, From, ReadsAs, VarReads, VarAnswers, Vars, SetVars, ConstantEnds, ofKind, ItemsRead, ItemsAnswers, ItemsFrom}
+use Rattle.policy.specs.Readers.{Lending, lentWith, Asked, From, VarReads, VarAnswers, Vars, SetVars, ConstantEnds, ofKind, ItemsAnswers, ItemsFrom}
 use Rattle.policy.proofs.Fronts.{inside, told, ended, mark-on, mark-off, constant-off}
 
 -- ---- one constant
@@ -57,52 +52,23 @@ module _ (a : Atom) where
   written-atom (operator o) e w = none-is-some e
   written-atom (mark m) e w = none-is-some e
 
-module _ (code : Bytes) (A : Asked) (at end : ℕ) (m : end ≤ length code) (v : A .valued ≡ true) where
-  int-found : (n : ℕ) (rest : List Token) → From code A at (int n ∷ rest) → at + 5 ≤ end → constantAt 1 code end at ≡ found (words n 0 0) (at + 5 + 1)
-  int-found n rest f l =
-      let s : at + 6 ≡ at + 5 + 1 = omega arith in
-      sym (as-int 1 code end at (λ e. omega arith)) ∙ sym (int-whole code end at m l)
-      ∙ ap₂ found (ap (λ (w : ℕ). words w 0 0) (int-value (leb-true n largestInt (told f .written v)) (f .coded))) s
+-- the values from a constant on: its own, and those from the place on where the next one begins
+constant-first : (code : Bytes) (A : Asked) (kind at end : ℕ) → end ≤ length code → A .valued ≡ true → (a : Atom) (t : Token) (rest : List Token)
+    → asConstant t ≡ some a → kind ≡ typeCode (typeOf a) → From code A at (t ∷ rest) → at + size t ≤ end
+    → constantsFrom kind code end at ≡ atomWords a ∷ constantsFrom kind code end (at + size t + 1)
+constant-first code A kind at end m v a t rest e k f l =
+    let D = A .declared in
+    let n : at + length (encodeToken D t) + 1 ≡ at + size t + 1 = omega (arith, size-carried D t) in
+    step D kind code end m t a e (sym k) (written-atom a t e (told f .written v)) at (ruleCode D rest ++ f .coded .rest)
+    (f .coded .from ∙ code-cons D t rest (f .coded .rest)) (omega (arith, size-carried D t))
+    ∙ ap (λ (i : ℕ). atomWords a ∷ constantsFrom kind code end i) n
 
-  str-found : (s : Bytes) (rest : List Token) → From code A at (str s ∷ rest) → at + (length s + 2) ≤ end
-      → constantAt 2 code end at ≡ found (threeWords s) (at + (length s + 2) + 1)
-  unfolding isText
-  str-found s rest f l =
-      let b : byteAt code (at + 1) ≡ length s = str-length (f .coded) in
-      let q : at + 2 + byteAt code (at + 1) - (at + 2) ≡ length s = omega arith in
-      let p : at + 2 + byteAt code (at + 1) + 1 ≡ at + (length s + 2) + 1 = omega arith in
-      let t : length s ≤ textBytes = leb-true (length s) textBytes (parts (leb (length s) textBytes) _ (told f .written v) .0) in
-      let e : threeWords s ≡ threeWords (take (at + 2 + byteAt code (at + 1) - (at + 2)) (drop (at + 2) code)) =
-      ap threeWords (sym (ap (λ (k : ℕ). take k (drop (at + 2) code)) q ∙ str-text (f .coded))) in
-      sym (as-str 2 code end at refl) ∙ sym (str-whole code end at (threeWords s) m (omega arith) (omega arith) (omega arith) e) ∙ ap (found (threeWords s)) p
-
-  constant-found : (a : Atom) (t : Token) (rest : List Token) → asConstant t ≡ some a → From code A at (t ∷ rest) → at + size t ≤ end
-      → constantAt (kindOf t) code end at ≡ found (atomWords a) (at + size t + 1)
-  constant-found a (name x n) rest e f l = none-is-some e
-  constant-found a (int n) rest e f l =
-      int-found n rest f l ∙ ap (λ (b : Atom). found (atomWords b) (at + 5 + 1)) (Option·some-injective (Atom.int n) a e)
-  constant-found a (str s) rest e f l =
-      str-found s rest f l ∙ ap (λ (b : Atom). found (atomWords b) (at + (length s + 2) + 1)) (Option·some-injective (Atom.str s) a e)
-  constant-found a (truth x) rest e f l = none-is-some e
-  constant-found a (operator o) rest e f l = none-is-some e
-  constant-found a (mark x) rest e f l = none-is-some e
-
-  -- the values from a constant on: its own, and those from the next place on
-  constant-first : (a : Atom) (t : Token) (rest : List Token) → asConstant t ≡ some a → From code A at (t ∷ rest) → at + size t ≤ end
-      → constantsFrom (kindOf t) code end at ≡ atomWords a ∷ constantsFrom (kindOf t) code end (at + size t + 1)
-  constant-first a t rest e f l =
-      constants-find (kindOf t) code end at (found (atomWords a) (at + size t + 1)) (sym (constant-found a t rest e f l)) .more refl
-
--- behind the end there is none
-none-behind : (code : Bytes) (end i : ℕ) → end ≤ length code → end < i → (a : Atom) (t : Token) → asConstant t ≡ some a → constantsFrom (kindOf t) code end i ≡ []
-none-behind code end i m l a (name x n) e = none-is-some e
-none-behind code end i m l a (int n) e =
-    constants-find 1 code end i nothing (int-short code end i m (omega arith) ∙ as-int 1 code end i (λ z. omega arith)) .none refl
-none-behind code end i m l a (str s) e =
-    constants-find 2 code end i nothing (str-short code end i m (omega arith) ∙ as-str 2 code end i refl) .none refl
-none-behind code end i m l a (truth x) e = none-is-some e
-none-behind code end i m l a (operator o) e = none-is-some e
-none-behind code end i m l a (mark x) e = none-is-some e
+-- the values of one constant
+constant-only : (code : Bytes) (A : Asked) (kind at end : ℕ) → end ≤ length code → A .valued ≡ true → (a : Atom) (t : Token) (rest : List Token)
+    → asConstant t ≡ some a → kind ≡ typeCode (typeOf a) → From code A at (t ∷ rest) → end ≡ at + size t → constantsFrom kind code end at ≡ atomWords a ∷ []
+constant-only code A kind at end m v a t rest e k f n =
+    constant-first code A kind at end m v a t rest e k f (omega arith)
+    ∙ ap (λ (l : List Words). atomWords a ∷ l) (none-behind (A .declared) kind code end m (at + size t + 1) (omega arith))
 
 -- where a constant ends
 module _ (code : Bytes) (kind at : ℕ) where
@@ -246,10 +212,7 @@ module _ (code : Bytes) (kind at : ℕ) where
               atom-count = refl;
               some-atoms = omega arith;
               of-kind = o;
-              coded = λ v.
-                  subst (λ (i : ℕ). constantsFrom i code end at ≡ atomWords (c .atom) ∷ []) (sym (c .kind-is))
-                  (constant-first code A at end (omega arith) v (c .atom) (c .token) (c .rest) (c .is) (c .from) (omega (arith, c .ends))
-                  ∙ ap (λ (l : List Words). atomWords (c .atom) ∷ l) (none-behind code end (at + size (c .token) + 1) (omega arith) (omega (arith, c .ends)) (c .atom) (c .token) (c .is)));
+              coded = λ v. constant-only code A kind at end (omega arith) v (c .atom) (c .token) (c .rest) (c .is) k (c .from) (c .ends);
               written = λ v. all-cons isAtom (c .atom) [] (written-atom (c .atom) (c .token) (c .is) (told (c .from) .written v)) refl;
             },
           ));
@@ -284,8 +247,7 @@ module _ (code : Bytes) (kind at : ℕ) where
                     some-atoms = omega arith;
                     of-kind = of-kind-cons kind (c .atom) l k ∙ i .of-kind;
                     coded = λ v.
-                        subst (λ (j : ℕ). constantsFrom j code (r .end) at ≡ atomWords (c .atom) ∷ constantsFrom j code (r .end) (at + size (c .token) + 1)) (sym (c .kind-is))
-                        (constant-first code A at (r .end) (omega arith) v (c .atom) (c .token) (c .rest) (c .is) (c .from) (omega (arith, c .ends)))
+                        constant-first code A kind at (r .end) (omega arith) v (c .atom) (c .token) (c .rest) (c .is) k (c .from) (omega (arith, c .ends))
                         ∙ ap (λ (l : List Words). atomWords (c .atom) ∷ l) (ap (constantsFrom kind code (r .end)) s ∙ i .coded v);
                     written = λ v. all-cons isAtom (c .atom) l (written-atom (c .atom) (c .token) (c .is) (told (c .from) .written v)) (i .written v);
                   },
@@ -415,9 +377,7 @@ module _ (code : Bytes) (rows : List ℕ) (at k : ℕ) (e : k ≡ getD code at 0
           stands = λ v read g. subst (λ (j : Operand). Stands (lentWith code L) j (c .atom ∷ [])) (sym p) (record {
             coded =
                 let w : at + size (c .token) < length code = told (c .from) .within in
-                subst (λ (i : ℕ). constantsFrom i code end at ≡ atomWords (c .atom) ∷ []) (sym (c .kind-is))
-                (constant-first code A at end (omega (arith, c .ends)) v (c .atom) (c .token) (c .rest) (c .is) (c .from) (omega (arith, c .ends))
-                ∙ ap (λ (l : List Words). atomWords (c .atom) ∷ l) (none-behind code end (at + size (c .token) + 1) (omega (arith, c .ends)) (omega (arith, c .ends)) (c .atom) (c .token) (c .is)));
+                constant-only code A k at end (omega (arith, c .ends)) v (c .atom) (c .token) (c .rest) (c .is) s (c .from) (c .ends);
             typed = of-kind-cons k (c .atom) [] s;
             written = all-cons isAtom (c .atom) [] (written-atom (c .atom) (c .token) (c .is) (told (c .from) .written v)) refl;
           });

@@ -7,7 +7,7 @@ use lib.ListN.{length}
 use Rattle.model.specs.Notation.{_>>=_}
 use Rattle.model.specs.Tokens.{Token, Mark, asConstant}
 use Rattle.model.specs.Grammar.{Policy, and, or, oneType, isMark, behindMark, readOperator, readItems, readSet, readVar, Reading, readComparison, readSimple, readTerm, joinedBy, policyWithin, conjunctionWithin, termWithin}
-use Rattle.model.proofs.Results.{Whenever, result, bind-so, case-so, map-so, only-so, else-so}
+use Rattle.model.proofs.Results.{Whenever, bind-so, case-so, map-so, only-so, else-so}
 
 abbrev pub Fewer : {A : Type 0} → List Token → A × List Token → Type 0
 Fewer ts x = length (x .1) < length ts

@@ -1,8 +1,8 @@
 -- Laws of a whole policy: what is read of its tokens, and the order of the refusals.
-use Prim.Native.Nat.{ℕ, zero, suc, _+_, _-_, _*_, _≤_, _<_, min}
+use Prim.Native.Nat.{ℕ, suc, _+_, _-_, _*_, _≤_, _<_, min}
 use mathlib.Core.Path.{_≡_, refl, sym, ap, ap₂, subst, _∙_}
 use mathlib.Core.Bool.{Bool, true, false, _||_}
-use mathlib.Core.List.{List, [], _∷_, _++_}
+use mathlib.Core.List.{List, [], _∷_}
 use mathlib.Core.Option.{Option, none, some}
 use native.Mathlib.Omega.{arith}
 use native.Mathlib.Decide.{decLt}
@@ -18,7 +18,7 @@ use Rattle.model.specs.Tokens.{Token, tokensOf, isToken}
 use Rattle.model.specs.Grammar as grammar
 use Rattle.model.specs.Grammar.{Policy, policyWithin, wholly, readPolicy, tooLarge, terms, depth, largestSet}
 use Rattle.model.specs.Meaning.{Values, meaning, meaningOf}
-use Rattle.model.specs.Refusals.{Test, _if_, first, unknownName}
+use Rattle.model.specs.Refusals.{_if_, first, unknownName}
 use Rattle.model.proofs.Words.{false-is-true}
 use Rattle.codes.proofs.TokenKinds.{kind-range}
 use Rattle.model.specs.Standing.{WellDeclared}
@@ -26,13 +26,12 @@ use Rattle.rows.specs.Rows.{AttributeRows}
 use Rattle.tokens.specs.declared.Encoded.{Encoded}
 use Rattle.tokens.specs.RuleCode.{Coded, Encodes}
 use Rattle.tokens.proofs.RuleCode.{code-coded}
-use Rattle.truth.specs.declared.Truth.{Truth}
 use Rattle.truth.specs.declared.Truth.the-variants.{Undef}
 use Rattle.truth.specs.Truths.{truthOf}
 use Rattle.policy.specs.declared.Part.{Part}
 use Rattle.policy.specs.declared.Reading.{Reading}
 use Rattle.policy.specs.declared.Reading.the-variants.{Read, Malformed}
-use Rattle.policy.specs.Readers.{Lending, Asked, From, ReadsAs, Reads, Answers, Policies}
+use Rattle.policy.specs.Readers.{Lending, Asked, From, Reads, Answers, Policies}
 use Rattle.policy.specs.Judgements.{WholeAnswers, Ends, policyTests, judged, Refuses, Judges, Evaluated}
 use Rattle.policy.proofs.Fronts.{told, ended}
 

@@ -23,7 +23,6 @@ use Rattle.text.specs.Values.{atomWords}
 use Rattle.tokens.specs.RuleCode.{Coded, size}
 use Rattle.truth.specs.declared.Truth.{Truth}
 use Rattle.truth.specs.Truths.{truthOf}
-use Rattle.values.specs.declared.Operand.{Operand}
 use Rattle.values.specs.Operands.{Lent, lent, Stands, constantsFrom, attributeOperand}
 use Rattle.policy.specs.declared.Part.{Part}
 use Rattle.policy.specs.declared.Reading.{Reading}

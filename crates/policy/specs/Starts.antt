@@ -1,7 +1,7 @@
 -- How a term begins: what its tokens say before any policy in parentheses is read.
 use mathlib.Core.Bool.{Bool, true, false}
 use mathlib.Core.List.{List, [], _∷_}
-use mathlib.Core.Option.{Option, none, some}
+use mathlib.Core.Option.{none, some}
 use Rattle.model.specs.Notation.{_>>=_}
 use Rattle.model.specs.Tokens.{Token, Mark}
 use Rattle.model.specs.Grammar.{Var, constants, attribute, Policy, constant, lone, not, and, or, isMark, behindMark, Reading, readComparison, closed}

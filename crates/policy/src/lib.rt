@@ -31,21 +31,21 @@ use values::Operand;
 
 // What a part of a policy comes to: where it ends, its value, its terms (17 for more than 16), the depth of its parentheses (9 for more
 // than 8) and the atoms of its largest set (9 for more than 8).
-pub struct Part {
-    pub next: usize,
-    pub value: Truth,
-    pub terms: u8,
-    pub depth: u8,
-    pub largest: u8,
+struct Part {
+    next: usize,
+    value: Truth,
+    terms: u8,
+    depth: u8,
+    largest: u8,
 }
 
-pub enum Reading {
+enum Reading {
     Read(Part),
     Malformed,
 }
 
 // How a term begins: one without parentheses, whole; a parenthesis, after NOT or not, and where its policy begins; or neither.
-pub enum Head {
+enum Head {
     Leaf(Part),
     Open(bool, usize),
     Neither,
@@ -53,18 +53,18 @@ pub enum Head {
 
 // A constant, a set or an attribute, if there is one: what it stands for, its atoms as written (9 for more than 8, 0 of an attribute), and
 // where it ends.
-pub struct Var {
-    pub ok: bool,
-    pub operand: Operand,
-    pub atoms: u8,
-    pub next: usize,
+struct Var {
+    ok: bool,
+    operand: Operand,
+    atoms: u8,
+    next: usize,
 }
 
 // The constants of a set, if they are well formed: how many (9 for more than 8), and where the brace is that ends them.
-pub struct Constants {
-    pub ok: bool,
-    pub atoms: u8,
-    pub end: usize,
+struct Constants {
+    ok: bool,
+    atoms: u8,
+    end: usize,
 }
 
 fn add_terms(a: u8, b: u8) -> u8
@@ -451,7 +451,7 @@ fn term_head(
 }
 
 // A policy: conjunctions joined by OR.
-pub fn policy(
+fn policy(
     code: &[u8],
     attributes: &[u64],
     pairs: &[u64],

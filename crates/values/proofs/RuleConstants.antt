@@ -74,7 +74,7 @@ module _ (D : Declarations) (kind : ℕ) (code : Bytes) (end : ℕ) (within : en
   one (Token.mark m) a e k w i tail d h = none-is-some e
 
   -- no constant begins behind the end
-  none-behind : (i : ℕ) → end < i → constantsFrom kind code end i ≡ []
+  pub none-behind : (i : ℕ) → end < i → constantsFrom kind code end i ≡ []
   none-behind i h = go (ℕ-discrete kind 2)
     where
       no-more : constantAt kind code end i ≡ nothing → constantsFrom kind code end i ≡ []
@@ -84,7 +84,8 @@ module _ (D : Declarations) (kind : ℕ) (code : Bytes) (end : ℕ) (within : en
       go (yes e) = no-more (sym (as-str kind code end i e) ∙ sym (str-short code end i within (omega arith)))
       go (no n) = no-more (sym (as-int kind code end i n) ∙ sym (int-short code end i within (omega arith)))
 
-  step : (t : Token) (a : Atom) → asConstant t ≡ some a → typeCode (typeOf a) ≡ kind → isAtom a ≡ true → (i : ℕ) (tail : Bytes)
+  -- the values from a constant on: its own, and those from the place on where the next one begins
+  pub step : (t : Token) (a : Atom) → asConstant t ≡ some a → typeCode (typeOf a) ≡ kind → isAtom a ≡ true → (i : ℕ) (tail : Bytes)
       → drop i code ≡ encodeToken D t ++ tail → i + length (encodeToken D t) ≤ end
       → constantsFrom kind code end i ≡ atomWords a ∷ constantsFrom kind code end (i + length (encodeToken D t) + 1)
   step t a e k w i tail d h =

@@ -1,5 +1,4 @@
 use mathlib.Core.Path.{_∙_}
-use native.Mathlib.Omega.{arith}
 use Rattle.policy.proofs.Sets.{end-int, end-str}
 use borrow.Author.Needs.{needs}
 use Rattle.policy.proofs.constant_end.Statement.{statement}

@@ -1,6 +1,4 @@
-use native.Mathlib.Omega.{arith}
 use Rattle.policy.proofs.Wholes.{over-terms, over-depth, over-set}
-use borrow.Author.Needs.{needs}
 use Rattle.policy.proofs.is_large.Statement.{statement}
 use Rattle.policy.proofs.is_large.Tie as tie
 use Rattle.policy.proofs.is_large.Reads as reads

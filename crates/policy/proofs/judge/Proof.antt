@@ -1,4 +1,3 @@
-use native.Mathlib.Omega.{arith}
 use Rattle.policy.proofs.Wholes.{judge-bad, judge-read}
 use borrow.Author.Needs.{needs}
 use Rattle.policy.proofs.judge.Statement.{statement}

@@ -1,6 +1,4 @@
-use mathlib.Core.Path.{refl}
 use native.Mathlib.Omega.{arith}
-use borrow.Author.Tests.{not-true, not-false}
 use Rattle.policy.specs.Readers.{lending}
 use Rattle.policy.proofs.Heads.{here, term-not, term-plain, term-simple}
 use borrow.Author.Needs.{needs}
