@@ -1,0 +1,65 @@
+-- `tie::closes` meets its contract: the sections of ties are lent. Assumes nothing.
+use mathlib.Core.Path.{sym, ap, _∙_}
+use lib.ListN.{length}
+use native.Mathlib.Omega.{arith}
+use Rattle.model.specs.Declarations.{holderNumbersOf}
+use Rattle.model.specs.Refusals.{tieCloses}
+use Rattle.model.proofs.Standing.{holders-fit, length-room}
+use Rattle.ties.specs.TieArrays.{ClosesCircle}
+use Rattle.book.specs.Sections as section
+use Rattle.book.specs.Sections.{part}
+use Rattle.book.proofs.TieSections.{part-size}
+use Rattle.book.proofs.TieEditing.{parent-tie, no-circle}
+use borrow.Author.Needs.{needs}
+use Rattle.book.proofs.tie.closes.Statement.{statement}
+use Rattle.book.proofs.tie.closes.Tie as tie
+
+returns : tie.Need-returns
+returns c S code standing held =
+    let t = c .before .before .before .args .t in
+    no-circle (t .kind) (t .lower) (t .upper) (c .if1 .taken) (holderNumbersOf (S .declared)) (S .ties)
+
+sub-closes-circle : tie.Need-sub-closes-circle
+sub-closes-circle c = search needs
+
+part-closes-circle-start : tie.Need-part-closes-circle-start
+part-closes-circle-start c = search needs
+
+part-closes-circle-end : tie.Need-part-closes-circle-end
+part-closes-circle-end c = search needs
+
+sub-closes-circle-2 : tie.Need-sub-closes-circle-2
+sub-closes-circle-2 c = search needs
+
+part-closes-circle-start-2 : tie.Need-part-closes-circle-start-2
+part-closes-circle-start-2 c = search needs
+
+part-closes-circle-end-2 : tie.Need-part-closes-circle-end-2
+part-closes-circle-end-2 c = search needs
+
+closes-circle-requires : tie.Need-closes-circle-requires
+closes-circle-requires c κs = search needs
+
+returns-2 : tie.Need-returns-2
+unfolding ClosesCircle
+returns-2 c S code standing held =
+    let start = c .before .before .before .before .before .before in
+    let t = start .args .t in
+    let size = part-size section.ups (start .args .book .now) (start .pre) (omega arith) in
+    c .closes-circle .ensures (S .declared) (S .ties) (part section.own (start .args .book .now)) standing (held .ties)
+    (length-room (S .declared) (length (part section.ups (start .args .book .now))) (omega (arith, size, holders-fit standing)))
+    ∙ ap (tieCloses (holderNumbersOf (S .declared)) (S .ties)) (sym (parent-tie (t .kind) (t .lower) (t .upper) (c .before .before .before .if1 .left)))
+
+pub closes-spec : {M : Type 1} → statement M
+closes-spec =
+    tie.close
+    (tie.spec
+    returns
+    sub-closes-circle
+    part-closes-circle-start
+    part-closes-circle-end
+    sub-closes-circle-2
+    part-closes-circle-start-2
+    part-closes-circle-end-2
+    closes-circle-requires
+    returns-2)

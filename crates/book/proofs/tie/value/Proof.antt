@@ -1,0 +1,103 @@
+-- `tie::value` meets its contract. Assumes nothing.
+use native.Mathlib.Omega.{arith}
+use Rattle.model.specs.Limits.{pairLimit}
+use Rattle.model.specs.Declarations.{pairNumber, sourceFor}
+use Rattle.book.specs.TieSteps.{tieBy}
+use Rattle.book.proofs.TieNaming.{number-there, number-gone, holder-there, holder-absent, holder-sort, sort-word, pair-few, holder-gone, pair-gone, pair-there}
+use borrow.Author.Needs.{needs}
+use Rattle.book.proofs.tie.value.Statement.{statement}
+use Rattle.book.proofs.tie.value.Tie as tie
+
+sub-holder-number : tie.Need-sub-holder-number
+sub-holder-number c = search needs
+
+part-holder-number-start : tie.Need-part-holder-number-start
+part-holder-number-start c = search needs
+
+part-holder-number-end : tie.Need-part-holder-number-end
+part-holder-number-end c = search needs
+
+holder-number-requires : tie.Need-holder-number-requires
+holder-number-requires c κs = search needs
+
+refused-requires : tie.Need-refused-requires
+refused-requires c κs = search needs
+
+returns : tie.Need-returns
+returns c h n a nh nn wa ph pn va S code standing held =
+    let start = c .before .before .before .before .before in
+    let found = c .before .before .holder-number in
+    let r = c .refused .result in
+    holder-gone (S .declared) h n a (r .number) (tieBy (r .kind) (r .lower) (r .upper))
+    (holder-absent standing held h nh (start .args .holder) ph (found .result) (found .ensures .1) (omega (arith, c .before .if1 .taken)))
+    (c .refused .ensures)
+
+add-source-for : tie.Need-add-source-for
+add-source-for c = search needs
+
+mul-source-for : tie.Need-mul-source-for
+mul-source-for c = search needs
+
+shared-slice-read-source-for : tie.Need-shared-slice-read-source-for
+shared-slice-read-source-for c = search needs
+
+source-for-requires : tie.Need-source-for-requires
+source-for-requires c κs = search needs
+
+pair-of-requires : tie.Need-pair-of-requires
+pair-of-requires c κs = search needs
+
+refused-requires-2 : tie.Need-refused-requires-2
+refused-requires-2 c κs = search needs
+
+returns-2 : tie.Need-returns-2
+returns-2 c h n a nh nn wa ph pn va S code standing held =
+    let start = c .before .before .before .before .before .before .before .before .before in
+    let D = S .declared in
+    let found = c .before .before .before .before .before .before .holder-number in
+    let few = c .before .before .before .before .before .if1 .left in
+    let pair = c .before .before .pair-of in
+    let r = c .refused2 .result in
+    let there = holder-there standing held h nh (start .args .holder) ph (found .result) (found .ensures .1) (omega arith) in
+    let s = holder-sort D h (found .result) there in
+    let from = sourceFor (s .0) in
+    let source = c .before .before .before .source-for .ensures (s .0) (sort-word standing held (found .result) (s .0) (s .1)) in
+    let number = pair .ensures S code standing held from n a nn wa source pn va in
+    pair-gone D h n a (found .result) (s .0) there (s .1) (r .number) (tieBy (r .kind) (r .lower) (r .upper))
+    (number-gone pairLimit (pair .result) (pairNumber D from n a) (pair-few standing from n a) number (omega (arith, c .before .if2 .taken)))
+    (c .refused2 .ensures)
+
+returns-3 : tie.Need-returns-3
+unfolding tieBy
+returns-3 c h n a nh nn wa ph pn va S code standing held =
+    let start = c .before .before .before .before .before .before .before .before in
+    let D = S .declared in
+    let found = c .before .before .before .before .before .holder-number in
+    let few = c .before .before .before .before .if1 .left in
+    let pair = c .before .pair-of in
+    let there = holder-there standing held h nh (start .args .holder) ph (found .result) (found .ensures .1) (omega arith) in
+    let s = holder-sort D h (found .result) there in
+    let from = sourceFor (s .0) in
+    let source = c .before .before .source-for .ensures (s .0) (sort-word standing held (found .result) (s .0) (s .1)) in
+    let number = pair .ensures S code standing held from n a nn wa source pn va in
+    pair-there D h n a (found .result) (s .0) there (s .1) (pair .result)
+    (number-there pairLimit (pair .result) (pairNumber D from n a) number (omega (arith, c .if2 .left)))
+
+pub value-spec : {M : Type 1} → statement M
+value-spec =
+    tie.close
+    (tie.spec
+    sub-holder-number
+    part-holder-number-start
+    part-holder-number-end
+    holder-number-requires
+    refused-requires
+    returns
+    add-source-for
+    mul-source-for
+    shared-slice-read-source-for
+    source-for-requires
+    pair-of-requires
+    refused-requires-2
+    returns-2
+    returns-3)

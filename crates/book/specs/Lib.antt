@@ -1,0 +1,5 @@
+pub mod Sections
+pub mod Held
+pub mod Finding
+pub mod Steps
+pub mod TieSteps
