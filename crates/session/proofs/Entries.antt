@@ -39,7 +39,7 @@ number-below (suc n) (x ∷ s) f =
     let l = f 0 in
     omega (arith, pow-suc 256 n)
 
-value-small : (s : Bytes) → ((i : ℕ) → getD s i 0 < 256) → (at : ℕ) → valueAt s at ≤ largestInt
+pub value-small : (s : Bytes) → ((i : ℕ) → getD s i 0 < 256) → (at : ℕ) → valueAt s at ≤ largestInt
 value-small s f at =
     let h : number (take 4 (drop at s)) < 4294967296 = number-below 4 (drop at s) (λ i. subst (λ (x : ℕ). x < 256) (sym (getD-drop at s i 0)) (f (at + i))) in
     omega arith

@@ -84,7 +84,7 @@ fn wide(x: u8) -> u64
 }
 
 // The number of four bytes, low byte first.
-fn four(s: &[u8], at: usize) -> u64
+pub fn four(s: &[u8], at: usize) -> u64
     requires { ⌜ at + 4 ≤ length (now s) ⌝ }
     ensures { λ r. ⌜ r ≡ valueAt (now (s .entry)) at ⌝ }
 {

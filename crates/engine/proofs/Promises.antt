@@ -1,0 +1,35 @@
+-- What the calls' contracts say is what a run asks of each call. Assumes nothing.
+use Prim.Native.Nat.{ℕ}
+use mathlib.Core.Path.{_≡_, refl, sym, ap, _∙_}
+use mathlib.Core.Bool.{Bool, true, false, true≢false}
+use mathlib.Core.List.{List}
+use lib.ListN.{length}
+use lib.Dec.{eqb}
+use borrow.Author.Tests.{eq-eqb}
+use Rattle.model.specs.Notation.{if_then_else_}
+use Rattle.model.specs.Limits.{tableWords}
+use Rattle.model.specs.Bytes.{Bytes}
+use Rattle.model.specs.Table.{table}
+use Rattle.model.specs.State.{State}
+use Rattle.model.specs.Refusals.{wrongTable}
+use Rattle.model.specs.Ledger.{Call, Step, step, withTable, withoutTable, tableAfter}
+use Rattle.engine.specs.declared.Decision.{Decision}
+use Rattle.engine.specs.Decisions.{decisionOf, Decides}
+use Rattle.engine.specs.Calls.{Together}
+use Rattle.engine.specs.Runs.{Lent, Does, decides, AnswersRequest}
+use Rattle.model.specs.Ledger.{decided}
+
+-- a table that is not refused has 1,024 words, and one that is has not
+right-length : (n : ℕ) → wrongTable n ≡ true → n ≡ tableWords → ⊥
+unfolding wrongTable
+right-length n e long = true≢false (sym e ∙ ap (λ (b : Bool). if b then false else true) (eq-eqb n tableWords long))
+
+-- `decide`
+pub request-answered : {block code : Bytes} {book words : List ℕ} {r : Decision} → Decides block book code words r → AnswersRequest block book code words (decisionOf r)
+unfolding step tableAfter
+request-answered {block} {code} {book} {words} {r} promise S together = go (wrongTable (length words)) refl (together .kept)
+  where
+    go : (b : Bool) → wrongTable (length words) ≡ b → (if b then words else table (S .declared) (S .ties)) ≡ words
+        → (if b then withoutTable S (Call.request block) else withTable S (Call.request block)) .answer ≡ decided (decisionOf r)
+    go true e k = ap decided (sym (promise .other-table (right-length (length words) e)))
+    go false e k = ap decided (sym (promise .decision S (together .standing) (together .holds) (sym k)))

@@ -1,0 +1,64 @@
+use native.Mathlib.Omega.{arith}
+use Rattle.engine.proofs.Entries.{no-number, not-from-block, no-bool, a-bool}
+use borrow.Author.Needs.{needs}
+use Rattle.engine.proofs.entry_fits.Statement.{statement}
+use Rattle.engine.proofs.entry_fits.Tie as tie
+use Rattle.engine.proofs.entry_fits.Reads as reads
+use Rattle.engine.proofs.entry_fits.Lts as lts
+
+returns : tie.Need-returns
+returns c = λ D ar. no-number (c .before .args .attributes .now) (c .before .args .k) (c .before .args .value) D ar (omega arith)
+
+mul-if2 : tie.Need-mul-if2
+mul-if2 c = search needs
+
+mul-if2-2 : tie.Need-mul-if2-2
+mul-if2-2 c = search needs
+
+shared-slice-read-if2 : tie.Need-shared-slice-read-if2
+shared-slice-read-if2 c = search needs
+
+cast-if2 : tie.Need-cast-if2
+cast-if2 c = search needs
+
+returns-2 : tie.Need-returns-2
+returns-2 c = λ D ar. not-from-block (c .before .before .before .args .attributes .now) (c .before .before .before .args .k) (c .before .before .before .args .value) D ar (omega arith)
+
+mul-if3 : tie.Need-mul-if3
+mul-if3 c = search needs
+
+add-if3 : tie.Need-add-if3
+add-if3 c = search needs
+
+mul-if3-2 : tie.Need-mul-if3-2
+mul-if3-2 c = search needs
+
+shared-slice-read-if3 : tie.Need-shared-slice-read-if3
+shared-slice-read-if3 c = search needs
+
+cast-if3 : tie.Need-cast-if3
+cast-if3 c = search needs
+
+returns-3 : tie.Need-returns-3
+returns-3 c = λ D ar. no-bool (c .before .before .before .before .before .args .attributes .now) (c .before .before .before .before .before .args .k) (c .before .before .before .before .before .args .value) D ar (omega arith) (omega arith) (c .if3 .taken)
+
+returns-4 : tie.Need-returns-4
+returns-4 c = λ D ar. a-bool (c .before .before .before .before .before .args .attributes .now) (c .before .before .before .before .before .args .k) (c .before .before .before .before .before .args .value) D ar (omega arith) (omega arith) (c .if3 .left)
+
+pub entry-fits-spec : {M : Type 1} → statement M
+entry-fits-spec =
+    tie.close
+    (tie.spec
+    returns
+    mul-if2
+    mul-if2-2
+    shared-slice-read-if2
+    cast-if2
+    returns-2
+    mul-if3
+    add-if3
+    mul-if3-2
+    shared-slice-read-if3
+    cast-if3
+    returns-3
+    returns-4)

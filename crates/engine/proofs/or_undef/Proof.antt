@@ -1,0 +1,31 @@
+use mathlib.Core.Path.{ap}
+use Rattle.model.specs.Decision.{isUndef}
+use Rattle.truth.specs.declared.Truth.{Truth}
+use Rattle.truth.specs.Truths.{truthOf}
+use Rattle.engine.proofs.Rules.{as-before, now-undef}
+use borrow.Author.Needs.{needs}
+use Rattle.engine.proofs.or_undef.Statement.{statement}
+use Rattle.engine.proofs.or_undef.Tie as tie
+use Rattle.engine.proofs.or_undef.Reads as reads
+use Rattle.engine.proofs.or_undef.Lts as lts
+
+enum-told : tie.Need-enum-told
+enum-told c = search needs
+
+enum-told-2 : tie.Need-enum-told-2
+enum-told-2 c = search needs
+
+enum-told-3 : tie.Need-enum-told-3
+enum-told-3 c = search needs
+
+returns : tie.Need-returns
+returns c = as-before (c .before .before .args .before) (c .before .before .args .t) (ap (λ (x : Truth). isUndef (truthOf x)) (c .enum-told .given .1))
+
+returns-2 : tie.Need-returns-2
+returns-2 c = now-undef (c .before .before .args .before) (c .before .before .args .t) (ap (λ (x : Truth). isUndef (truthOf x)) (c .enum-told2 .given .1))
+
+returns-3 : tie.Need-returns-3
+returns-3 c = as-before (c .before .before .args .before) (c .before .before .args .t) (ap (λ (x : Truth). isUndef (truthOf x)) (c .enum-told3 .given .1))
+
+pub or-undef-spec : {M : Type 1} → statement M
+or-undef-spec = tie.close (tie.spec enum-told enum-told-2 enum-told-3 returns returns-2 returns-3)

@@ -1,0 +1,4 @@
+pub mod Requests
+pub mod Decisions
+pub mod Calls
+pub mod Runs

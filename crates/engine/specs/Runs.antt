@@ -1,0 +1,40 @@
+-- Runs: what a host sees that makes calls one after another, each on the book and the table that the one before it left.
+-- Assumes nothing: these are definitions.
+use Prim.Native.Nat.{ℕ}
+use mathlib.Core.Path.{_≡_}
+use mathlib.Core.List.{List, [], _∷_}
+use Rattle.model.specs.Bytes.{Bytes}
+use Rattle.model.specs.State.{State}
+use Rattle.model.specs.Decision.{Decision}
+use Rattle.model.specs.Ledger.{Call, load, edit, request, Answer, loaded, edited, decided, outcome}
+use Rattle.engine.specs.Calls.{Together, Loads, Edits}
+
+-- what is lent to a call: the book's words, its rules' bytes, and the table
+pub record Lent : Type 0 where
+  pub book : List ℕ
+  pub code : Bytes
+  pub words : List ℕ
+
+-- a request, on a book and a table that go together
+abbrev pub AnswersRequest : Bytes → List ℕ → Bytes → List ℕ → Decision → Type 0
+AnswersRequest block book code words d = (S : State) → Together S book code words → outcome S words (request block) .answer ≡ decided d
+
+-- what each call does by its promise: from what it was lent to its answer and what it leaves. A request writes nothing, an edit no rule
+pub data Does : Call → Lent → Answer → Lent → Type 0 where
+  loads : {file : Bytes} {number line : ℕ} {before after : Lent} → Loads file (before .words) number line (after .words) (after .book) (after .code)
+      → Does (load file) before (loaded number line) after
+  edits : {line : Bytes} {number count : ℕ} {before after : Lent} → Edits line (before .book) (before .words) number count (after .words) (after .book)
+      → after .code ≡ before .code → Does (edit line) before (edited number count) after
+  decides : {block : Bytes} {d : Decision} {lent : Lent} → AnswersRequest block (lent .book) (lent .code) (lent .words) d
+      → Does (request block) lent (decided d) lent
+
+-- what is seen after a call
+pub record Seen : Type 0 where
+  pub answer : Answer
+  pub left : Lent
+
+-- calls one after another
+pub data Run : Lent → List Call → List Seen → Type 0 where
+  end : {lent : Lent} → Run lent [] []
+  next : {before after : Lent} {c : Call} {calls : List Call} {a : Answer} {rest : List Seen} → Does c before a after → Run after calls rest
+      → Run before (c ∷ calls) (record { answer = a; left = after } ∷ rest)

@@ -1,0 +1,274 @@
+// The calls. A request is decided on the book, the code of its rules and the table, all lent; nothing is written.
+ghost use mathlib.Core.Path.{_≡_};
+ghost use mathlib.Core.Bool.{_||_};
+ghost use Prim.Native.Nat.{ℕ, _+_, _*_, _≤_, _<_};
+ghost use lib.Dec.{eqb};
+ghost use lib.ListN.{length, getD};
+ghost use Rattle.model.specs.Block.{isBlock};
+ghost use Rattle.model.specs.Decision.{isTrue, isUndef};
+ghost use Rattle.truth.specs.Truths.{truthOf};
+ghost use Rattle.engine.specs.Requests.{EntryFits, EntriesFit, WrongNumber, Sizes, RuleValued};
+ghost use Rattle.engine.specs.Decisions.{Decided, Answered, Decides};
+use codes::ADMIN;
+use codes::BOOL;
+use codes::KEY_OBJECT;
+use codes::KEY_USER;
+use truth::Truth;
+
+// "decision enum: Permit with rule number, Deny, Undefined, Refused with number."
+pub enum Decision {
+    Permit(u8),
+    Deny,
+    Undefined,
+    Refused(u8),
+}
+
+fn wide(x: u8) -> usize
+    ensures { λ r. ⌜ (r ≡ x) × (r ≤ 255) ⌝ }
+{
+    x as usize
+}
+
+// "15: byte 0, 8, 9 or length wrong."
+fn is_block(block: &[u8]) -> bool
+    ensures { λ r. ⌜ r ≡ isBlock (now (block .entry)) ⌝ }
+{
+    if block.len() < 10 {
+        return false;
+    }
+    if block[0] != 1 {
+        return false;
+    }
+    if 8 < block[8] {
+        return false;
+    }
+    if block[9] != 0 {
+        return false;
+    }
+    block.len() == 10 + 5 * wide(block[8])
+}
+
+// Whether an entry is of an attribute of env or connect, and a bool at most 1.
+fn entry_fits(attributes: &[u64], k: u8, value: u64) -> bool
+    requires { ⌜ length (now attributes) ≡ 256 ⌝ }
+    ensures { λ r. ⌜ EntryFits (now (attributes .entry)) k value r ⌝ }
+{
+    let i = k as usize;
+    if 32 <= i {
+        return false;
+    }
+    if attributes[8 * i] <= ADMIN as u64 {
+        return false;
+    }
+    if attributes[8 * i + 1] != BOOL as u64 {
+        return true;
+    }
+    value <= 1
+}
+
+// Whether each entry fits.
+fn entries_fit(attributes: &[u64], entries: &[u8]) -> bool
+    requires { ⌜ length (now attributes) ≡ 256 ⌝ }
+    ensures { λ r. ⌜ EntriesFit (now (attributes .entry)) (now (entries .entry)) r ⌝ }
+{
+    let n = entries.len() / 5;
+    for i in 0..n {
+        let value = values::four(entries, 5 * i + 1);
+        if !entry_fits(attributes, entries[5 * i], value) {
+            return false;
+        }
+    }
+    true
+}
+
+// Whether the word of a holder's sort is the one that is asked for.
+fn is_sort(sorts: &[u64], holder: u8, sort: u8) -> bool
+    requires { ⌜ length (now sorts) ≡ 256 ⌝ }
+    ensures { λ r. ⌜ r ≡ eqb (getD (now (sorts .entry)) holder 0) sort ⌝ }
+{
+    sorts[holder as usize] == sort as u64
+}
+
+// "16: unknown or wrong-sort number, entry not env or connect, bool above 1."
+fn wrong_number(
+    counts: &[u64],
+    sorts: &[u64],
+    attributes: &[u64],
+    block: &[u8],
+    entries: &[u8],
+) -> bool
+    requires { ⌜ (length (now counts) ≡ 8) × (length (now sorts) ≡ 256) × (length (now attributes) ≡ 256) × (10 ≤ length (now block)) ⌝ }
+    ensures { λ r. ⌜ WrongNumber (now (counts .entry)) (now (sorts .entry)) (now (attributes .entry)) (now (block .entry)) (now (entries .entry)) r ⌝ }
+{
+    if !is_sort(sorts, block[1], KEY_USER) {
+        return true;
+    }
+    if !is_sort(sorts, block[2], KEY_OBJECT) {
+        return true;
+    }
+    if counts[1] <= wide(block[3]) as u64 {
+        return true;
+    }
+    !entries_fit(attributes, entries)
+}
+
+// The value of rule k, evaluated on its code; FALSE, which decides nothing, where it is one of another operation.
+fn rule_value(
+    operations: &[u64],
+    code: &[u8],
+    attributes: &[u64],
+    pairs: &[u64],
+    session: &[u64; 128],
+    entries: &[u8],
+    operation: u8,
+    k: usize,
+) -> Truth
+    requires { ⌜ Sizes (now operations) (now code) (now attributes) (now pairs) × (k < 32) ⌝ }
+    ensures { λ r. ⌜ RuleValued (now (operations .entry)) (now (code .entry)) (now (attributes .entry)) (now (pairs .entry)) (now (session .entry)) (now (entries .entry)) operation k r ⌝ }
+{
+    if operations[k] != operation as u64 {
+        return Truth::False;
+    }
+    let start = 768 * k;
+    let end = 768 * k + 768;
+    policy::evaluate(&code[start..end], attributes, pairs, session, entries)
+}
+
+fn is_true(t: Truth) -> bool
+    ensures { λ r. ⌜ r ≡ isTrue (truthOf t) ⌝ }
+{
+    match t {
+        Truth::True => true,
+        Truth::Undef => false,
+        Truth::False => false,
+    }
+}
+
+// Whether some value was UNDEF, or this one is.
+fn or_undef(before: bool, t: Truth) -> bool
+    ensures { λ r. ⌜ r ≡ (before || isUndef (truthOf t)) ⌝ }
+{
+    match t {
+        Truth::True => before,
+        Truth::Undef => true,
+        Truth::False => before,
+    }
+}
+
+// "Permit, with the lowest TRUE rule number; else undefined if some is UNDEF; else deny."
+fn decided(
+    operations: &[u64],
+    code: &[u8],
+    attributes: &[u64],
+    pairs: &[u64],
+    session: &[u64; 128],
+    entries: &[u8],
+    operation: u8,
+    count: usize,
+) -> Decision
+    requires { ⌜ Sizes (now operations) (now code) (now attributes) (now pairs) × (count ≤ 32) ⌝ }
+    ensures { λ r. ⌜ Decided (now (operations .entry)) (now (code .entry)) (now (attributes .entry)) (now (pairs .entry)) (now (session .entry)) (now (entries .entry)) operation count r ⌝ }
+{
+    let mut undefined = false;
+    for k in 0..count {
+        let value = rule_value(
+            operations,
+            code,
+            attributes,
+            pairs,
+            session,
+            entries,
+            operation,
+            k,
+        );
+        if is_true(value) {
+            let rule = k as u8;
+            return Decision::Permit(rule);
+        }
+        undefined = or_undef(undefined, value);
+    }
+    if undefined {
+        return Decision::Undefined;
+    }
+    Decision::Deny
+}
+
+// How many rules there are; no more than have room, on any words.
+fn rule_count(counts: &[u64]) -> usize
+    requires { ⌜ length (now counts) ≡ 8 ⌝ }
+    ensures { λ r. ⌜ (r ≤ 32) × (getD (now (counts .entry)) 5 0 ≤ 32 → r ≡ getD (now (counts .entry)) 5 0) ⌝ }
+{
+    let n = counts[5];
+    if n <= 32 {
+        return n as usize;
+    }
+    32
+}
+
+// A request with no wrong number: 17, or what its rules come to. They read the session that is opened for it.
+fn answered(
+    operations: &[u64],
+    code: &[u8],
+    attributes: &[u64],
+    pairs: &[u64],
+    table: &[u64],
+    block: &[u8],
+    entries: &[u8],
+    count: usize,
+) -> Decision
+    requires { ⌜ Sizes (now operations) (now code) (now attributes) (now pairs) × (10 ≤ length (now block)) × (count ≤ 32) ⌝ }
+    ensures { λ r. ⌜ Answered (now (operations .entry)) (now (code .entry)) (now (attributes .entry)) (now (pairs .entry)) (now (table .entry)) (now (block .entry)) (now (entries .entry)) count r ⌝ }
+{
+    let user = wide(block[1]);
+    let object = wide(block[2]);
+    let mask = values::four(block, 4) as u32;
+    let mut session: [u64; 128] = [0; 128];
+    session::open(attributes, table, user, object, mask, &mut session);
+    if session::unheld(attributes, &session, mask) {
+        return Decision::Refused(17);
+    }
+    decided(
+        operations,
+        code,
+        attributes,
+        pairs,
+        &session,
+        entries,
+        block[3],
+        count,
+    )
+}
+
+// Decides a request: its block, on a book with the code of its rules, and the table.
+pub fn decide(block: &[u8], book: &[u64; 5240], rules: &[u8; 24576], table: &[u64]) -> Decision
+    ensures { λ r. ⌜ Decides (now (block .entry)) (now (book .entry)) (now (rules .entry)) (now (table .entry)) r ⌝ }
+{
+    if table.len() != 1024 {
+        return Decision::Refused(1);
+    }
+    if !is_block(block) {
+        return Decision::Refused(15);
+    }
+    let words = &book[..];
+    let counts = &words[0..8];
+    let attributes = &words[8..264];
+    let sorts = &words[3352..3608];
+    let entries = &block[10..];
+    if wrong_number(counts, sorts, attributes, block, entries) {
+        return Decision::Refused(16);
+    }
+    let count = rule_count(counts);
+    let pairs = &words[792..1816];
+    let operations = &words[5208..5240];
+    let code = &rules[..];
+    answered(
+        operations,
+        code,
+        attributes,
+        pairs,
+        table,
+        block,
+        entries,
+        count,
+    )
+}
