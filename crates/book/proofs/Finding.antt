@@ -1,6 +1,6 @@
 -- What is found in a section is the number that the declarations give. Assumes nothing.
 use Prim.Native.Nat.{ℕ, _+_, _*_, _≤_, _<_}
-use mathlib.Core.Path.{_≡_, refl, sym, ap, ap₂, _∙_}
+use mathlib.Core.Path.{_≡_, refl, sym, ap, _∙_}
 use mathlib.Core.Logic.{_⊎_, inl, inr, _↔_}
 use mathlib.Core.Bool.{Bool, true, false, _&&_, true≢false}
 use mathlib.Core.List.{List, [], _∷_}
@@ -11,12 +11,11 @@ use native.Mathlib.Nat.{eq-or-lt-of-le}
 use lib.Dec.{eqb, ltb}
 use lib.ListN.{length, getD}
 use borrow.Author.Tests.{lt-ltb, le-ltb, eqb-true, eq-eqb, ne-eqb}
-use Rattle.model.specs.Notation.{_>>=_, nth, place, onlyIf}
+use Rattle.model.specs.Notation.{nth, onlyIf}
 use Rattle.model.specs.Limits.{operationLimit, pairLimit, holderNumbers}
 use Rattle.model.specs.Bytes.{Bytes, same}
 use Rattle.model.specs.Names.{isName}
-use Rattle.model.specs.Attributes.{Source}
-use Rattle.model.specs.Atoms.{Atom, typeOf, isAtom, sameAtom}
+use Rattle.model.specs.Atoms.{sameAtom}
 use Rattle.model.specs.Declarations.{Declarations, Attribute, Pair, Holder, isNamed, attributeNumber, operationNumber, pairNumber, holderNumber}
 use Rattle.model.specs.Standing.{WellDeclared}
 use Rattle.model.proofs.Words.{same-eq, same-refl}
@@ -32,7 +31,7 @@ use Rattle.text.proofs.Values.{words-injective, same-atom-eq, same-atom-refl}
 use Rattle.rows.specs.Rows.{numberOr}
 use Rattle.rows.proofs.Places.{place-none, place-first}
 use Rattle.rows.proofs.Attributes.{number-injective}
-use Rattle.index.specs.Index.{Row, Rows, Indexed, Found, Finds, rowsOf, rowsIn}
+use Rattle.index.specs.Index.{Row, Finds, rowsOf}
 use Rattle.index.proofs.Listed.{place-found, indexed-same}
 use Rattle.book.specs.Held.{OperationRows, pairRow, holderRow}
 use Rattle.book.specs.Finding.{HolderFound, OperationFound, PairFound, operationNamed}

@@ -1,6 +1,16 @@
--- Laws about the sections of a book, about what is found in them, and about its ties.
+-- Laws about the sections of a book, about what is found in them, about what they hold when a line declares more, and about its ties.
 pub mod Sections
 pub mod Finding
+pub mod Writes
+pub mod Kept
+pub mod Tests
+pub mod Operations
+pub mod Attributes
+pub mod Pairs
+pub mod PairSteps
+pub mod Holders
+pub mod HolderSteps
+pub mod Cleared
 pub mod TieSections
 pub mod TieFitting
 pub mod TieEditing

@@ -2,4 +2,5 @@ pub mod Sections
 pub mod Held
 pub mod Finding
 pub mod Steps
+pub mod Declaring
 pub mod TieSteps

@@ -7,8 +7,12 @@ ghost use Rattle.book.specs.Sections as section;
 ghost use Rattle.book.specs.Finding.{HolderFound, OperationFound, PairFound, operationNamed};
 use text::Words;
 
-// How many operations there can be: the number of none of them.
+// How many operations, pairs and holders there can be: the number of none of them.
 pub const OPERATIONS: usize = 8;
+
+pub const PAIRS: usize = 256;
+
+pub const HOLDERS: usize = 256;
 
 // The number of the holder of a name; the number of holders' numbers where there is none.
 pub fn holder_number(holders: &[u64], low: u64, high: u64) -> usize

@@ -1,3 +1,36 @@
 // The book: the words that hold a state's declarations and ties. Its sections lie one after another; specs/Sections.antt says what they are.
+pub mod declare;
 pub mod find;
 pub mod tie;
+
+// Where sections begin; each ends where the next begins.
+pub const ATTRIBUTES_AT: usize = 8;
+
+pub const OPERATIONS_AT: usize = 264;
+
+pub const PAIRS_AT: usize = 280;
+
+pub const HOLDERS_AT: usize = 1816;
+
+pub const SORTS_AT: usize = 3352;
+
+pub const SEATS_AT: usize = 3608;
+
+pub const SLOTS_AT: usize = 3864;
+
+pub const UPS_AT: usize = 3928;
+
+pub const OWN_AT: usize = 4184;
+
+pub const RULES_AT: usize = 5208;
+
+// The counts, in the first section.
+pub const ATTRIBUTE_COUNT: usize = 0;
+
+pub const OPERATION_COUNT: usize = 1;
+
+pub const PAIR_COUNT: usize = 2;
+
+pub const HOLDER_COUNT: usize = 3;
+
+pub const GROUP_COUNT: usize = 4;

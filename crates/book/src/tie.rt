@@ -4,35 +4,22 @@ ghost use Prim.Native.Nat.{_+_};
 ghost use lib.ListN.{length};
 ghost use Rattle.book.specs.Sections.{bookWords};
 ghost use Rattle.book.specs.TieSteps.{tieBy, SortAbove, TwoNamed, SourceOfSort, PairNamed, ValueNamed, SlotTold, SlotFound, UpPut, UpTaken, UpStands, ValuePut, ValueTaken, ValueStands, TiePut, TieTaken, TieStands, TieCloses};
+use crate::ATTRIBUTES_AT;
+use crate::HOLDERS_AT;
+use crate::OPERATIONS_AT;
+use crate::OWN_AT;
+use crate::PAIRS_AT;
+use crate::RULES_AT;
+use crate::SEATS_AT;
+use crate::SLOTS_AT;
+use crate::SORTS_AT;
+use crate::UPS_AT;
+use crate::find::HOLDERS;
+use crate::find::PAIRS;
 use text::Packed;
 use text::Value;
 
-// Where sections begin; each ends where the next begins.
-const ATTRIBUTES_AT: usize = 8;
-
-const OPERATIONS_AT: usize = 264;
-
-const PAIRS_AT: usize = 280;
-
-const HOLDERS_AT: usize = 1816;
-
-const SORTS_AT: usize = 3352;
-
-const SEATS_AT: usize = 3608;
-
-const SLOTS_AT: usize = 3864;
-
-const UPS_AT: usize = 3928;
-
-const OWN_AT: usize = 4184;
-
-const RULES_AT: usize = 5208;
-
-// How many numbers of holders, of pairs and of slots there are: no number of theirs.
-const HOLDER_NUMBERS: usize = 256;
-
-const PAIR_NUMBERS: usize = 256;
-
+// How many slots there are: the number of none of them.
 const SLOT_NUMBERS: usize = 64;
 
 // The keys of ties, the codes of sorts and of sources, and the refusals.
@@ -108,11 +95,11 @@ pub fn two(book: &[u64], key: u8, lower: Packed, upper: Packed) -> Tie
     ensures { λ r. ⌜ TwoNamed (now (book .entry)) key lower upper (r .number) (tieBy (r .kind) (r .lower) (r .upper)) ⌝ }
 {
     let h = crate::find::holder_number(&book[HOLDERS_AT..SORTS_AT], lower.low, lower.high);
-    if h >= HOLDER_NUMBERS {
+    if h >= HOLDERS {
         return refused(UNDECLARED);
     }
     let g = crate::find::holder_number(&book[HOLDERS_AT..SORTS_AT], upper.low, upper.high);
-    if g >= HOLDER_NUMBERS {
+    if g >= HOLDERS {
         return refused(UNDECLARED);
     }
     let wanted = above(key, book[SORTS_AT + h]);
@@ -155,10 +142,10 @@ fn pair_of(book: &[u64], source: u8, name: Packed, atom: Value) -> usize
         name.high,
     );
     if k >= rows::ATTRIBUTES {
-        return PAIR_NUMBERS;
+        return PAIRS;
     }
     if book[ATTRIBUTES_AT + 8 * k + 1] != atom.kind as u64 {
-        return PAIR_NUMBERS;
+        return PAIRS;
     }
     crate::find::pair_number(&book[PAIRS_AT..HOLDERS_AT], k, atom.words)
 }
@@ -169,12 +156,12 @@ pub fn value(book: &[u64], holder: Packed, name: Packed, atom: Value) -> Tie
     ensures { λ r. ⌜ ValueNamed (now (book .entry)) holder name atom (r .number) (tieBy (r .kind) (r .lower) (r .upper)) ⌝ }
 {
     let h = crate::find::holder_number(&book[HOLDERS_AT..SORTS_AT], holder.low, holder.high);
-    if h >= HOLDER_NUMBERS {
+    if h >= HOLDERS {
         return refused(UNDECLARED);
     }
     let source = source_for(book[SORTS_AT + h]);
     let p = pair_of(book, source, name, atom);
-    if p >= PAIR_NUMBERS {
+    if p >= PAIRS {
         return refused(UNDECLARED);
     }
     Tie {
@@ -203,7 +190,7 @@ fn slot_of(book: &[u64], g: usize) -> usize
     requires { ⌜ length (now book) ≡ bookWords ⌝ }
     ensures { λ r. ⌜ SlotFound (now (book .entry)) g r ⌝ }
 {
-    if g >= HOLDER_NUMBERS {
+    if g >= HOLDERS {
         return SLOT_NUMBERS;
     }
     slot(book[SEATS_AT + g])
@@ -214,7 +201,7 @@ fn stands_up(book: &[u64], h: usize, g: usize) -> bool
     requires { ⌜ length (now book) ≡ bookWords ⌝ }
     ensures { λ r. ⌜ UpStands h g (now (book .entry)) r ⌝ }
 {
-    if h >= HOLDER_NUMBERS {
+    if h >= HOLDERS {
         return false;
     }
     let q = slot_of(book, g);
@@ -229,13 +216,13 @@ fn stands_value(book: &[u64], h: usize, p: usize) -> bool
     requires { ⌜ length (now book) ≡ bookWords ⌝ }
     ensures { λ r. ⌜ ValueStands h p (now (book .entry)) r ⌝ }
 {
-    if h >= HOLDER_NUMBERS {
+    if h >= HOLDERS {
         return false;
     }
-    if p >= PAIR_NUMBERS {
+    if p >= PAIRS {
         return false;
     }
-    bits::contains(&book[OWN_AT..RULES_AT], PAIR_NUMBERS * h + p)
+    bits::contains(&book[OWN_AT..RULES_AT], PAIRS * h + p)
 }
 
 // Whether a tie that fits the declarations stands.
@@ -270,7 +257,7 @@ fn put_up(book: &mut [u64], h: usize, g: usize)
     requires { ⌜ length (now book) ≡ bookWords ⌝ }
     ensures { λ _. ⌜ UpPut h g (now (book .entry)) (now (book .exit)) ⌝ }
 {
-    if h >= HOLDER_NUMBERS {
+    if h >= HOLDERS {
         return;
     }
     let q = slot_of(book, g);
@@ -285,7 +272,7 @@ fn take_up(book: &mut [u64], h: usize, g: usize)
     requires { ⌜ length (now book) ≡ bookWords ⌝ }
     ensures { λ _. ⌜ UpTaken h g (now (book .entry)) (now (book .exit)) ⌝ }
 {
-    if h >= HOLDER_NUMBERS {
+    if h >= HOLDERS {
         return;
     }
     let q = slot_of(book, g);
@@ -300,10 +287,10 @@ fn put_value(book: &mut [u64], h: usize, p: usize)
     requires { ⌜ length (now book) ≡ bookWords ⌝ }
     ensures { λ _. ⌜ ValuePut h p (now (book .entry)) (now (book .exit)) ⌝ }
 {
-    if h >= HOLDER_NUMBERS {
+    if h >= HOLDERS {
         return;
     }
-    if p >= PAIR_NUMBERS {
+    if p >= PAIRS {
         return;
     }
     ties::add_value(&mut book[OWN_AT..RULES_AT], h, p);
@@ -314,10 +301,10 @@ fn take_value(book: &mut [u64], h: usize, p: usize)
     requires { ⌜ length (now book) ≡ bookWords ⌝ }
     ensures { λ _. ⌜ ValueTaken h p (now (book .entry)) (now (book .exit)) ⌝ }
 {
-    if h >= HOLDER_NUMBERS {
+    if h >= HOLDERS {
         return;
     }
-    if p >= PAIR_NUMBERS {
+    if p >= PAIRS {
         return;
     }
     ties::take_value(&mut book[OWN_AT..RULES_AT], h, p);

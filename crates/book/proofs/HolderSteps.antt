@@ -1,0 +1,128 @@
+-- The step of a line that declares a holder: its refusals, and the book with the holder. Assumes nothing.
+use Prim.Native.Nat.{ℕ, _≤_, _<_}
+use mathlib.Core.Path.{_≡_, refl, sym, ap, ap₂, subst, _∙_}
+use mathlib.Core.Bool.{Bool, true, false, not, _&&_, _||_, true≢false}
+use mathlib.Core.List.{List}
+use mathlib.Core.Option.{Option}
+use native.Mathlib.Omega.{arith}
+use lib.Dec.{leb, ltb}
+use lib.ListN.{length, getD}
+use borrow.Author.Tests.{lt-ltb, le-ltb, le-leb, lt-leb}
+use Rattle.model.specs.Notation.{isNone}
+use Rattle.model.specs.Limits.{holderNumbers, groupLimit}
+use Rattle.model.specs.Bytes.{Bytes, same}
+use Rattle.model.specs.Names.{isName}
+use Rattle.model.specs.Declarations.{Holder, Sort, isSort, isGroup, groups, holderNumber, holderNumbersOf}
+use Rattle.model.specs.Lines.{holder}
+use Rattle.model.specs.State.{State, after}
+use Rattle.model.specs.Standing.{Standing}
+use Rattle.model.proofs.Lists.{nth-lt, length-below}
+use Rattle.text.specs.declared.Packed.{Packed}
+use Rattle.text.specs.Packing.{packedOf}
+use Rattle.book.specs.Sections as section
+use Rattle.book.specs.Sections.{part}
+use Rattle.book.specs.Held.{Holds, sortCode}
+use Rattle.book.specs.Finding.{HolderFound}
+use Rattle.book.specs.Declaring.{holderPut, groupPut, HolderStep}
+use Rattle.book.proofs.Writes.{section-word}
+use Rattle.book.proofs.Holders.{holder-held, group-held}
+use Rattle.book.proofs.Tests.{refused-10, refused-11, accepted, number-there, number-nowhere, place-few}
+
+-- groups are told by the numbers of their sorts
+group-code : (s : Sort) → isSort s Sort.admin ≡ false → isGroup s ≡ ltb (sortCode s) (sortCode Sort.user)
+group-code Sort.admin e = absurd (true≢false e)
+group-code Sort.ugroup e = refl
+group-code Sort.ogroup e = refl
+group-code Sort.user e = refl
+group-code Sort.object e = refl
+
+module _ (book : List ℕ) (key low high k : ℕ) (found : HolderFound (part section.holders book) low high k) where
+  pub holder-repeated : (k ≡ holderNumbers → ⊥) → HolderStep book key low high book 10
+  holder-repeated other code s n sort name from words S standing held =
+      let e = found (S .declared) (standing .declarations) (held .holders) n name words in
+      (refused-10 S (holder s n) refl refl refl refl (number-there holderNumbers (holderNumber (S .declared) n) k e other), λ z. absurd (omega arith))
+
+  module _ (free : k ≡ holderNumbers) (m : ℕ) (count : m ≡ getD book 3 0) where
+    new : (n : Bytes) → isName n ≡ true → packedOf n ≡ record { low = low; high = high } → (code : Bytes) (S : State) → Standing S → Holds book code S
+        → not (isNone (holderNumber (S .declared) n)) ≡ false
+    unfolding holderNumber holderNumbersOf
+    new n name words code S standing held =
+        ap (λ (o : Option ℕ). not (isNone o))
+        (number-nowhere holderNumbers (holderNumber (S .declared) n) k
+        (λ j f.
+        let a = place-few (λ (h : Holder). same (h .name) n) (S .declared .holders) j f in
+        let b = standing .declarations .holders .few in
+        let c = length-below (length (S .declared .holders)) in
+        omega arith)
+        (found (S .declared) (standing .declarations) (held .holders) n name words) free)
+
+    counted : (code : Bytes) (S : State) → Holds book code S → m ≡ length (holderNumbersOf (S .declared))
+    counted code S held = count ∙ sym (section-word section.counts book 3 (omega arith)) ∙ held .counts .holders
+
+    numbered : (code : Bytes) (S : State) → Holds book code S → m ≡ length (S .declared .holders)
+    unfolding holderNumbersOf
+    numbered code S held = counted code S held ∙ length-below (length (S .declared .holders))
+
+    pub holder-full : holderNumbers ≤ m → HolderStep book key low high book 11
+    holder-full over code s n sort name from words S standing held =
+        let at = counted code S held in (
+          refused-11 S (holder s n) refl refl refl refl (new n name words code S standing held)
+              (ap (λ (t : Bool). t || (isGroup s && leb groupLimit (groups (S .declared)))) (le-leb holderNumbers (length (holderNumbersOf (S .declared))) (omega arith))),
+          λ z. absurd (omega arith),
+        )
+
+    module _ (few : m < holderNumbers) where
+      -- room for holders leaves the groups to be looked at
+      room : (code : Bytes) (s : Sort) (S : State) → Holds book code S → (t : Bool) → (isGroup s && leb groupLimit (groups (S .declared))) ≡ t
+          → (leb holderNumbers (length (holderNumbersOf (S .declared))) || (isGroup s && leb groupLimit (groups (S .declared)))) ≡ t
+      room code s S held t e =
+          let at = counted code S held in
+          ap₂ (λ (x y : Bool). x || y) (lt-leb holderNumbers (length (holderNumbersOf (S .declared))) (omega arith)) e
+
+      -- a user or an object
+      pub holder-step : sortCode Sort.user ≤ key → (next : List ℕ) → next ≡ holderPut book m key low high → HolderStep book key low high next 0
+      unfolding after
+      holder-step plain next e code s n sort name from words S standing held =
+          let no-group : isGroup s ≡ false = group-code s sort ∙ le-ltb (sortCode s) (sortCode Sort.user) (omega arith) in (
+            accepted S (holder s n) refl refl refl refl (new n name words code S standing held)
+                (room code s S held false (ap (λ (t : Bool). t && leb groupLimit (groups (S .declared))) no-group)),
+            λ _.
+                subst (λ (l : List ℕ). Holds l code (after (holder s n) S))
+                (sym (e ∙ ap (λ (x : ℕ). holderPut book m x low high) from ∙ ap (λ (p : Packed). holderPut book m (sortCode s) (p .low) (p .high)) (sym words)))
+                (holder-held book code (S .declared) (S .ties) (record { sort = s; name = n }) m held (λ i r f. standing .declarations .rules .each i r f .names-declared)
+                (numbered code S held) few no-group),
+          )
+
+      -- a group; g is their count
+      module _ (group : key < sortCode Sort.user) (g : ℕ) (groups-are : g ≡ getD book 4 0) where
+        is-group : (s : Sort) → isSort s Sort.admin ≡ false → key ≡ sortCode s → isGroup s ≡ true
+        is-group s sort from = group-code s sort ∙ lt-ltb (sortCode s) (sortCode Sort.user) (omega arith)
+
+        grouped : (code : Bytes) (S : State) → Holds book code S → g ≡ groups (S .declared)
+        grouped code S held = groups-are ∙ sym (section-word section.counts book 4 (omega arith)) ∙ held .counts .groups-are
+
+        pub group-full : groupLimit ≤ g → HolderStep book key low high book 11
+        group-full over code s n sort name from words S standing held =
+            let at = grouped code S held in (
+              refused-11 S (holder s n) refl refl refl refl (new n name words code S standing held)
+                  (room code s S held true (ap₂ (λ (x y : Bool). x && y) (is-group s sort from) (le-leb groupLimit (groups (S .declared)) (omega arith)))),
+              λ z. absurd (omega arith),
+            )
+
+        pub group-step : g < groupLimit → (first next : List ℕ) → first ≡ holderPut book m key low high → next ≡ groupPut first m g → HolderStep book key low high next 0
+        unfolding after
+        group-step low-count first next w e code s n sort name from words S standing held =
+            let at = grouped code S held in
+            let some-holder = nth-lt (S .declared .holders) 0 (standing .declarations .holders .admin-first) in (
+              accepted S (holder s n) refl refl refl refl (new n name words code S standing held)
+                  (room code s S held false (ap₂ (λ (x y : Bool). x && y) (is-group s sort from) (lt-leb groupLimit (groups (S .declared)) (omega arith)))),
+              λ _.
+                  subst (λ (l : List ℕ). Holds l code (after (holder s n) S))
+                  (sym
+                  (e
+                  ∙ ap (λ (l : List ℕ). groupPut l m g) w
+                  ∙ ap (λ (x : ℕ). groupPut (holderPut book m x low high) m g) from
+                  ∙ ap (λ (p : Packed). groupPut (holderPut book m (sortCode s) (p .low) (p .high)) m g) (sym words)))
+                  (group-held book code (S .declared) (S .ties) (record { sort = s; name = n }) m held (λ i r f. standing .declarations .rules .each i r f .names-declared)
+                  (numbered code S held) few (is-group s sort from) g at low-count (omega (arith, numbered code S held))),
+            )

@@ -1,0 +1,429 @@
+-- A holder more: the book with it holds the state with it. Assumes nothing.
+use Prim.Native.Nat.{ℕ, suc, _+_, _<_}
+use mathlib.Core.Path.{_≡_, refl, sym, ap, subst, _∙_}
+use mathlib.Core.Bool.{true, false, _&&_, true≢false}
+use mathlib.Core.List.{List}
+use mathlib.Core.Option.{Option, some, Option·some-injective}
+use native.Mathlib.Decide.{ℕ-discrete, decLt}
+use native.Mathlib.Omega.{arith}
+use lib.ListN.{length, getD, set, length-set}
+use lib.Seq.{getD-set-same, getD-set-other}
+use lib.Dec.{ltb}
+use Rattle.model.specs.Notation.{if_then_else_, _>>=_, nth}
+use Rattle.model.specs.Limits.{pairLimit, holderNumbers, groupLimit}
+use Rattle.model.specs.Bytes.{Bytes}
+use Rattle.model.specs.Declarations.{Declarations, Holder, Sort, attributeNumber, operationNumber, holderNumbersOf, isGroup, groups, sortOf}
+use Rattle.model.specs.Ties.{Ties}
+use Rattle.model.specs.State.{withHolder}
+use Rattle.model.proofs.Options.{bind-some}
+use Rattle.model.proofs.Lists.{nth-lt, length-below, count-last}
+use Rattle.codes.specs.Codes.{coded}
+use Rattle.text.specs.Packing.{packedOf}
+use Rattle.rows.specs.Rows.{AttributeRows, pairOf}
+use Rattle.index.specs.Index.{Row, Indexed, Added, added, rowsIn, withRow}
+use Rattle.index.proofs.Adding.{added-length, added-indexed}
+use Rattle.index.proofs.Listed.{listed-more, listed-fresh}
+use Rattle.ties.specs.TieArrays.{inUse, KeepsTies}
+use Rattle.ties.proofs.Editing.{slot-given}
+use Rattle.book.specs.Sections as section
+use Rattle.book.specs.Sections.{Section, part, bookWords}
+use Rattle.book.specs.Held.{CountsOf, OperationRows, SortRows, GroupSlots, RuleRows, Holds, pairRow, holderRow, sortCode}
+use Rattle.book.specs.Declaring.{withSection, holderPut, groupPut}
+use Rattle.book.proofs.Writes.{apart, word-beside, word-inside, section-beside, section-inside, section-long, section-same-length, word-at}
+use Rattle.book.proofs.Kept.{nth-new, nth-old, length-more, NamesKnown, rules-kept, attributes-kept}
+
+-- ---- what is written, by sections
+
+abbrev rowOfName : ℕ → ℕ → Row
+rowOfName low high = (1, low, high, 0)
+
+module _ (book : List ℕ) (n sort low high : ℕ) (long : length book ≡ bookWords) (few : n < holderNumbers) where
+  abbrev row : List ℕ
+  row = added (part section.holders book) holderNumbers n (rowOfName low high)
+
+  abbrev h1 : List ℕ
+  h1 = withSection section.holders book row
+
+  abbrev h2 : List ℕ
+  h2 = set h1 (section.sorts .start + n) sort
+
+  row-long : length row ≡ section.holders .size
+  row-long = added-length (part section.holders book) holderNumbers n (rowOfName low high) ∙ section-long section.holders book (omega arith)
+
+  holder-beside : (s : Section) → apart s section.holders ≡ true → apart s section.sorts ≡ true → apart s section.counts ≡ true
+      → part s (holderPut book n sort low high) ≡ part s book
+  unfolding holderPut
+  holder-beside s a b c =
+      word-beside s section.counts h2 c 3 (n + 1) (omega arith) (omega arith)
+      ∙ word-beside s section.sorts h1 b (section.sorts .start + n) sort (omega arith) (omega arith)
+      ∙ section-beside s section.holders book a row (omega arith) row-long
+
+  holder-row : part section.holders (holderPut book n sort low high) ≡ row
+  unfolding holderPut
+  holder-row =
+      word-beside section.holders section.counts h2 refl 3 (n + 1) (omega arith) (omega arith)
+      ∙ word-beside section.holders section.sorts h1 refl (section.sorts .start + n) sort (omega arith) (omega arith)
+      ∙ section-inside section.holders book row (omega arith) row-long
+
+  holder-sort : part section.sorts (holderPut book n sort low high) ≡ set (part section.sorts book) n sort
+  unfolding holderPut
+  holder-sort =
+      word-beside section.sorts section.counts h2 refl 3 (n + 1) (omega arith) (omega arith)
+      ∙ word-inside section.sorts h1 n sort (omega arith)
+      ∙ ap (λ (l : List ℕ). set l n sort) (section-beside section.sorts section.holders book refl row (omega arith) row-long)
+
+  holder-count : part section.counts (holderPut book n sort low high) ≡ set (part section.counts book) 3 (n + 1)
+  unfolding holderPut
+  holder-count =
+      word-inside section.counts h2 3 (n + 1) (omega arith)
+      ∙ ap (λ (l : List ℕ). set l 3 (n + 1))
+      (word-beside section.counts section.sorts h1 refl (section.sorts .start + n) sort (omega arith) (omega arith)
+      ∙ section-beside section.counts section.holders book refl row (omega arith) row-long)
+
+  holder-long : length (holderPut book n sort low high) ≡ length book
+  unfolding holderPut
+  holder-long =
+      length-set h2 3 (n + 1) ∙ length-set h1 (section.sorts .start + n) sort ∙ section-same-length section.holders book row (omega arith) row-long
+
+  pub holder-same-length : (next : List ℕ) → next ≡ holderPut book n sort low high → length next ≡ length book
+  holder-same-length next e = ap length e ∙ holder-long
+
+  -- what the code writes
+  module _ (t : List ℕ) (adds : Added (part section.holders book) t n (rowOfName low high)) where
+    pub wrote-row : t ≡ row
+    wrote-row =
+        let e = section-long section.holders book (omega arith) in
+        let m : rowsIn (length (part section.holders book)) ≡ holderNumbers = omega arith in
+        adds .words ∙ ap (λ (j : ℕ). added (part section.holders book) j n (rowOfName low high)) m
+
+    pub wrote-holder : set (set (withSection section.holders book t) (section.sorts .start + n) sort) 3 (n + 1) ≡ holderPut book n sort low high
+    unfolding holderPut
+    wrote-holder = ap (λ (l : List ℕ). set (set (withSection section.holders book l) (section.sorts .start + n) sort) 3 (n + 1)) wrote-row
+
+    pub wrote-long : (i v : ℕ) → length (set (withSection section.holders book t) i v) ≡ bookWords
+    wrote-long i v =
+        length-set (withSection section.holders book t) i v
+        ∙ section-same-length section.holders book t (omega arith) (ap length wrote-row ∙ row-long)
+        ∙ long
+
+module _ (book : List ℕ) (n g : ℕ) (long : length book ≡ bookWords) (few : n < holderNumbers) (low : g < groupLimit) where
+  abbrev slots : List ℕ
+  slots = set (part section.slots book) g n
+
+  abbrev g1 : List ℕ
+  g1 = withSection section.slots book slots
+
+  abbrev g2 : List ℕ
+  g2 = set g1 (section.seats .start + n) (g + 1)
+
+  slots-long : length slots ≡ section.slots .size
+  slots-long = length-set (part section.slots book) g n ∙ section-long section.slots book (omega arith)
+
+  group-beside : (s : Section) → apart s section.slots ≡ true → apart s section.seats ≡ true → apart s section.counts ≡ true
+      → part s (groupPut book n g) ≡ part s book
+  unfolding groupPut
+  group-beside s a b c =
+      word-beside s section.counts g2 c 4 (g + 1) (omega arith) (omega arith)
+      ∙ word-beside s section.seats g1 b (section.seats .start + n) (g + 1) (omega arith) (omega arith)
+      ∙ section-beside s section.slots book a slots (omega arith) slots-long
+
+  group-slots : part section.slots (groupPut book n g) ≡ set (part section.slots book) g n
+  unfolding groupPut
+  group-slots =
+      word-beside section.slots section.counts g2 refl 4 (g + 1) (omega arith) (omega arith)
+      ∙ word-beside section.slots section.seats g1 refl (section.seats .start + n) (g + 1) (omega arith) (omega arith)
+      ∙ section-inside section.slots book slots (omega arith) slots-long
+
+  group-seats : part section.seats (groupPut book n g) ≡ set (part section.seats book) n (g + 1)
+  unfolding groupPut
+  group-seats =
+      word-beside section.seats section.counts g2 refl 4 (g + 1) (omega arith) (omega arith)
+      ∙ word-inside section.seats g1 n (g + 1) (omega arith)
+      ∙ ap (λ (l : List ℕ). set l n (g + 1)) (section-beside section.seats section.slots book refl slots (omega arith) slots-long)
+
+  group-count : part section.counts (groupPut book n g) ≡ set (part section.counts book) 4 (g + 1)
+  unfolding groupPut
+  group-count =
+      word-inside section.counts g2 4 (g + 1) (omega arith)
+      ∙ ap (λ (l : List ℕ). set l 4 (g + 1))
+      (word-beside section.counts section.seats g1 refl (section.seats .start + n) (g + 1) (omega arith) (omega arith)
+      ∙ section-beside section.counts section.slots book refl slots (omega arith) slots-long)
+
+  group-long : length (groupPut book n g) ≡ length book
+  unfolding groupPut
+  group-long =
+      length-set g2 4 (g + 1) ∙ length-set g1 (section.seats .start + n) (g + 1) ∙ section-same-length section.slots book slots (omega arith) slots-long
+
+  pub group-same-length : (next : List ℕ) → next ≡ groupPut book n g → length next ≡ length book
+  group-same-length next e = ap length e ∙ group-long
+
+  pub wrote-group : (t : List ℕ) → t ≡ set (part section.slots book) g n
+      → set (set (withSection section.slots book t) (section.seats .start + n) (g + 1)) 4 (g + 1) ≡ groupPut book n g
+  unfolding groupPut
+  wrote-group t e = ap (λ (l : List ℕ). set (set (withSection section.slots book l) (section.seats .start + n) (g + 1)) 4 (g + 1)) e
+
+  pub wrote-slots-long : (t : List ℕ) → t ≡ set (part section.slots book) g n → (i v : ℕ) → length (set (withSection section.slots book t) i v) ≡ bookWords
+  wrote-slots-long t e i v =
+      length-set (withSection section.slots book t) i v
+      ∙ section-same-length section.slots book t (omega arith) (ap length e ∙ slots-long)
+      ∙ long
+
+-- ---- the declarations with a holder more
+
+module _ (D : Declarations) (h : Holder) where
+  abbrev E : Declarations
+  E = withHolder h D
+
+  sort-new : sortOf E (length (D .holders)) ≡ some (h .sort)
+  unfolding sortOf
+  sort-new = ap (λ (o : Option Holder). o >>= λ x. some (x .sort)) (nth-new (D .holders) h)
+
+  sort-old : (k : ℕ) → (k ≡ length (D .holders) → ⊥) → sortOf E k ≡ sortOf D k
+  unfolding sortOf
+  sort-old k other = ap (λ (o : Option Holder). o >>= λ x. some (x .sort)) (nth-old (D .holders) h k other)
+
+  sort-few : (k : ℕ) (s : Sort) → sortOf D k ≡ some s → k < length (D .holders)
+  unfolding sortOf
+  sort-few k s e = nth-lt (D .holders) k (bind-some (nth (D .holders) k) (λ x. some (x .sort)) e .1)
+
+  groups-more : groups E ≡ groups D + (if isGroup (h .sort) then 1 else 0)
+  unfolding groups
+  groups-more = count-last (λ x. isGroup (x .sort)) (D .holders) h
+
+  groups-plain : isGroup (h .sort) ≡ false → groups E ≡ groups D
+  groups-plain e = let m = rw e at groups-more in omega arith
+
+  groups-one : isGroup (h .sort) ≡ true → groups E ≡ groups D + 1
+  groups-one e = rw e at groups-more
+
+  -- its row in the index, and its sort
+  rows-more : (s : List ℕ) (n : ℕ) → n ≡ length (D .holders) → n < holderNumbers → Indexed s holderNumbers (holderRow (D .holders))
+      → Indexed (added s holderNumbers n (rowOfName (packedOf (h .name) .low) (packedOf (h .name) .high))) holderNumbers (holderRow (E .holders))
+  rows-more s n at few ix =
+      listed-more (λ (x : Holder). rowOfName (packedOf (x .name) .low) (packedOf (x .name) .high)) (D .holders) h
+      (subst
+      (λ (j : ℕ).
+      Indexed (added s holderNumbers n (rowOfName (packedOf (h .name) .low) (packedOf (h .name) .high))) holderNumbers
+      (withRow (holderRow (D .holders)) j (rowOfName (packedOf (h .name) .low) (packedOf (h .name) .high))))
+      at
+      (added-indexed s holderNumbers n (rowOfName (packedOf (h .name) .low) (packedOf (h .name) .high)) (holderRow (D .holders)) ix few (λ z. omega arith)
+      (λ j l. listed-fresh (λ (x : Holder). rowOfName (packedOf (x .name) .low) (packedOf (x .name) .high)) (D .holders) j (omega arith))))
+
+  sorts-more : (words : List ℕ) (n : ℕ) → length words ≡ holderNumbers → n ≡ length (D .holders) → n < holderNumbers → SortRows words D
+      → SortRows (set words n (sortCode (h .sort))) E
+  sorts-more words n long at few rows k l = go (ℕ-discrete k n)
+    where
+      go : Dec (k ≡ n) → getD (set words n (sortCode (h .sort))) k 0 ≡ coded sortCode (sortOf E k)
+      go (yes z) =
+          ap (λ (j : ℕ). getD (set words n (sortCode (h .sort))) j 0) z
+          ∙ getD-set-same words n (sortCode (h .sort)) 0 (omega arith)
+          ∙ sym (ap (λ (j : ℕ). coded sortCode (sortOf E j)) (z ∙ at) ∙ ap (coded sortCode) sort-new)
+      go (no z) =
+          getD-set-other words n k (sortCode (h .sort)) 0 z ∙ rows k l ∙ ap (coded sortCode) (sym (sort-old k (λ e. z (e ∙ sym at))))
+
+  -- no group: slots and seats stay
+  slots-plain : (slots seats : List ℕ) → isGroup (h .sort) ≡ false → GroupSlots slots seats D → GroupSlots slots seats E
+  slots-plain slots seats no-group g = record {
+    seated = λ k s e i. go k s e i (ℕ-discrete k (length (D .holders)));
+    unseated = λ k l f. g .unseated k l (λ s e. f s (sort-old k (λ z. let m = sort-few k s e in omega arith) ∙ e));
+    taken = λ q l. let (s, e, i) = g .taken q (omega (arith, groups-plain no-group)) in (s, sort-old _ (λ z. let m = sort-few _ s e in omega arith) ∙ e, i);
+    free = λ q l m. g .free q (omega (arith, groups-plain no-group)) m;
+  }
+    where
+      go : (k : ℕ) (s : Sort) → sortOf E k ≡ some s → isGroup s ≡ true → Dec (k ≡ length (D .holders))
+          → (q : ℕ) × (getD seats k 0 ≡ suc q) × (q < groups E) × (getD slots q 0 ≡ k)
+      go k s e i (yes z) =
+          absurd (true≢false (sym i ∙ ap isGroup (Option·some-injective _ _ (sym e ∙ ap (sortOf E) z ∙ sort-new)) ∙ no-group))
+      go k s e i (no z) =
+          let (q, a, b, c) = g .seated k s (sym (sort-old k z) ∙ e) i in
+          (q, a, omega (arith, groups-plain no-group), c)
+
+  -- a group: it has the next slot
+  module _ (slots seats : List ℕ) (n q : ℕ) (is-group : isGroup (h .sort) ≡ true) (at : n ≡ length (D .holders)) (next : q ≡ groups D) (few : n < holderNumbers)
+      (low : q < groupLimit) (long : length slots ≡ groupLimit) (long′ : length seats ≡ holderNumbers) (g : GroupSlots slots seats D) where
+    slots-group : GroupSlots (set slots q n) (set seats n (q + 1)) E
+    slots-group = record {
+      seated = λ k s e i. sits k s e i (ℕ-discrete k n);
+      unseated = λ k l f. stands k l f (ℕ-discrete k n);
+      taken = λ r l. takes r l (ℕ-discrete r q);
+      free = λ r l m. let z = groups-one is-group in getD-set-other slots q r n 0 (λ y. omega arith) ∙ g .free r (omega arith) m;
+    }
+      where
+        sits : (k : ℕ) (s : Sort) → sortOf E k ≡ some s → isGroup s ≡ true → Dec (k ≡ n)
+            → (r : ℕ) × (getD (set seats n (q + 1)) k 0 ≡ suc r) × (r < groups E) × (getD (set slots q n) r 0 ≡ k)
+        sits k s e i (yes z) = (
+          q,
+          ap (λ (j : ℕ). getD (set seats n (q + 1)) j 0) z ∙ getD-set-same seats n (q + 1) 0 (omega arith) ∙ omega arith,
+          omega (arith, groups-one is-group),
+          getD-set-same slots q n 0 (omega arith) ∙ sym z,
+        )
+        sits k s e i (no z) =
+            let (r, a, b, c) = g .seated k s (sym (sort-old k (λ y. z (y ∙ sym at))) ∙ e) i in (
+              r,
+              getD-set-other seats n k (q + 1) 0 z ∙ a,
+              omega (arith, groups-one is-group),
+              getD-set-other slots q r n 0 (λ y. omega arith) ∙ c,
+            )
+
+        stands : (k : ℕ) → k < holderNumbers → ((s : Sort) → sortOf E k ≡ some s → isGroup s ≡ false) → Dec (k ≡ n) → getD (set seats n (q + 1)) k 0 ≡ 0
+        stands k l f (yes z) = absurd (true≢false (sym is-group ∙ f (h .sort) (ap (sortOf E) (z ∙ at) ∙ sort-new)))
+        stands k l f (no z) =
+            getD-set-other seats n k (q + 1) 0 z ∙ g .unseated k l (λ s e. f s (sort-old k (λ y. z (y ∙ sym at)) ∙ e))
+
+        takes : (r : ℕ) → r < groups E → Dec (r ≡ q) → (s : Sort) × (sortOf E (getD (set slots q n) r 0) ≡ some s) × (isGroup s ≡ true)
+        takes r l (yes z) = (
+          h .sort,
+          ap (sortOf E) (ap (λ (j : ℕ). getD (set slots q n) j 0) z ∙ getD-set-same slots q n 0 (omega arith) ∙ at) ∙ sort-new,
+          is-group,
+        )
+        takes r l (no z) =
+            let (s, e, i) = g .taken r (omega (arith, groups-one is-group)) in (
+              s,
+              ap (sortOf E) (getD-set-other slots q r n 0 z) ∙ sort-old (getD slots r 0) (λ y. let m = sort-few (getD slots r 0) s e in omega arith) ∙ e,
+              i,
+            )
+
+    -- the ties stay
+    ties-group : (ups own : List ℕ) (T : Ties) → 0 < n → KeepsTies ups own slots T → KeepsTies ups own (set slots q n) T
+    unfolding inUse
+    ties-group ups own T some-holder kept =
+        slot-given slots q n (omega arith) .keeps ups own T kept
+        (ap (λ (w : ℕ). ltb 0 w && ltb w (length ups)) (g .free q (omega arith) low))
+        (λ r l e. other r l e (decLt r (groups D)))
+      where
+        other : (r : ℕ) → r < groupLimit → getD slots r 0 ≡ n → Dec (r < groups D) → ⊥
+        other r l e (yes m) = let (s, f, i) = g .taken r m in let few = sort-few (getD slots r 0) s f in omega arith
+        other r l e (no m) = let z = g .free r (omega arith) l in omega arith
+
+  -- the counts
+  counts-plain : (words : List ℕ) (n : ℕ) → 3 < length words → n ≡ length (D .holders) → isGroup (h .sort) ≡ false → CountsOf words D → CountsOf (set words 3 (n + 1)) E
+  unfolding holderNumbersOf
+  counts-plain words n long at no-group c = record {
+    attributes = word-at words 3 (n + 1) 0 long ∙ c .attributes;
+    operations = word-at words 3 (n + 1) 1 long ∙ c .operations;
+    pairs = word-at words 3 (n + 1) 2 long ∙ c .pairs;
+    holders = word-at words 3 (n + 1) 3 long ∙ omega (arith, at, length-more (D .holders) h) ∙ sym (length-below (length (E .holders)));
+    groups-are = word-at words 3 (n + 1) 4 long ∙ c .groups-are ∙ sym (groups-plain no-group);
+    rules = word-at words 3 (n + 1) 5 long ∙ c .rules;
+  }
+
+  counts-group : (words : List ℕ) (n q : ℕ) → 4 < length words → n ≡ length (D .holders) → q ≡ groups D → isGroup (h .sort) ≡ true → CountsOf words D
+      → CountsOf (set (set words 3 (n + 1)) 4 (q + 1)) E
+  unfolding holderNumbersOf
+  counts-group words n q long at next is-group c =
+      let w = set words 3 (n + 1) in
+      let l : 3 < length words = omega arith in
+      let l′ : 4 < length w = subst (λ (m : ℕ). 4 < m) (sym (length-set words 3 (n + 1))) long in
+      record {
+        attributes = word-at w 4 (q + 1) 0 l′ ∙ word-at words 3 (n + 1) 0 l ∙ c .attributes;
+        operations = word-at w 4 (q + 1) 1 l′ ∙ word-at words 3 (n + 1) 1 l ∙ c .operations;
+        pairs = word-at w 4 (q + 1) 2 l′ ∙ word-at words 3 (n + 1) 2 l ∙ c .pairs;
+        holders = word-at w 4 (q + 1) 3 l′ ∙ word-at words 3 (n + 1) 3 l ∙ omega (arith, at, length-more (D .holders) h) ∙ sym (length-below (length (E .holders)));
+        groups-are = word-at w 4 (q + 1) 4 l′ ∙ omega (arith, next, groups-one is-group);
+        rules = word-at w 4 (q + 1) 5 l′ ∙ word-at words 3 (n + 1) 5 l ∙ c .rules;
+      }
+
+-- ---- the book with a holder more
+
+-- from the sections that change; the others are as they were
+record Grown (book next : List ℕ) (D : Declarations) (T : Ties) (h : Holder) (n : ℕ) : Type 0 where
+  size : length next ≡ length book
+  same : (s : Section) → apart s section.holders ≡ true → apart s section.sorts ≡ true → apart s section.counts ≡ true → apart s section.slots ≡ true
+      → apart s section.seats ≡ true → part s next ≡ part s book
+  counted : CountsOf (part section.counts next) (withHolder h D)
+  row : part section.holders next
+      ≡ added (part section.holders book) holderNumbers n (rowOfName (packedOf (h .name) .low) (packedOf (h .name) .high))
+  sort : part section.sorts next ≡ set (part section.sorts book) n (sortCode (h .sort))
+  slotted : GroupSlots (part section.slots next) (part section.seats next) (withHolder h D)
+  tied : KeepsTies (part section.ups next) (part section.own next) (part section.slots next) T
+
+grown-held : (book next : List ℕ) (code : Bytes) (D : Declarations) (T : Ties) (h : Holder) (n : ℕ) → Holds book code (record { declared = D; ties = T }) → NamesKnown D
+    → n ≡ length (D .holders) → n < holderNumbers → Grown book next D T h n → Holds next code (record { declared = withHolder h D; ties = T })
+unfolding attributeNumber operationNumber pairOf
+grown-held book next code D T h n held known at few grown =
+    let E = withHolder h D in
+    let long = held .long in
+    let same = grown .same in
+    record {
+      long = grown .size ∙ held .long;
+      code-long = held .code-long;
+      counts = grown .counted;
+      attributes =
+          subst (λ (w : List ℕ). AttributeRows w E) (sym (same section.attributes refl refl refl refl refl)) (attributes-kept D E refl (λ i p. refl) _ (held .attributes));
+      operations = subst (λ (w : List ℕ). OperationRows w (E .operations)) (sym (same section.operations refl refl refl refl refl)) (held .operations);
+      pairs = subst (λ (w : List ℕ). Indexed w pairLimit (pairRow E)) (sym (same section.pairs refl refl refl refl refl)) (held .pairs);
+      holders =
+          subst (λ (w : List ℕ). Indexed w holderNumbers (holderRow (E .holders))) (sym (grown .row)) (rows-more D h (part section.holders book) n at few (held .holders));
+      sorts =
+          subst (λ (w : List ℕ). SortRows w E) (sym (grown .sort))
+          (sorts-more D h (part section.sorts book) n (section-long section.sorts book (omega arith)) at few (held .sorts));
+      groups = grown .slotted;
+      ties = grown .tied;
+      rules =
+          subst (λ (w : List ℕ). RuleRows w code E) (sym (same section.rules refl refl refl refl refl))
+          (rules-kept D E (λ s m j e. e) (λ o j e. e) refl known _ code (held .rules));
+    }
+
+module _ (book : List ℕ) (code : Bytes) (D : Declarations) (T : Ties) (h : Holder) (n : ℕ) (held : Holds book code (record { declared = D; ties = T }))
+    (known : NamesKnown D) (at : n ≡ length (D .holders)) (few : n < holderNumbers) where
+  abbrev put : List ℕ
+  put = holderPut book n (sortCode (h .sort)) (packedOf (h .name) .low) (packedOf (h .name) .high)
+
+  -- one that is no group
+  pub holder-held : isGroup (h .sort) ≡ false → Holds put code (record { declared = withHolder h D; ties = T })
+  holder-held no-group =
+      let low = packedOf (h .name) .low in
+      let high = packedOf (h .name) .high in
+      let sort = sortCode (h .sort) in
+      let long = held .long in
+      let beside = holder-beside book n sort low high long few in
+      grown-held book put code D T h n held known at few (record {
+        size = holder-long book n sort low high long few;
+        same = λ s a b c d e. beside s a b c;
+        counted =
+            subst (λ (w : List ℕ). CountsOf w (withHolder h D)) (sym (holder-count book n sort low high long few))
+            (counts-plain D h (part section.counts book) n (omega (arith, section-long section.counts book (omega arith))) at no-group (held .counts));
+        row = holder-row book n sort low high long few;
+        sort = holder-sort book n sort low high long few;
+        slotted =
+            rw (beside section.slots refl refl refl, beside section.seats refl refl refl)
+            (slots-plain D h (part section.slots book) (part section.seats book) no-group (held .groups));
+        tied = rw (beside section.ups refl refl refl, beside section.own refl refl refl, beside section.slots refl refl refl) (held .ties);
+      })
+
+  -- a group, with the next slot
+  pub group-held : isGroup (h .sort) ≡ true → (g : ℕ) → g ≡ groups D → g < groupLimit → 0 < n
+      → Holds (groupPut put n g) code (record { declared = withHolder h D; ties = T })
+  group-held is-group g next low some-holder =
+      let low′ = packedOf (h .name) .low in
+      let high′ = packedOf (h .name) .high in
+      let sort = sortCode (h .sort) in
+      let long = held .long in
+      let long′ : length put ≡ bookWords = holder-long book n sort low′ high′ long few ∙ held .long in
+      let beside = holder-beside book n sort low′ high′ long few in
+      let beside′ = group-beside put n g long′ few low in
+      let slots = part section.slots book in
+      let seats = part section.seats book in
+      let slots-are : part section.slots (groupPut put n g) ≡ set slots g n =
+      group-slots put n g long′ few low ∙ ap (λ (l : List ℕ). set l g n) (beside section.slots refl refl refl) in
+      let seats-are : part section.seats (groupPut put n g) ≡ set seats n (g + 1) =
+      group-seats put n g long′ few low ∙ ap (λ (l : List ℕ). set l n (g + 1)) (beside section.seats refl refl refl) in
+      let slots-long = section-long section.slots book (omega arith) in
+      let seats-long = section-long section.seats book (omega arith) in
+      grown-held book (groupPut put n g) code D T h n held known at few (record {
+        size = group-long put n g long′ few low ∙ holder-long book n sort low′ high′ long few;
+        same = λ s a b c d e. beside′ s d e c ∙ beside s a b c;
+        counted =
+            subst (λ (w : List ℕ). CountsOf w (withHolder h D))
+            (sym (group-count put n g long′ few low ∙ ap (λ (l : List ℕ). set l 4 (g + 1)) (holder-count book n sort low′ high′ long few)))
+            (counts-group D h (part section.counts book) n g (omega (arith, section-long section.counts book (omega arith))) at next is-group (held .counts));
+        row = beside′ section.holders refl refl refl ∙ holder-row book n sort low′ high′ long few;
+        sort = beside′ section.sorts refl refl refl ∙ holder-sort book n sort low′ high′ long few;
+        slotted =
+            rw (slots-are, seats-are)
+            (slots-group D h slots seats n g is-group at next few low slots-long seats-long (held .groups));
+        tied =
+            rw (beside′ section.ups refl refl refl ∙ beside section.ups refl refl refl, beside′ section.own refl refl refl ∙ beside section.own refl refl refl, slots-are)
+            (ties-group D h slots seats n g is-group at next few low slots-long seats-long (held .groups) (part section.ups book) (part section.own book) T some-holder
+            (held .ties));
+      })

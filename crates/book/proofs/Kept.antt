@@ -1,0 +1,113 @@
+-- What sections say of declarations stays true of declarations that have more of another kind. Assumes nothing.
+use Prim.Native.Nat.{ℕ, _+_}
+use mathlib.Core.Path.{_≡_, refl, sym, ap, ap₂, _∙_}
+use mathlib.Core.Logic.{⊎-elim}
+use mathlib.Core.Bool.{Bool, true, false, true≢false}
+use mathlib.Core.List.{List, [], _∷_, _++_}
+use mathlib.Core.Option.{Option, none, some}
+use lib.ListN.{length, length-append}
+use Rattle.model.specs.Notation.{any, each, nth}
+use Rattle.model.specs.Bytes.{Bytes}
+use Rattle.model.specs.Attributes.{Source}
+use Rattle.model.specs.Tokens.{Token, name, int, str, truth, operator, mark}
+use Rattle.model.specs.Declarations.{Declarations, Rule, attributeNumber, operationNumber, sortOf, groups}
+use Rattle.model.specs.Refusals.{unknownName}
+use Rattle.model.specs.Standing.{Each}
+use Rattle.model.proofs.Words.{none-is-some}
+use Rattle.model.proofs.Options.{is-there, no-result}
+use Rattle.model.proofs.Lists.{nth-append}
+use Rattle.model.proofs.Growing.{nth-last}
+use Rattle.codes.specs.Codes.{kindOf}
+use Rattle.rows.specs.Rows.{AttributeRows, pairOf, numberOr}
+use Rattle.tokens.specs.RuleCode.{unknownNumber, carried, encodeToken}
+use Rattle.book.specs.Held.{SortRows, GroupSlots, RuleRows}
+
+-- one more at the end: the others are as they were
+module _ {A : Type 0} (xs : List A) (x : A) where
+  pub nth-new : nth (xs ++ x ∷ []) (length xs) ≡ some x
+  nth-new = go xs
+    where
+      go : (l : List A) → nth (l ++ x ∷ []) (length l) ≡ some x
+      go [] = refl
+      go (y ∷ l) = go l
+
+  pub nth-old : (k : ℕ) → (k ≡ length xs → ⊥) → nth (xs ++ x ∷ []) k ≡ nth xs k
+  nth-old k other = go (nth xs k) refl
+    where
+      go : (o : Option A) → nth xs k ≡ o → nth (xs ++ x ∷ []) k ≡ o
+      go none e = no-result (nth (xs ++ x ∷ []) k) (λ y f. ⊎-elim (λ g. none-is-some (sym e ∙ g)) (λ g. other (g .0)) (nth-last xs x k f))
+      go (some y) e = nth-append xs (x ∷ []) k e
+
+  pub length-more : length (xs ++ x ∷ []) ≡ length xs + 1
+  length-more = length-append xs (x ∷ [])
+
+-- what is found by SRC and NAME, or by an operation's name, stays found
+abbrev pub AttributesStay : Declarations → Declarations → Type 0
+AttributesStay D E = (s : Source) (n : Bytes) (k : ℕ) → attributeNumber D s n ≡ some k → attributeNumber E s n ≡ some k
+
+abbrev pub OperationsStay : Declarations → Declarations → Type 0
+OperationsStay D E = (o : Bytes) (k : ℕ) → operationNumber D o ≡ some k → operationNumber E o ≡ some k
+
+-- the names in rules are declared
+abbrev pub NamesKnown : Declarations → Type 0
+NamesKnown D = Each (λ r. any (unknownName D) (r .tokens) ≡ false) (D .rules)
+
+-- the code of declared names is the same
+module _ (D E : Declarations) (stay : AttributesStay D E) where
+  carried-same : (t : Token) → unknownName D t ≡ false → carried E t ≡ carried D t
+  carried-same (name s n) e =
+      let (k, f) = is-there (attributeNumber D s n) e in ap (λ (o : Option ℕ). numberOr unknownNumber o ∷ []) (stay s n k f ∙ sym f)
+  carried-same (int n) e = refl
+  carried-same (str s) e = refl
+  carried-same (truth t) e = refl
+  carried-same (operator o) e = refl
+  carried-same (mark m) e = refl
+
+  code-same : (ts : List Token) → any (unknownName D) ts ≡ false → each (encodeToken E) ts ≡ each (encodeToken D) ts
+  code-same [] e = refl
+  code-same (t ∷ ts) e = go (unknownName D t) refl e (code-same ts)
+    where
+      go : (b : Bool) → unknownName D t ≡ b → (elim b as (λ _. Bool) [ true ↦ true | false ↦ any (unknownName D) ts ]) ≡ false
+          → (any (unknownName D) ts ≡ false → each (encodeToken E) ts ≡ each (encodeToken D) ts)
+          → each (encodeToken E) (t ∷ ts) ≡ each (encodeToken D) (t ∷ ts)
+      go true f g more = absurd (true≢false g)
+      go false f g more = ap₂ (λ (b c : Bytes). (kindOf t ∷ b) ++ c) (carried-same t f) (more g)
+
+  pub rules-kept : OperationsStay D E → E .rules ≡ D .rules → NamesKnown D → (words : List ℕ) (code : Bytes) → RuleRows words code D → RuleRows words code E
+  rules-kept operations same known words code rows i r e =
+      let old = ap (λ (l : List Rule). nth l i) (sym same) ∙ e in
+      let h = rows i r old in
+      record {
+        operation = h .operation;
+        operation-is = operations (r .operation) (h .operation) (h .operation-is);
+        word = h .word;
+        tokens = record {
+          rest = h .tokens .rest;
+          from = h .tokens .from ∙ ap (λ (c : Bytes). c ++ (0 ∷ []) ++ h .tokens .rest) (sym (code-same (r .tokens) (known i r old)));
+        };
+      }
+
+-- sorts and slots, with the same holders
+module _ (D E : Declarations) (same : E .holders ≡ D .holders) where
+  pub sorts-kept : (words : List ℕ) → SortRows words D → SortRows words E
+  unfolding sortOf
+  sorts-kept words rows k h = rw same (rows k h)
+
+  pub groups-kept : (slots seats : List ℕ) → GroupSlots slots seats D → GroupSlots slots seats E
+  unfolding sortOf groups
+  groups-kept slots seats g = record {
+    seated = rw same (g .seated);
+    unseated = rw same (g .unseated);
+    taken = rw same (g .taken);
+    free = rw same (g .free);
+  }
+
+-- the rows of attributes, with the same attributes and pairs of the same attributes
+pub attributes-kept : (D E : Declarations) → E .attributes ≡ D .attributes → ((i p : ℕ) → pairOf E i p ≡ pairOf D i p) → (rows : List ℕ) → AttributeRows rows D
+    → AttributeRows rows E
+attributes-kept D E same pairs rows a = record {
+  within = rw same (a .within);
+  row = rw same (a .row);
+  other = rw same (a .other);
+  mask = λ i p h l. a .mask i p h l ∙ sym (pairs i p);
+}

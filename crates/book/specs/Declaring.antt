@@ -1,0 +1,103 @@
+-- What the functions that declare write, and what their steps are. Assumes nothing: these are definitions.
+use Prim.Native.Nat.{ℕ, _+_, _*_, _/_, _%_}
+use mathlib.Core.Path.{_≡_}
+use mathlib.Core.Bool.{Bool, true, false, _&&_, _||_}
+use mathlib.Core.List.{List, _++_}
+use lib.Dec.{eqb, leb}
+use lib.ListN.{length, getD, take, drop, set}
+use Rattle.model.specs.Limits.{pairLimit, holderNumbers, wordBits}
+use Rattle.model.specs.Bytes.{Bytes}
+use Rattle.model.specs.Names.{isName}
+use Rattle.model.specs.Attributes.{Source, AtomType}
+use Rattle.model.specs.Atoms.{Atom, isAtom}
+use Rattle.model.specs.Declarations.{Sort, isSort}
+use Rattle.model.specs.Lines.{attr, op, atom, holder}
+use Rattle.model.specs.State.{empty}
+use Rattle.bits.specs.Bits.{bit, Bits}
+use Rattle.codes.specs.Codes.{sourceCode, typeCode}
+use Rattle.text.specs.declared.Words.{Words}
+use Rattle.text.specs.declared.Value.{Value}
+use Rattle.text.specs.Packing.{packedOf}
+use Rattle.text.specs.Values.{atomValue}
+use Rattle.index.specs.Index.{putRow, added}
+use Rattle.book.specs.Sections.{Section, part, ruleBytes}
+use Rattle.book.specs.Sections as section
+use Rattle.book.specs.Held.{Holds, sortCode}
+use Rattle.book.specs.Steps.{Steps}
+
+-- where the words of attribute n, operation n begin
+abbrev pub attributePlace : ℕ → ℕ
+attributePlace n = section.attributes .start + 8 * n
+
+abbrev pub operationPlace : ℕ → ℕ
+operationPlace n = section.operations .start + 2 * n
+
+-- the words of an attribute and of an operation, with its number, and the count with it
+unfoldable pub attributePut : List ℕ → ℕ → ℕ → ℕ → ℕ → ℕ → List ℕ
+attributePut book n source kind low high = set (putRow book (attributePlace n) (source, kind, low, high)) 0 (n + 1)
+
+unfoldable pub operationPut : List ℕ → ℕ → ℕ → ℕ → List ℕ
+operationPut book n low high = set (set (set book (operationPlace n) low) (operationPlace n + 1) high) 1 (n + 1)
+
+-- a section that is written as a whole
+abbrev pub withSection : Section → List ℕ → List ℕ → List ℕ
+withSection s book words = take (s .start) book ++ (words ++ drop (s .size) (drop (s .start) book))
+
+-- pair n of attribute k: its bit in the attribute's mask, its row, and the count with it
+abbrev pub maskPlace : ℕ → ℕ → ℕ
+maskPlace k n = section.attributes .start + (8 * k + 4 + n / wordBits)
+
+unfoldable pub pairPut : List ℕ → ℕ → ℕ → Words → ℕ → List ℕ
+pairPut book n k words mask =
+    let marked = set book (maskPlace k n) mask in
+    set (withSection section.pairs marked (added (part section.pairs marked) pairLimit n (k + 1, words .first, words .second, words .third))) 2 (n + 1)
+
+pub record PairPut (book : List ℕ) (n k : ℕ) (words : Words) (next : List ℕ) : Type 0 where
+  pub mask : ℕ
+  pub marked : Bits mask (λ j. bit (getD book (maskPlace k n) 0) j || eqb j (n % wordBits))
+  pub written : next ≡ pairPut book n k words mask
+
+-- a holder with its number: its row, its sort, and the count with it
+unfoldable pub holderPut : List ℕ → ℕ → ℕ → ℕ → ℕ → List ℕ
+holderPut book n sort low high =
+    set
+    (set (withSection section.holders book (added (part section.holders book) holderNumbers n (1, low, high, 0))) (section.sorts .start + n) sort)
+    3
+    (n + 1)
+
+-- the slot of a group, its seat, and the count with it
+unfoldable pub groupPut : List ℕ → ℕ → ℕ → List ℕ
+groupPut book n g = set (set (withSection section.slots book (set (part section.slots book) g n)) (section.seats .start + n) (g + 1)) 4 (g + 1)
+
+-- an attribute would be a str of env or connect
+abbrev pub blockText : ℕ → ℕ → Bool
+blockText source kind = leb (sourceCode Source.env) source && eqb kind (typeCode AtomType.str)
+
+-- the book keeps its length, and a line that is refused leaves it as it was
+pub record Keeps (r : ℕ) (book book′ : List ℕ) : Type 0 where
+  pub long : length book′ ≡ length book
+  pub refused : (r ≡ 0 → ⊥) → book′ ≡ book
+
+-- the steps of lines that declare: for whatever source, name, type, atom and sort these are the numbers of
+abbrev pub AttributeStep : List ℕ → ℕ → ℕ → ℕ → ℕ → List ℕ → ℕ → Type 0
+AttributeStep book source kind low high book′ r =
+    (code : Bytes) (s : Source) (n : Bytes) (t : AtomType) → isName n ≡ true → source ≡ sourceCode s → kind ≡ typeCode t
+    → packedOf n ≡ record { low = low; high = high } → Steps book code (attr s n t) book′ code r
+
+abbrev pub OperationStep : List ℕ → ℕ → ℕ → List ℕ → ℕ → Type 0
+OperationStep book low high book′ r =
+    (code : Bytes) (n : Bytes) → isName n ≡ true → packedOf n ≡ record { low = low; high = high } → Steps book code (op n) book′ code r
+
+abbrev pub PairStep : List ℕ → ℕ → ℕ → ℕ → Value → List ℕ → ℕ → Type 0
+PairStep book source low high value book′ r =
+    (code : Bytes) (s : Source) (n : Bytes) (a : Atom) → isName n ≡ true → isAtom a ≡ true → source ≡ sourceCode s
+    → packedOf n ≡ record { low = low; high = high } → atomValue a ≡ value → Steps book code (atom s n a) book′ code r
+
+abbrev pub HolderStep : List ℕ → ℕ → ℕ → ℕ → List ℕ → ℕ → Type 0
+HolderStep book key low high book′ r =
+    (code : Bytes) (s : Sort) (n : Bytes) → isSort s Sort.admin ≡ false → isName n ≡ true → key ≡ sortCode s
+    → packedOf n ≡ record { low = low; high = high } → Steps book code (holder s n) book′ code r
+
+-- the book of the empty state, whatever the rules' bytes are
+abbrev pub Emptied : List ℕ → Type 0
+Emptied book = (code : Bytes) → length code ≡ ruleBytes → Holds book code empty
