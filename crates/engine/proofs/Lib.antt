@@ -5,6 +5,12 @@ pub mod Numbers
 pub mod Rules
 pub mod Books
 pub mod Answers
+-- Laws about edits.
+pub mod EditLines
+pub mod EditTies
+pub mod EditTables
+pub mod EditRefusals
+pub mod EditCalls
 -- The calls put together: lists of calls and the ledger.
 pub mod Runs
 pub mod EditsInRuns

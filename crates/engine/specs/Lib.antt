@@ -1,4 +1,5 @@
 pub mod Requests
 pub mod Decisions
 pub mod Calls
+pub mod EditSteps
 pub mod Runs

@@ -15,6 +15,8 @@ use codes::KEY_OBJECT;
 use codes::KEY_USER;
 use truth::Truth;
 
+pub mod edit;
+
 // "decision enum: Permit with rule number, Deny, Undefined, Refused with number."
 pub enum Decision {
     Permit(u8),

@@ -22,7 +22,7 @@ use Rattle.model.proofs.Standing as model
 use Rattle.bits.specs.Bits.{bit, member, holds, anyBelow, countBelow}
 use Rattle.bits.proofs.Bits.{bit-none, bit-not}
 use Rattle.bits.proofs.Sets.{same-beq}
-use Rattle.bits.proofs.Counts.{any-ext, any-suc, any-at, any-find, find-any, count-ext, count-rest}
+use Rattle.bits.proofs.Counts.{any-ext, any-suc, any-at, any-find, find-any, count-ext, count-below-le, count-rest}
 use Rattle.ties.specs.TieArrays.{inUse, tied, meets, isGroup, groupOf, under, Room, Under, here, over, Marks}
 use Rattle.ties.proofs.Masks.{in-use-lt}
 use Rattle.ties.proofs.Keeps.{slot-group, group-any}
@@ -249,4 +249,5 @@ module _ (ups own slots : List ℕ) (e : ℕ) (t t′ changed : List ℕ) (r : �
           counted D T U edit room sets,
         );
     elsewhere = b .elsewhere;
+    at-most = omega (arith, n, count-below-le 1024 (member changed));
   }

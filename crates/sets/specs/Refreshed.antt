@@ -1,17 +1,17 @@
 -- The table after an edit, against the specification. Assumes nothing: these are definitions.
-use Prim.Native.Nat.{ℕ, _/_, _≤_, _<_}
+use Prim.Native.Nat.{ℕ, _*_, _/_, _≤_, _<_}
 use mathlib.Core.Path.{_≡_}
 use mathlib.Core.Bool.{true}
 use mathlib.Core.List.{List}
 use lib.ListN.{getD, length}
-use Rattle.model.specs.Limits.{groupLimit, holderNumbers}
+use Rattle.model.specs.Limits.{groupLimit, holderNumbers, wordBits}
 use Rattle.model.specs.Declarations.{Declarations}
 use Rattle.model.specs.Ties.{Ties}
 use Rattle.model.specs.Table.{table}
 use Rattle.model.specs.Edits.{changes}
 use Rattle.model.specs.Standing.{Standing, DifferAt}
 use Rattle.ties.specs.TieArrays.{tied, Distinct, KeepsTies, Room, Under}
-use Rattle.sets.specs.Settled.{MarksChanged}
+use Rattle.sets.specs.Settled.{markWords, MarksChanged}
 use Rattle.sets.specs.Filled.{KeepsSets}
 
 -- U is what an edit of holder e's ties made of T, both of standing states of D, and the arrays keep it
@@ -33,10 +33,12 @@ pub record Rewritten (ups own slots : List ℕ) (e : ℕ) (t t′ m m′ : List 
   pub told : Distinct (length ups) slots → MarksChanged m m′ t t′
   pub elsewhere : Elsewhere ups slots e t t′
 
--- from the table t to t′: r holders' sets changed. A table for document 01's number of holders goes from one state's table to the other's.
+-- from the table t to t′: r holders' sets changed, on any arrays no more than there are marks. A table for document 01's number of holders goes from
+-- one state's table to the other's.
 pub record Refreshed (ups own slots : List ℕ) (e : ℕ) (t t′ : List ℕ) (r : ℕ) : Type 0 where
   pub pairs : (D : Declarations) (T U : Ties) → EditedAt ups own slots e D T U → Room D (length ups)
       → KeepsSets (length ups) t D T → KeepsSets (length ups) t′ D U × (r ≡ changes D T U)
   pub whole : (D : Declarations) (T U : Ties) → EditedAt ups own slots e D T U → length ups ≡ holderNumbers
       → t ≡ table D T → (t′ ≡ table D U) × (r ≡ changes D T U)
   pub elsewhere : Elsewhere ups slots e t t′
+  pub at-most : r ≤ wordBits * markWords

@@ -1,0 +1,134 @@
+-- `edit::edit` meets its contract: one law for each way out. Assumes nothing.
+use mathlib.Core.Path.{sym, _∙_}
+use lib.Dec.{eqb}
+use native.Mathlib.Omega.{arith}
+use Rattle.book.specs.TieSteps.{tieBy}
+use Rattle.engine.proofs.EditRefusals.{unsigned, lineOf, signed-line, line-refused, tie-fitting, tie-refusal}
+use Rattle.engine.proofs.EditCalls.{without-table, refused-call, accepted-call}
+use borrow.Author.Needs.{needs}
+use Rattle.engine.proofs.edit.edit.Statement.{statement}
+use Rattle.engine.proofs.edit.edit.Tie as tie
+
+refused-requires : tie.Need-refused-requires
+refused-requires c κs = search needs
+
+returns : tie.Need-returns
+returns c =
+    let start = c .before .before .before .before in
+    let r = c .refused in
+    without-table (start .args .line .now) (start .args .book .now) (start .args .table .now) (r .result .number) (r .result .count)
+    (c .before .if1 .taken) (r .ensures .0) (r .ensures .1)
+
+sign-requires : tie.Need-sign-requires
+sign-requires c κs = search needs
+
+refused-requires-2 : tie.Need-refused-requires-2
+refused-requires-2 c κs = search needs
+
+returns-2 : tie.Need-returns-2
+returns-2 c =
+    let start = c .before .before .before .before .before .before in
+    let line = start .args .line .now in
+    let book = start .args .book .now in
+    let table = start .args .table .now in
+    let sign = c .before .before .sign in
+    let r = c .refused2 in
+    refused-call line book table (r .result .number) (r .result .count) (c .before .before .before .if1 .left) (λ z. omega (arith, z, r .ensures .0)) (r .ensures .1)
+    (λ S code standing held. unsigned S line (sign .result) (sign .ensures) (c .before .if2 .taken) ∙ sym (r .ensures .0))
+
+sub-tie-of-line : tie.Need-sub-tie-of-line
+sub-tie-of-line c = c .before .before .before .sign .ensures .within (c .before .before .if2 .left)
+
+part-tie-of-line-start : tie.Need-part-tie-of-line-start
+part-tie-of-line-start c = c .before .before .before .sign .ensures .within (c .before .before .if2 .left)
+
+part-tie-of-line-end : tie.Need-part-tie-of-line-end
+part-tie-of-line-end c = search needs
+
+tie-of-line-requires : tie.Need-tie-of-line-requires
+tie-of-line-requires c κs = search needs
+
+refused-requires-3 : tie.Need-refused-requires-3
+refused-requires-3 c κs = search needs
+
+returns-3 : tie.Need-returns-3
+returns-3 c =
+    let start = c .before .before .before .before .before .before .before .before .before .before .before .before in
+    let line = start .args .line .now in
+    let book = start .args .book .now in
+    let table = start .args .table .now in
+    let sign = c .before .before .before .before .before .before .before .before .sign in
+    let signed = signed-line line (sign .result) (sign .ensures) (c .before .before .before .before .before .before .before .if2 .left) in
+    let told = c .before .before .before .tie-of-line in
+    let t = tieBy (told .result .kind) (told .result .lower) (told .result .upper) in
+    let r = c .refused3 in
+    refused-call line book table (r .result .number) (r .result .count) (c .before .before .before .before .before .before .before .before .before .if1 .left) (λ z. c .before .if3 .taken (sym (r .ensures .0) ∙ z)) (r .ensures .1)
+    (λ S code standing held.
+    line-refused S line (eqb (sign .result) 1) (lineOf line) signed (told .result .number) t (told .ensures S code standing held) (c .before .if3 .taken) ∙ sym (r .ensures .0))
+
+judged-requires : tie.Need-judged-requires
+judged-requires c κs = search needs
+
+refused-requires-4 : tie.Need-refused-requires-4
+refused-requires-4 c κs = search needs
+
+returns-4 : tie.Need-returns-4
+returns-4 c =
+    let start = c .before .before .before .before .before .before .before .before .before .before .before .before .before .before in
+    let line = start .args .line .now in
+    let book = start .args .book .now in
+    let table = start .args .table .now in
+    let sign = c .before .before .before .before .before .before .before .before .before .before .sign in
+    let signed = signed-line line (sign .result) (sign .ensures) (c .before .before .before .before .before .before .before .before .before .if2 .left) in
+    let told = c .before .before .before .before .before .tie-of-line in
+    let t = tieBy (told .result .kind) (told .result .lower) (told .result .upper) in
+    let found = c .before .before .judged in
+    let r = c .refused4 in
+    refused-call line book table (r .result .number) (r .result .count) (c .before .before .before .before .before .before .before .before .before .before .before .if1 .left) (λ z. c .before .if4 .taken (sym (r .ensures .0) ∙ z)) (r .ensures .1)
+    (λ S code standing held.
+    let read = told .ensures S code standing held in
+    let fits = tie-fitting S line (eqb (sign .result) 1) (lineOf line) signed (told .result .number) t read (c .before .before .before .if3 .left) in
+    tie-refusal S line (eqb (sign .result) 1) (lineOf line) signed (told .result .number) t read (c .before .before .before .if3 .left) ∙ sym (found .ensures S code standing held fits) ∙ sym (r .ensures .0))
+
+apply-requires : tie.Need-apply-requires
+apply-requires c κs = search needs
+
+same-length : tie.Need-same-length
+same-length c = search needs
+
+returns-5 : tie.Need-returns-5
+returns-5 c =
+    let start = c .before .before .before .before .before .before .before .before .before .before .before .before .before .before .before .before .before .before in
+    let line = start .args .line .now in
+    let book = start .args .book .now in
+    let table = start .args .table .now in
+    let sign = c .before .before .before .before .before .before .before .before .before .before .before .before .before .before .sign in
+    let signed = signed-line line (sign .result) (sign .ensures) (c .before .before .before .before .before .before .before .before .before .before .before .before .before .if2 .left) in
+    let told = c .before .before .before .before .before .before .before .before .before .tie-of-line in
+    let t = tieBy (told .result .kind) (told .result .lower) (told .result .upper) in
+    let found = c .before .before .before .before .before .before .judged in
+    let done = c .before .before .apply in
+    accepted-call line book table (done .last .1 .0) (done .last .0) (done .result) (c .before .before .before .before .before .before .before .before .before .before .before .before .before .before .before .if1 .left) (done .kept .1 .0) (done .kept .0)
+    (eqb (sign .result) 1) (lineOf line) signed (told .result .number) t (told .ensures) (c .before .before .before .before .before .before .before .if3 .left) (found .result) (found .ensures) (c .before .before .before .before .before .if4 .left) (done .ensures)
+
+pub edit-spec : {M : Type 1} → statement M
+edit-spec =
+    tie.close
+    (tie.spec
+    refused-requires
+    returns
+    sign-requires
+    refused-requires-2
+    returns-2
+    sub-tie-of-line
+    part-tie-of-line-start
+    part-tie-of-line-end
+    tie-of-line-requires
+    refused-requires-3
+    returns-3
+    judged-requires
+    refused-requires-4
+    returns-4
+    apply-requires
+    same-length
+    returns-5)

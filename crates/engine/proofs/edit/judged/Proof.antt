@@ -1,0 +1,43 @@
+-- `edit::judged` meets its contract. Assumes nothing.
+use mathlib.Core.Path.{sym, _∙_}
+use Rattle.book.specs.TieSteps.{tieBy}
+use Rattle.engine.proofs.EditTies.{plus-stands, plus-closes, plus-free, minus-stands, minus-gone}
+use borrow.Author.Needs.{needs}
+use Rattle.engine.proofs.edit.judged.Statement.{statement}
+use Rattle.engine.proofs.edit.judged.Tie as tie
+
+stands-requires : tie.Need-stands-requires
+stands-requires c κs = search needs
+
+returns : tie.Need-returns
+returns c S code standing held fits =
+    let t = c .before .before .before .before .args .t in
+    plus-stands S (tieBy (t .kind) (t .lower) (t .upper)) (c .before .if1 .taken) (sym (c .before .before .stands .ensures S code standing held fits) ∙ c .if2 .taken)
+
+closes-requires : tie.Need-closes-requires
+closes-requires c κs = search needs
+
+returns-2 : tie.Need-returns-2
+returns-2 c S code standing held fits =
+    let t = c .before .before .before .before .before .before .args .t in
+    plus-closes S (tieBy (t .kind) (t .lower) (t .upper)) (c .before .before .before .if1 .taken) (sym (c .before .before .before .before .stands .ensures S code standing held fits) ∙ c .before .before .if2 .left) (sym (c .before .closes .ensures S code standing held) ∙ c .if3 .taken)
+
+returns-3 : tie.Need-returns-3
+returns-3 c S code standing held fits =
+    let t = c .before .before .before .before .before .before .args .t in
+    plus-free S (tieBy (t .kind) (t .lower) (t .upper)) (c .before .before .before .if1 .taken) (sym (c .before .before .before .before .stands .ensures S code standing held fits) ∙ c .before .before .if2 .left) (sym (c .before .closes .ensures S code standing held) ∙ c .if3 .left)
+
+returns-4 : tie.Need-returns-4
+returns-4 c S code standing held fits =
+    let t = c .before .before .before .before .args .t in
+    minus-stands S (tieBy (t .kind) (t .lower) (t .upper)) (c .before .if1 .left) (sym (c .before .before .stands .ensures S code standing held fits) ∙ c .if4 .taken)
+
+returns-5 : tie.Need-returns-5
+returns-5 c S code standing held fits =
+    let t = c .before .before .before .before .args .t in
+    minus-gone S (tieBy (t .kind) (t .lower) (t .upper)) (c .before .if1 .left) (sym (c .before .before .stands .ensures S code standing held fits) ∙ c .if4 .left)
+
+pub judged-spec : {M : Type 1} → statement M
+judged-spec =
+    tie.close
+    (tie.spec stands-requires returns closes-requires returns-2 returns-3 returns-4 returns-5)

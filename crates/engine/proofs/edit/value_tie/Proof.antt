@@ -1,0 +1,31 @@
+-- `edit::value_tie` meets its contract. Assumes nothing.
+use borrow.Author.Tests.{not-true, not-false}
+use Rattle.engine.proofs.EditLines.{value-unread, value-read}
+use borrow.Author.Needs.{needs}
+use Rattle.engine.proofs.edit.value_tie.Statement.{statement}
+use Rattle.engine.proofs.edit.value_tie.Tie as tie
+
+value-fields-requires : tie.Need-value-fields-requires
+value-fields-requires c κs = search needs
+
+no-tie-requires : tie.Need-no-tie-requires
+no-tie-requires c κs = search needs
+
+returns : tie.Need-returns
+returns c =
+    let f = c .before .before .before .before .before .before .args .f .now in
+    let read = c .before .before .before .value-fields in
+    value-unread f (read .result) (read .ensures) (not-true _ (c .before .if1 .taken)) (c .no-tie .ensures)
+
+value-requires : tie.Need-value-requires
+value-requires c κs = search needs
+
+returns-2 : tie.Need-returns-2
+returns-2 c =
+    let f = c .before .before .before .before .before .before .before .before .before .args .f .now in
+    let read = c .before .before .before .before .before .before .value-fields in
+    value-read f (read .result) (read .ensures) (not-false _ (c .before .before .before .before .if1 .left)) (c .value .ensures)
+
+pub value-tie-spec : {M : Type 1} → statement M
+value-tie-spec =
+    tie.close (tie.spec value-fields-requires no-tie-requires returns value-requires returns-2)
