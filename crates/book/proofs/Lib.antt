@@ -1,4 +1,4 @@
--- Laws about the sections of a book, about what is found in them, about what they hold when a line declares more, and about its ties.
+-- Laws about the sections of a book, about what is found in them, about what they hold when a line declares more, about its ties, and about lines and files.
 pub mod Sections
 pub mod Finding
 pub mod Writes
@@ -17,3 +17,7 @@ pub mod TieEditing
 pub mod TieSorts
 pub mod TieNaming
 pub mod TieLines
+pub mod Rules
+pub mod LineReading
+pub mod Lines
+pub mod Files

@@ -1,6 +1,9 @@
 // The book: the words that hold a state's declarations and ties. Its sections lie one after another; specs/Sections.antt says what they are.
 pub mod declare;
+pub mod file;
 pub mod find;
+pub mod line;
+pub mod rule;
 pub mod tie;
 
 // Where sections begin; each ends where the next begins.

@@ -1,0 +1,21 @@
+-- `file::line_length` meets its contract: up to the first byte 10, or to the end. Assumes nothing.
+use native.Mathlib.Omega.{arith}
+use Rattle.book.proofs.Files.{line-ended, line-unended}
+use borrow.Author.Needs.{needs}
+use Rattle.book.proofs.file.line_length.Statement.{statement}
+use Rattle.book.proofs.file.line_length.Tie as tie
+
+index-of-requires : tie.Need-index-of-requires
+index-of-requires c κs = search needs
+
+add-result : tie.Need-add-result
+add-result c = search needs
+
+returns : tie.Need-returns
+returns c = line-ended (c .before .before .before .args .s .now) (c .before .index-of .result) (c .before .index-of .ensures) (omega (arith, c .if1 .taken))
+
+returns-2 : tie.Need-returns-2
+returns-2 c = line-unended (c .before .before .before .args .s .now) (c .before .index-of .result) (c .before .index-of .ensures) (omega (arith, c .if1 .left))
+
+pub line-length-spec : {M : Type 1} → statement M
+line-length-spec = tie.close (tie.spec index-of-requires add-result returns returns-2)

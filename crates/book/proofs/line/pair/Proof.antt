@@ -1,0 +1,31 @@
+-- `line::pair` meets its contract: an atom line. Assumes nothing.
+use mathlib.Core.Path.{refl}
+use borrow.Author.Tests.{not-true, not-false}
+use Rattle.fields.specs.declared.PairFields.{PairFields}
+use Rattle.book.proofs.LineReading.{unread, fields-unread, pair-read}
+use borrow.Author.Needs.{needs}
+use Rattle.book.proofs.line.pair.Statement.{statement}
+use Rattle.book.proofs.line.pair.Tie as tie
+
+pair-fields-requires : tie.Need-pair-fields-requires
+pair-fields-requires c κs = search needs
+
+returns : tie.Need-returns
+returns c code =
+    fields-unread _ _ _ _ _ (unread (λ (x : PairFields). x .ok) (c .before .before .pair-fields .ensures) (λ a. refl) (not-true _ (c .if1 .taken)))
+
+pair-requires : tie.Need-pair-requires
+pair-requires c κs = search needs
+
+same-length : tie.Need-same-length
+same-length c = search needs
+
+returns-2 : tie.Need-returns-2
+returns-2 c =
+    let start = c .before .before .before .before .before .before .before .before .before .before in
+    let read = c .before .before .before .before .before .before .before in
+    pair-read (start .args .book .now) (c .before .before .pair .last .0) (c .before .before .pair .result)
+    (start .args .f .now) (read .pair-fields .result) (read .pair-fields .ensures) (not-false _ (c .before .before .before .before .before .if1 .left)) (c .before .before .pair .ensures .1)
+
+pub pair-spec : {M : Type 1} → statement M
+pair-spec = tie.close (tie.spec pair-fields-requires returns pair-requires same-length returns-2)

@@ -1,0 +1,66 @@
+-- `line::read` meets its contract: 4, 5 and the step of the key, in their order. Assumes nothing.
+use Rattle.book.proofs.Lines.{line-unframed, line-early, line-fields, line-stepped}
+use borrow.Author.Needs.{needs}
+use Rattle.book.proofs.line.read.Statement.{statement}
+use Rattle.book.proofs.line.read.Tie as tie
+
+frame-requires : tie.Need-frame-requires
+frame-requires c κs = search needs
+
+returns : tie.Need-returns
+returns c =
+    let start = c .before .before .before .before .before in
+    let read = c .before .frame in
+    line-unframed (start .args .book .now) (start .args .code .now) (start .args .line .now) (start .args .previous) (read .result) (read .ensures)
+    (start .args .book .now) (start .args .code .now) 0 (c .if1 .taken)
+
+returns-2 : tie.Need-returns-2
+returns-2 c =
+    let start = c .before .before .before .before .before .before in
+    let read = c .before .before .frame in
+    line-early (start .args .book .now) (start .args .code .now) (start .args .line .now) (start .args .previous) (read .result) (read .ensures) (c .before .if1 .left)
+    (start .args .book .now) (start .args .code .now) (read .result .key) (c .if2 .taken)
+
+sub-step : tie.Need-sub-step
+sub-step c = search needs
+
+part-step-start : tie.Need-part-step-start
+part-step-start c = search needs
+
+part-step-end : tie.Need-part-step-end
+part-step-end c = search needs
+
+step-requires : tie.Need-step-requires
+step-requires c κs =
+    let start = c .before .before .before .before .before .before .before .before .before in
+    let read = c .before .before .before .before .before .frame in
+    (start .pre .0, start .pre .1, line-fields (start .args .book .now) (start .args .code .now) (start .args .line .now) (start .args .previous) (read .result) (read .ensures) (c .before .before .before .before .if1 .left))
+
+same-length : tie.Need-same-length
+same-length c = search needs
+
+same-length-2 : tie.Need-same-length-2
+same-length-2 c = search needs
+
+returns-3 : tie.Need-returns-3
+returns-3 c =
+    let start = c .before .before .before .before .before .before .before .before .before .before .before .before .before .before in
+    let read = c .before .before .before .before .before .before .before .before .before .before .frame in
+    let done = c .before .before .before .before .step in
+    line-stepped (start .args .book .now) (start .args .code .now) (start .args .line .now) (start .args .previous) (read .result) (read .ensures) (c .before .before .before .before .before .before .before .before .before .if1 .left)
+    (c .before .before .before .before .before .before .before .before .if2 .left) (done .last .0) (done .last .1 .0) (done .result) (done .ensures)
+
+pub read-spec : {M : Type 1} → statement M
+read-spec =
+    tie.close
+    (tie.spec
+    frame-requires
+    returns
+    returns-2
+    sub-step
+    part-step-start
+    part-step-end
+    step-requires
+    same-length
+    same-length-2
+    returns-3)
