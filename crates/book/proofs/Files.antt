@@ -247,5 +247,5 @@ pub file-read : (file : Bytes) (book book′ : List ℕ) (code code′ : Bytes) 
 unfolding load tooLong
 file-read file book book′ code code′ number line l w held others =
     let e : load file ≡ readOn empty none 1 (linesOf (take (length file - 9) (drop 9 file))) =
-        rw (le-ltb fileBytes (length file) l, w) (ap (readOn empty none 1) (other-lines file w ∙ ap linesOf (sym (tail-part 9 file)))) in
+    rw (le-ltb fileBytes (length file) l, w) (ap (readOn empty none 1) (other-lines file w ∙ ap linesOf (sym (tail-part 9 file)))) in
     subst (λ (a : Loaded). LoadedAs a book′ code′ number line) (sym e) (others held)

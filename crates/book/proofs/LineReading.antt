@@ -132,16 +132,17 @@ module _ (book : List ℕ) (number : ℕ) (t : Tie) where
 
   module _ (fine : number ≡ 0) (off : TieStands book t false) where
     pub tie-circle : TieCloses book t true → TieAdded book number t book 12
-    tie-circle closed l tie named code S standing held =
-        (sym (left fine l tie named code S standing held ∙ rw (sym (off S code standing held (fits fine l tie named code S standing held)), sym (closed S code standing held))),
-        λ z. absurd (omega arith))
+    tie-circle closed l tie named code S standing held = (
+      sym (left fine l tie named code S standing held ∙ rw (sym (off S code standing held (fits fine l tie named code S standing held)), sym (closed S code standing held))),
+      λ z. absurd (omega arith),
+    )
 
     pub tie-added : TieCloses book t false → (book′ : List ℕ) → TiePut t book book′ → TieAdded book number t book′ 0
     tie-added free book′ put l tie named code S standing held = (
       sym (left fine l tie named code S standing held ∙ rw (sym (off S code standing held (fits fine l tie named code S standing held)), sym (free S code standing held))),
       λ z.
-      subst (Holds book′ code) (sym (tie-after S l t tie (tie-is fine l tie named code S standing held)))
-      (put .holds S code standing held (fits fine l tie named code S standing held)),
+          subst (Holds book′ code) (sym (tie-after S l t tie (tie-is fine l tie named code S standing held)))
+          (put .holds S code standing held (fits fine l tie named code S standing held)),
     )
 
 -- ---- the fields of each form

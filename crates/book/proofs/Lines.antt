@@ -58,16 +58,16 @@ abbrev refusalOf : State → Option Key → Option (Key × Bytes) → ℕ
 refusalOf S p c =
     let l = c >>= λ (key, fields). readFields key fields in
     first (
-      4 if isNone c
-      ∷ 5 if (c is λ (key, fields). p is λ q. ltb (rank key) (rank q))
-      ∷ 6 if (c is λ (key, fields). isNone (readFields key fields))
-      ∷ 7 if (l is overLimits)
-      ∷ 8 if (l is undeclared (S .declared))
-      ∷ 9 if (l is wrongSort (S .declared))
-      ∷ 10 if (l is repeated S)
-      ∷ 11 if (l is full (S .declared))
-      ∷ 12 if (l is circular S)
-      ∷ [])
+    4 if isNone c
+    ∷ 5 if (c is λ (key, fields). p is λ q. ltb (rank key) (rank q))
+    ∷ 6 if (c is λ (key, fields). isNone (readFields key fields))
+    ∷ 7 if (l is overLimits)
+    ∷ 8 if (l is undeclared (S .declared))
+    ∷ 9 if (l is wrongSort (S .declared))
+    ∷ 10 if (l is repeated S)
+    ∷ 11 if (l is full (S .declared))
+    ∷ 12 if (l is circular S)
+    ∷ [])
 
 by-frame : (S : State) (p : Option Key) (line : Bytes) (c : Option (Key × Bytes)) → framed line ≡ c → lineRefusal S p line ≡ refusalOf S p c
 unfolding lineRefusal unframed outOfOrder malformed readLine

@@ -347,9 +347,9 @@ module _ (f : Bytes) (r : RuleFields) (told : RuleTold f r) (ok : r .ok ≡ true
       let known = rule-operation policy operation k e in (
         number,
         λ z.
-        subst (λ (y : Option Line). Holds book′ code′ (stepped S y)) (sym read)
-        (subst (λ (w : List ℕ). Holds w code′ (after (rule o ts) S)) (sym written)
-        (rule-held book code code′ S o ts k operation held size (counted S held) few
-        (number-is operationLimit (operationNumber (S .declared) o) operation (named S standing held o ts words read) (λ w. omega arith)) (judge .before)
-        (judge .here few (S .declared) (standing .declarations) (held .attributes) ts spelled))),
+            subst (λ (y : Option Line). Holds book′ code′ (stepped S y)) (sym read)
+            (subst (λ (w : List ℕ). Holds w code′ (after (rule o ts) S)) (sym written)
+            (rule-held book code code′ S o ts k operation held size (counted S held) few
+            (number-is operationLimit (operationNumber (S .declared) o) operation (named S standing held o ts words read) (λ w. omega arith)) (judge .before)
+            (judge .here few (S .declared) (standing .declarations) (held .attributes) ts spelled))),
       )

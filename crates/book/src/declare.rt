@@ -209,7 +209,7 @@ pub fn holder(book: &mut [u64], key: u8, low: u64, high: u64) -> u8
 }
 
 // Words that are all 0.
-fn zero(words: &mut [u64])
+pub fn zero(words: &mut [u64])
     ensures { λ _. ⌜ (length (now (words .exit)) ≡ length (now (words .entry))) × ((i : ℕ) → getD (now (words .exit)) i 0 ≡ 0) ⌝ }
 {
     for i in 0..words.len() {

@@ -9,13 +9,13 @@ ghost use Rattle.codes.specs.Codes.{keyCode};
 ghost use Rattle.book.specs.Sections.{bookWords, ruleBytes};
 ghost use Rattle.book.specs.TieSteps.{tieBy};
 ghost use Rattle.book.specs.Reading.{KeyRead, TieAdded, TwoRead, HolderRead, KeyFields, FieldsOf, LineRead};
+use crate::tie::Tie;
 use codes::KEY_ATOM;
 use codes::KEY_ATTR;
 use codes::KEY_OP;
 use codes::KEY_PARENT;
 use codes::KEY_RULE;
 use codes::KEY_VALUE;
-use crate::tie::Tie;
 use text::Value;
 
 // What a line is refused for, 0 for nothing, and the code of its key.
@@ -70,7 +70,10 @@ fn value(book: &mut [u64], f: &[u8]) -> u8
     let holder = parts.holder;
     let name = parts.name;
     let words = parts.words;
-    let atom = Value { kind: parts.kind, words };
+    let atom = Value {
+        kind: parts.kind,
+        words,
+    };
     let t = crate::tie::value(book, holder, name, atom);
     add(book, t)
 }
@@ -109,7 +112,10 @@ fn pair(book: &mut [u64], f: &[u8]) -> u8
         return 6;
     }
     let words = parts.words;
-    let atom = Value { kind: parts.kind, words };
+    let atom = Value {
+        kind: parts.kind,
+        words,
+    };
     crate::declare::pair(book, parts.source, parts.low, parts.high, atom)
 }
 

@@ -15,8 +15,11 @@ use crate::find::OPERATIONS;
 
 // How many rules there can be, how many bytes of code each has, and where their words stand.
 const RULES: usize = 32;
+
 const CODE: usize = 768;
+
 const RULES_AT: usize = 5208;
+
 const RULE_COUNT: usize = 5;
 
 fn wide(count: u64) -> usize
@@ -82,7 +85,11 @@ pub fn rule(book: &mut [u64], code: &mut [u8], f: &[u8]) -> u8
     let start = parts.start;
     let k = wide(book[RULE_COUNT]);
     let policy = judge(&f[start..], &book[ATTRIBUTES_AT..OPERATIONS_AT], code, k);
-    let operation = crate::find::operation_number(&book[OPERATIONS_AT..PAIRS_AT], parts.low, parts.high);
+    let operation = crate::find::operation_number(
+        &book[OPERATIONS_AT..PAIRS_AT],
+        parts.low,
+        parts.high,
+    );
     let number = refusal(policy, operation, k);
     if number != 0 {
         return number;

@@ -4,7 +4,6 @@ use mathlib.Core.Path.{_≡_, refl, sym, ap, ap₂, subst, _∙_}
 use mathlib.Core.Bool.{Bool, true, false, not}
 use mathlib.Core.List.{List}
 use mathlib.Core.Option.{Option, some}
-use lib.Dec.{eqb}
 use lib.ListN.{length}
 use borrow.Author.Tests.{eq-eqb, ne-eqb}
 use Rattle.model.specs.Notation.{if_then_else_}
@@ -19,7 +18,7 @@ use Rattle.model.specs.Edits.{editedTie, adds, editedTies, changes, accepting, 
 use Rattle.model.specs.Ledger.{Call, Answer, edited, step, withTable, withoutTable, tableAfter, Outcome, outcome}
 use Rattle.model.specs.Standing.{Standing}
 use Rattle.book.specs.Held.{Holds}
-use Rattle.engine.specs.Calls.{Gives, Together, Edits}
+use Rattle.engine.specs.Calls.{Gives, Edits}
 use Rattle.engine.specs.EditSteps.{LineTie, TieJudged, Applied, Untouched, EditCall}
 use Rattle.engine.proofs.EditRefusals.{SignedLine, tie-fitting, tie-refusal, edited-tie, adds-is}
 
@@ -99,7 +98,8 @@ module _ (line : Bytes) (book words : List ℕ) (number count : ℕ) where
   }
 
 -- "The answer is 0 and the number of holders whose stored set changed"
-pub accepted-call : (edit : Bytes) (book words words′ book′ : List ℕ) (count : ℕ) → length words ≡ tableWords → length words′ ≡ length words → length book′ ≡ length book
+pub accepted-call : (edit : Bytes) (book words words′ book′ : List ℕ) (count : ℕ)
+    → length words ≡ tableWords → length words′ ≡ length words → length book′ ≡ length book
     → (plus : Bool) (line : Bytes) → SignedLine edit plus line → (n : ℕ) (t : Tie) → LineTie book line n t → n ≡ 0 → (r : ℕ) → TieJudged book plus t r → r ≡ 0
     → Applied plus t book book′ words words′ count → EditCall edit book words 0 count words′ book′
 accepted-call edit book words words′ book′ count size long book-long′ plus line signed n t told z r judged y applied = record {
@@ -107,7 +107,8 @@ accepted-call edit book words words′ book′ count size long book-long′ plus
       let read = told S code (together .standing) (together .holds) in
       let fits = tie-fitting S edit plus line signed n t read z in
       let passed = sym y ∙ judged S code (together .standing) (together .holds) fits in
-      let is-accepted = accepts S words edit (tie-refusal S edit plus line signed n t read z ∙ sym passed) (adds-is S edit plus line signed) (edited-tie S edit plus line signed n t read z) in
+      let zero′ = tie-refusal S edit plus line signed n t read z ∙ sym passed in
+      let is-accepted = accepts S words edit zero′ (adds-is S edit plus line signed) (edited-tie S edit plus line signed n t read z) in
       let done = applied S code (together .standing) (together .holds) (kept-table S words edit size (together .kept)) fits passed in
       subst (λ (o : Outcome). Gives o (Answer.edited 0 count) words′ book′ code) (sym (on-table S words edit size is-accepted))
       (record { answered = ap (Answer.edited 0) (sym (done .counted)); table = sym (done .table-is); holds = done .holds });

@@ -10,13 +10,12 @@ use borrow.Author.Tests.{eq-eqb, ne-eqb}
 use Rattle.model.specs.Notation.{_>>=_, _is_, isNone}
 use Rattle.model.specs.Bytes.{Bytes}
 use Rattle.model.specs.Names.{isName}
-use Rattle.model.specs.Atoms.{Atom, isAtom}
+use Rattle.model.specs.Atoms.{isAtom}
 use Rattle.model.specs.Keys.{Key, isTieKey}
-use Rattle.model.specs.Lines.{Line, framed, readTwo, readValue, readFields, readLine}
+use Rattle.model.specs.Lines.{Line, framed, readFields, readLine}
 use Rattle.model.specs.Ties.{Tie}
 use Rattle.model.specs.State.{State, tieOf}
 use Rattle.model.specs.Refusals.{Test, _if_, first, unframed, otherKey, malformed, undeclared, wrongSort}
-use Rattle.model.specs.Standing.{Standing}
 use Rattle.model.proofs.Words.{false-is-true}
 use Rattle.model.proofs.Options.{parts}
 use Rattle.model.proofs.Lines.{fields-said}
@@ -29,9 +28,8 @@ use Rattle.fields.specs.declared.ValueFields.{ValueFields}
 use Rattle.fields.specs.Told.{numbersOr, Told}
 use Rattle.fields.specs.Forms.{TwoTold, ValueTold}
 use Rattle.fields.specs.Frames.{part, FrameTold}
-use Rattle.book.specs.Held.{Holds}
 use Rattle.book.specs.TieSteps.{TieOfLine, TwoNamed, ValueNamed}
-use Rattle.engine.specs.EditSteps.{ReadTie, BookTie, fieldTests, FieldsTie, TwoFieldsTie, KeyTie, lineTests, LineTie}
+use Rattle.engine.specs.EditSteps.{BookTie, fieldTests, FieldsTie, TwoFieldsTie, KeyTie, LineTie}
 
 -- what a reader told, by a test that its numbers pass and those of nothing do not
 module _ {A L R : Type 0} {nothing : R} {numbers : A → R} {line : A → Option L} {o : Option L} {r : R} (told : Told nothing numbers line o r) (ok : R → Bool) where
@@ -135,7 +133,9 @@ module _ {book : List ℕ} {n : ℕ} {t : Tie} where
   pub no-frame : (line : Bytes) (r : Framed) → FrameTold line r → r .key ≡ 0 → n ≡ 4 → LineTie book line n t
   unfolding unframed
   no-frame line r told none′ z S code standing held = record {
-    refusal = z ∙ sym (ap (λ (o : Option (Key × Bytes)). first (4 if isNone o ∷ behind line S)) (told-none (told .frame) has-key (λ (k, start, end). ap not (ne-eqb (keyCode k) 0 (λ e. omega arith))) (ap not (eq-eqb (r .key) 0 none′))));
+    refusal =
+        let gone = told-none (told .frame) has-key (λ (k, start, end). ap not (ne-eqb (keyCode k) 0 (λ e. omega arith))) (ap not (eq-eqb (r .key) 0 none′)) in
+        z ∙ sym (ap (λ (o : Option (Key × Bytes)). first (4 if isNone o ∷ behind line S)) gone);
     tie = λ w. absurd (omega (arith, z, w));
   }
 

@@ -1,9 +1,9 @@
 -- An edit's refusal: that of the line behind the sign, or else that of its tie. Assumes nothing.
 use Prim.Native.Nat.{ℕ, zero, suc, _-_, _≤_}
 use mathlib.Core.Path.{_≡_, refl, sym, ap, ap₂, _∙_}
-use mathlib.Core.Bool.{Bool, true, false, _&&_, _||_, not}
+use mathlib.Core.Bool.{Bool, true, false, _||_, not}
 use mathlib.Core.List.{List, [], _∷_, _++_}
-use mathlib.Core.Option.{Option, none, some}
+use mathlib.Core.Option.{Option, some}
 use native.Mathlib.Omega.{arith}
 use lib.Dec.{eqb, ltb}
 use lib.ListN.{length, take, drop}
@@ -19,7 +19,7 @@ use Rattle.model.specs.Edits.{editedTie, adds}
 use Rattle.model.specs.Standing.{Standing, TieFits}
 use Rattle.model.proofs.Words.{none-is-some}
 use Rattle.model.proofs.Options.{parts, bind-some, some-not}
-use Rattle.model.proofs.Tests.{allNumbered, NoneHolds, none-holds}
+use Rattle.model.proofs.Tests.{allNumbered, none-holds}
 use Rattle.model.proofs.Standing.{tie-fits}
 use Rattle.text.proofs.Places.{tail-part}
 use Rattle.fields.specs.Frames.{Signed}

@@ -10,7 +10,6 @@ use borrow.Author.Tests.{not-false}
 use Rattle.model.specs.Notation.{if_then_else_}
 use Rattle.model.specs.Ties.{Tie, Ties, edited}
 use Rattle.model.specs.State.{State}
-use Rattle.model.specs.Refusals.{first}
 use Rattle.model.specs.Edits.{editedTies}
 use Rattle.model.specs.Standing.{Standing, TieFits, DifferAt}
 use Rattle.model.proofs.Tests.{NoneHolds, none-holds}

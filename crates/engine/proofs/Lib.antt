@@ -11,6 +11,8 @@ pub mod EditTies
 pub mod EditTables
 pub mod EditRefusals
 pub mod EditCalls
+-- Laws about loads.
+pub mod LoadCalls
 -- The calls put together: lists of calls and the ledger.
 pub mod Runs
 pub mod EditsInRuns

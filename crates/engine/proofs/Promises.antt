@@ -15,9 +15,10 @@ use Rattle.model.specs.Refusals.{wrongTable}
 use Rattle.model.specs.Ledger.{Call, Step, step, withTable, withoutTable, tableAfter}
 use Rattle.engine.specs.declared.Decision.{Decision}
 use Rattle.engine.specs.Decisions.{decisionOf, Decides}
-use Rattle.engine.specs.Calls.{Together}
-use Rattle.engine.specs.Runs.{Lent, Does, decides, AnswersRequest}
-use Rattle.model.specs.Ledger.{decided}
+use Rattle.engine.specs.Calls.{Together, Loads}
+use Rattle.engine.specs.EditSteps.{EditCall}
+use Rattle.engine.specs.Runs.{Lent, Does, loads, edits, decides, AnswersRequest}
+use Rattle.model.specs.Ledger.{loaded, edited, decided}
 
 -- a table that is not refused has 1,024 words, and one that is has not
 right-length : (n : ℕ) → wrongTable n ≡ true → n ≡ tableWords → ⊥
@@ -33,3 +34,18 @@ request-answered {block} {code} {book} {words} {r} promise S together = go (wron
         → (if b then withoutTable S (Call.request block) else withTable S (Call.request block)) .answer ≡ decided (decisionOf r)
     go true e k = ap decided (sym (promise .other-table (right-length (length words) e)))
     go false e k = ap decided (sym (promise .decision S (together .standing) (together .holds) (sym k)))
+
+-- `load`: its contract is what a run asks
+pub file-loaded : {file : Bytes} {number line : ℕ} (before after : Lent) → Loads file (before .words) number line (after .words) (after .book) (after .code)
+    → Does (Call.load file) before (loaded number line) after
+file-loaded before after promise = loads promise
+
+-- `edit`, which is lent no rules
+pub line-edited : {line : Bytes} {number count : ℕ} (before after : Lent) → EditCall line (before .book) (before .words) number count (after .words) (after .book)
+    → after .code ≡ before .code → Does (Call.edit line) before (edited number count) after
+line-edited before after promise same = edits (promise .edits) same
+
+-- `decide`, which writes nothing
+pub request-decided : {block : Bytes} {r : Decision} (lent : Lent) → Decides block (lent .book) (lent .code) (lent .words) r
+    → Does (Call.request block) lent (decided (decisionOf r)) lent
+request-decided lent promise = decides (request-answered promise)

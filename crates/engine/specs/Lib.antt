@@ -2,4 +2,5 @@ pub mod Requests
 pub mod Decisions
 pub mod Calls
 pub mod EditSteps
+pub mod LoadSteps
 pub mod Runs

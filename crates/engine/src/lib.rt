@@ -16,6 +16,7 @@ use codes::KEY_USER;
 use truth::Truth;
 
 pub mod edit;
+pub mod load;
 
 // "decision enum: Permit with rule number, Deny, Undefined, Refused with number."
 pub enum Decision {

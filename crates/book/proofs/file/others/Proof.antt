@@ -120,8 +120,8 @@ loop-again c =
       within .1,
       omega (arith, within .0, turn .loop .inv .3),
       λ empty-held.
-      turn-next (readOn empty none 1 (linesOf rest)) (turn .loop .book) (turn .loop .code) (turn .loop .previous) (turn .loop .n) (turn .loop .at) (said .result) rest (said .ensures) (omega (arith, c .before .before .before .before .before .before .before .before .before .before .before .before .loop-test .taken))
-      (turn .loop .inv .4 empty-held) (done .last .0) (done .last .1 .0) (done .result .number) (done .result .key) (turn .loop .n + 1) (done .ensures) refl (c .if1 .left),
+          turn-next (readOn empty none 1 (linesOf rest)) (turn .loop .book) (turn .loop .code) (turn .loop .previous) (turn .loop .n) (turn .loop .at) (said .result) rest (said .ensures) (omega (arith, c .before .before .before .before .before .before .before .before .before .before .before .before .loop-test .taken))
+          (turn .loop .inv .4 empty-held) (done .last .0) (done .last .1 .0) (done .result .number) (done .result .key) (turn .loop .n + 1) (done .ensures) refl (c .if1 .left),
     )
 
 same-length-3 : tie.Need-same-length-3 Inv-loop μ-loop

@@ -22,7 +22,7 @@ returns c =
     let told = c .before .before .two-fields .ensures in
     let off = not-true _ (c .if1 .taken) in
     let none-of : (line : Bytes → Bytes → Line) → KeyRead (start .args .book .now) (readTwo line (start .args .f .now)) (start .args .book .now) 6 =
-        λ line code. fields-unread _ _ _ _ _ (unread (λ (x : TwoFields). x .ok) (told line) (λ a. refl) off) in
+    λ line code. fields-unread _ _ _ _ _ (unread (λ (x : TwoFields). x .ok) (told line) (λ a. refl) off) in
     (λ e. none-of parent, λ e. none-of member)
 
 two-requires : tie.Need-two-requires

@@ -31,9 +31,10 @@ returns-2 c =
     let line = start .args .line .now in
     let book = start .args .book .now in
     let table = start .args .table .now in
+    let long = c .before .before .before .if1 .left in
     let sign = c .before .before .sign in
     let r = c .refused2 in
-    refused-call line book table (r .result .number) (r .result .count) (c .before .before .before .if1 .left) (λ z. omega (arith, z, r .ensures .0)) (r .ensures .1)
+    refused-call line book table (r .result .number) (r .result .count) long (λ z. omega (arith, z, r .ensures .0)) (r .ensures .1)
     (λ S code standing held. unsigned S line (sign .result) (sign .ensures) (c .before .if2 .taken) ∙ sym (r .ensures .0))
 
 sub-tie-of-line : tie.Need-sub-tie-of-line
@@ -57,14 +58,18 @@ returns-3 c =
     let line = start .args .line .now in
     let book = start .args .book .now in
     let table = start .args .table .now in
+    let long = c .before .before .before .before .before .before .before .before .before .if1 .left in
     let sign = c .before .before .before .before .before .before .before .before .sign in
-    let signed = signed-line line (sign .result) (sign .ensures) (c .before .before .before .before .before .before .before .if2 .left) in
+    let plus = eqb (sign .result) 1 in
+    let there = c .before .before .before .before .before .before .before .if2 .left in
+    let signed = signed-line line (sign .result) (sign .ensures) there in
     let told = c .before .before .before .tie-of-line in
     let t = tieBy (told .result .kind) (told .result .lower) (told .result .upper) in
     let r = c .refused3 in
-    refused-call line book table (r .result .number) (r .result .count) (c .before .before .before .before .before .before .before .before .before .if1 .left) (λ z. c .before .if3 .taken (sym (r .ensures .0) ∙ z)) (r .ensures .1)
+    let some-number = c .before .if3 .taken in
+    refused-call line book table (r .result .number) (r .result .count) long (λ z. some-number (sym (r .ensures .0) ∙ z)) (r .ensures .1)
     (λ S code standing held.
-    line-refused S line (eqb (sign .result) 1) (lineOf line) signed (told .result .number) t (told .ensures S code standing held) (c .before .if3 .taken) ∙ sym (r .ensures .0))
+    line-refused S line plus (lineOf line) signed (told .result .number) t (told .ensures S code standing held) some-number ∙ sym (r .ensures .0))
 
 judged-requires : tie.Need-judged-requires
 judged-requires c κs = search needs
@@ -78,17 +83,21 @@ returns-4 c =
     let line = start .args .line .now in
     let book = start .args .book .now in
     let table = start .args .table .now in
+    let long = c .before .before .before .before .before .before .before .before .before .before .before .if1 .left in
     let sign = c .before .before .before .before .before .before .before .before .before .before .sign in
-    let signed = signed-line line (sign .result) (sign .ensures) (c .before .before .before .before .before .before .before .before .before .if2 .left) in
+    let plus = eqb (sign .result) 1 in
+    let there = c .before .before .before .before .before .before .before .before .before .if2 .left in
+    let signed = signed-line line (sign .result) (sign .ensures) there in
     let told = c .before .before .before .before .before .tie-of-line in
     let t = tieBy (told .result .kind) (told .result .lower) (told .result .upper) in
     let found = c .before .before .judged in
     let r = c .refused4 in
-    refused-call line book table (r .result .number) (r .result .count) (c .before .before .before .before .before .before .before .before .before .before .before .if1 .left) (λ z. c .before .if4 .taken (sym (r .ensures .0) ∙ z)) (r .ensures .1)
+    let zero = c .before .before .before .if3 .left in
+    refused-call line book table (r .result .number) (r .result .count) long (λ z. c .before .if4 .taken (sym (r .ensures .0) ∙ z)) (r .ensures .1)
     (λ S code standing held.
     let read = told .ensures S code standing held in
-    let fits = tie-fitting S line (eqb (sign .result) 1) (lineOf line) signed (told .result .number) t read (c .before .before .before .if3 .left) in
-    tie-refusal S line (eqb (sign .result) 1) (lineOf line) signed (told .result .number) t read (c .before .before .before .if3 .left) ∙ sym (found .ensures S code standing held fits) ∙ sym (r .ensures .0))
+    let fits = tie-fitting S line plus (lineOf line) signed (told .result .number) t read zero in
+    tie-refusal S line plus (lineOf line) signed (told .result .number) t read zero ∙ sym (found .ensures S code standing held fits) ∙ sym (r .ensures .0))
 
 apply-requires : tie.Need-apply-requires
 apply-requires c κs = search needs
@@ -102,14 +111,19 @@ returns-5 c =
     let line = start .args .line .now in
     let book = start .args .book .now in
     let table = start .args .table .now in
+    let long = c .before .before .before .before .before .before .before .before .before .before .before .before .before .before .before .if1 .left in
     let sign = c .before .before .before .before .before .before .before .before .before .before .before .before .before .before .sign in
-    let signed = signed-line line (sign .result) (sign .ensures) (c .before .before .before .before .before .before .before .before .before .before .before .before .before .if2 .left) in
+    let plus = eqb (sign .result) 1 in
+    let there = c .before .before .before .before .before .before .before .before .before .before .before .before .before .if2 .left in
+    let signed = signed-line line (sign .result) (sign .ensures) there in
     let told = c .before .before .before .before .before .before .before .before .before .tie-of-line in
     let t = tieBy (told .result .kind) (told .result .lower) (told .result .upper) in
     let found = c .before .before .before .before .before .before .judged in
     let done = c .before .before .apply in
-    accepted-call line book table (done .last .1 .0) (done .last .0) (done .result) (c .before .before .before .before .before .before .before .before .before .before .before .before .before .before .before .if1 .left) (done .kept .1 .0) (done .kept .0)
-    (eqb (sign .result) 1) (lineOf line) signed (told .result .number) t (told .ensures) (c .before .before .before .before .before .before .before .if3 .left) (found .result) (found .ensures) (c .before .before .before .before .before .if4 .left) (done .ensures)
+    let zero = c .before .before .before .before .before .before .before .if3 .left in
+    let none-found = c .before .before .before .before .before .if4 .left in
+    accepted-call line book table (done .last .1 .0) (done .last .0) (done .result) long (done .kept .1 .0) (done .kept .0)
+    plus (lineOf line) signed (told .result .number) t (told .ensures) zero (found .result) (found .ensures) none-found (done .ensures)
 
 pub edit-spec : {M : Type 1} → statement M
 edit-spec =

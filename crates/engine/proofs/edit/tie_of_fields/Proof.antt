@@ -16,19 +16,27 @@ two-tie-requires : tie.Need-two-tie-requires
 two-tie-requires c κs = search needs
 
 returns-2 : tie.Need-returns-2
-returns-2 c = tie-key Key.parent refl (c .before .before .before .before .before .args .f .now) (c .before .if2 .taken) (c .two-tie .ensures .0 (c .before .if2 .taken))
+returns-2 c =
+    let f = c .before .before .before .before .before .args .f .now in
+    let key = c .before .if2 .taken in
+    tie-key Key.parent refl f key (c .two-tie .ensures .0 key)
 
 two-tie-requires-2 : tie.Need-two-tie-requires-2
 two-tie-requires-2 c κs = search needs
 
 returns-3 : tie.Need-returns-3
-returns-3 c = tie-key Key.member refl (c .before .before .before .before .before .before .args .f .now) (c .before .if3 .taken) (c .two-tie2 .ensures .1 (c .before .if3 .taken))
+returns-3 c =
+    let f = c .before .before .before .before .before .before .args .f .now in
+    let key = c .before .if3 .taken in
+    tie-key Key.member refl f key (c .two-tie2 .ensures .1 key)
 
 no-tie-requires : tie.Need-no-tie-requires
 no-tie-requires c κs = search needs
 
 returns-4 : tie.Need-returns-4
-returns-4 c = other-key (c .before .before .before .before .before .before .args .f .now) (c .before .before .if2 .left) (c .before .if3 .left) (c .before .before .before .if1 .left) (c .no-tie .ensures)
+returns-4 c =
+    let f = c .before .before .before .before .before .before .args .f .now in
+    other-key f (c .before .before .if2 .left) (c .before .if3 .left) (c .before .before .before .if1 .left) (c .no-tie .ensures)
 
 pub tie-of-fields-spec : {M : Type 1} → statement M
 tie-of-fields-spec =

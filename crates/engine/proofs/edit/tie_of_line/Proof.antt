@@ -29,8 +29,9 @@ tie-of-fields-requires c κs = search needs
 
 returns-2 : tie.Need-returns-2
 returns-2 c =
+    let line = c .before .before .before .before .before .before .before .args .line .now in
     let read = c .before .before .before .before .frame in
-    in-frame (c .before .before .before .before .before .before .before .args .line .now) (read .result) (read .ensures) (c .before .before .if1 .left) (c .tie-of-fields .ensures)
+    in-frame line (read .result) (read .ensures) (c .before .before .if1 .left) (c .tie-of-fields .ensures)
 
 pub tie-of-line-spec : {M : Type 1} → statement M
 tie-of-line-spec =

@@ -1,0 +1,80 @@
+-- The ways out of a load: a table of another length, a refused file, an accepted one. Assumes nothing.
+use Prim.Native.Nat.{ℕ}
+use mathlib.Core.Path.{_≡_, refl, sym, ap, ap₂, subst, _∙_}
+use mathlib.Core.Bool.{Bool, true, false, not, true≢false}
+use mathlib.Core.List.{List}
+use native.Mathlib.Omega.{arith}
+use lib.ListN.{length, getD, replicate, length-replicate, getD-replicate}
+use lib.Dec.{eqb}
+use lib.Seq.{ext-getD}
+use borrow.Author.Tests.{eq-eqb, ne-eqb}
+use Rattle.model.specs.Notation.{if_then_else_}
+use Rattle.model.specs.Limits.{tableWords, holderNumbers}
+use Rattle.model.specs.Bytes.{Bytes}
+use Rattle.model.specs.Table.{table}
+use Rattle.model.specs.State.{State, empty}
+use Rattle.model.specs.Refusals.{wrongTable}
+use Rattle.model.specs.Load as model
+use Rattle.model.specs.Ledger.{Call, loaded, step, withTable, withoutTable, tableAfter, Outcome, outcome}
+use Rattle.model.proofs.Table.{empty-table}
+use Rattle.model.proofs.Loads.{load-refused, refused-load}
+use Rattle.model.proofs.Ledger.{load-standing}
+use Rattle.book.specs.Sections as section
+use Rattle.book.specs.Sections.{part, bookWords}
+use Rattle.book.specs.Held.{Holds}
+use Rattle.book.specs.Reading.{LoadedAs}
+use Rattle.book.proofs.TieSections.{part-size}
+use Rattle.engine.specs.Calls.{Gives, Loads}
+use Rattle.engine.specs.LoadSteps.{TableFilled}
+
+module _ (file : Bytes) (words : List ℕ) where
+  -- the outcome by whether the table is wrong
+  outcomeBy : Bool → Outcome
+  outcomeBy b =
+      let s = if b then withoutTable empty (Call.load file) else withTable empty (Call.load file) in
+      record { answer = s .answer; words = if b then words else table (s .state .declared) (s .state .ties); state = s .state }
+
+  by-table : (b : Bool) → wrongTable (length words) ≡ b → outcomeBy b ≡ outcome empty words (Call.load file)
+  unfolding step tableAfter outcomeBy
+  by-table b e = ap outcomeBy (sym e)
+
+  wrong-is : (length words ≡ tableWords → ⊥) → wrongTable (length words) ≡ true
+  unfolding wrongTable
+  wrong-is n = ap not (ne-eqb (length words) tableWords n)
+
+  right-is : length words ≡ tableWords → wrongTable (length words) ≡ false
+  unfolding wrongTable
+  right-is long = ap not (eq-eqb (length words) tableWords long)
+
+  pub without-table : {book : List ℕ} {code : Bytes} → (length words ≡ tableWords → ⊥) → Holds book code empty → Loads file words 1 0 words book code
+  unfolding outcomeBy
+  without-table {book} {code} n held =
+      subst (λ (o : Outcome). Gives o (loaded 1 0) words book code) (by-table true (wrong-is n)) (record { answered = refl; table = refl; holds = held })
+
+  module _ (long : length words ≡ tableWords) {book : List ℕ} {code : Bytes} (number line : ℕ) (words′ : List ℕ) where
+    by-load : number ≡ model.load file .number → line ≡ model.load file .line → table (model.load file .state .declared) (model.load file .state .ties) ≡ words′
+        → Holds book code (model.load file .state) → Loads file words number line words′ book code
+    unfolding outcomeBy
+    by-load n l t held =
+        subst (λ (o : Outcome). Gives o (loaded number line) words′ book code) (by-table false (right-is long))
+        (record { answered = ap₂ loaded (sym n) (sym l); table = t; holds = held })
+
+    -- "Book empty, table all 0"
+    pub refused-file : number ≡ model.load file .number → line ≡ model.load file .line → (number ≡ 0 → ⊥)
+        → length words′ ≡ length words → ((i : ℕ) → getD words′ i 0 ≡ 0) → Holds book code empty → Loads file words number line words′ book code
+    refused-file n l off same zero held =
+        let nothing : model.load file .state ≡ empty =
+        ap (λ (r : model.Loaded). r .state) (refused-load file (load-refused file (λ z. off (n ∙ z)))) in
+        by-load n l
+        (ap (λ (S : State). table (S .declared) (S .ties)) nothing ∙ empty-table ∙ zeros) (subst (Holds book code) (sym nothing) held)
+      where
+        zeros : replicate {A = ℕ} tableWords 0 ≡ words′
+        zeros =
+            ext-getD 0 (replicate {A = ℕ} tableWords 0) words′ (length-replicate {A = ℕ} tableWords 0 ∙ sym (same ∙ long))
+            (λ i h. getD-replicate {A = ℕ} tableWords i 0 0 (omega (arith, h, length-replicate {A = ℕ} tableWords 0)) ∙ sym (zero i))
+
+    pub accepted-file : LoadedAs (model.load file) book code number line → number ≡ 0 → length book ≡ bookWords → TableFilled book words′ → Loads file words number line words′ book code
+    accepted-file answer z size filled =
+        let held = answer .holds z in
+        by-load (answer .number-is) (answer .line-is)
+        (sym (filled .whole (model.load file .state .declared) (model.load file .state .ties) (load-standing file) (held .ties) (part-size section.ups book size (omega arith)))) held

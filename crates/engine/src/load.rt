@@ -1,0 +1,60 @@
+// A load: a file read into the book, and the table of its state.
+ghost use mathlib.Core.Path.{_≡_};
+ghost use lib.ListN.{length};
+ghost use Rattle.model.specs.Limits.{tableWords};
+ghost use Rattle.model.specs.State.{empty};
+ghost use Rattle.book.specs.Sections.{bookWords, ruleBytes};
+ghost use Rattle.book.specs.Held.{Holds};
+ghost use Rattle.engine.specs.Calls.{Loads};
+ghost use Rattle.engine.specs.LoadSteps.{TableFilled};
+use book::OWN_AT;
+use book::RULES_AT;
+use book::SLOTS_AT;
+use book::UPS_AT;
+use book::file::Loaded;
+
+const TABLE_WORDS: usize = 1024;
+
+// Fills the table from the book's ties.
+fn fill(words: &[u64], table: &mut [u64])
+    requires { ⌜ (length (now words) ≡ bookWords) × (length (now table) ≡ tableWords) ⌝ }
+    ensures { λ _. ⌜ TableFilled (now (words .entry)) (now (table .exit)) ⌝ }
+{
+    sets::fill(
+        table,
+        &words[OWN_AT..RULES_AT],
+        &words[UPS_AT..OWN_AT],
+        &words[SLOTS_AT..UPS_AT],
+    );
+}
+
+// Empties the book; the bytes of rules may stay, since none is counted.
+fn empty(words: &mut [u64], code: &[u8])
+    requires { ⌜ (length (now words) ≡ bookWords) × (length (now code) ≡ ruleBytes) ⌝ }
+    ensures { λ _. ⌜ Holds (now (words .exit)) (now (code .entry)) empty ⌝ }
+{
+    book::declare::clear(words);
+}
+
+// Loads a file. "Book empty, table all 0" after a refusal; on a table of another length the book is emptied, and the table keeps its words.
+pub fn load(
+    file: &[u8],
+    book: &mut [u64; 5240],
+    rules: &mut [u8; 24576],
+    table: &mut [u64],
+) -> Loaded
+    ensures { λ r. ⌜ Loads (now (file .entry)) (now (table .entry)) (r .number) (r .line) (now (table .exit)) (now (book .exit)) (now (rules .exit)) ⌝ }
+{
+    if table.len() != TABLE_WORDS {
+        empty(book, rules);
+        return Loaded { number: 1, line: 0 };
+    }
+    let answer = book::file::read(book, rules, file);
+    if answer.number != 0 {
+        empty(book, rules);
+        book::declare::zero(table);
+        return answer;
+    }
+    fill(book, table);
+    answer
+}
