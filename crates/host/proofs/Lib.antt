@@ -1,0 +1,3 @@
+-- Laws about the calls for hosts.
+pub mod Packing
+pub mod Passes

@@ -1,0 +1,20 @@
+-- What holds of a number and of what it carries holds of the parts of the one number that has both. Assumes nothing.
+use Prim.Native.Nat.{ℕ, _/_, _%_}
+use mathlib.Core.Path.{_≡_, sym, subst}
+use mathlib.Core.List.{List}
+use Rattle.model.specs.Bytes.{Bytes}
+use Rattle.model.specs.Ledger.{Outcome, loaded}
+use Rattle.engine.specs.Calls.{Gives}
+use Rattle.engine.specs.EditSteps.{EditCall}
+use Rattle.host.specs.Answers.{high, Packs}
+
+unpacked : (P : ℕ → ℕ → Type 0) {number carried r : ℕ} → Packs number carried r → P number carried → P (r % high) (r / high)
+unpacked P {number} {carried} {r} packs p = subst (λ (n : ℕ). P n (r / high)) (sym (packs .low-bits)) (subst (λ (c : ℕ). P number c) (sym (packs .high-bits)) p)
+
+pub load-unpacked : {o : Outcome} {words book : List ℕ} {code : Bytes} {number line r : ℕ} → Packs number line r → Gives o (loaded number line) words book code
+    → Gives o (loaded (r % high) (r / high)) words book code
+load-unpacked {o} {words} {book} {code} packs g = unpacked (λ n l. Gives o (loaded n l) words book code) packs g
+
+pub edit-unpacked : {line : Bytes} {book words words′ book′ : List ℕ} {number count r : ℕ} → Packs number count r → EditCall line book words number count words′ book′
+    → EditCall line book words (r % high) (r / high) words′ book′
+edit-unpacked {line} {book} {words} {words′} {book′} packs g = unpacked (λ n c. EditCall line book words n c words′ book′) packs g

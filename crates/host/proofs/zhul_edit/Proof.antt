@@ -1,0 +1,27 @@
+-- `zhul_edit` meets its contract. Assumes nothing.
+use Rattle.host.proofs.Packing.{edit-unpacked}
+use borrow.Author.Needs.{needs}
+use Rattle.host.proofs.zhul_edit.Statement.{statement}
+use Rattle.host.proofs.zhul_edit.Tie as tie
+use Rattle.host.proofs.zhul_edit.Reads as reads
+use Rattle.host.proofs.zhul_edit.Lts as lts
+use Rattle.engine.proofs.edit.edit.Reads as edit-reads
+use Rattle.host.proofs.pack.Reads as pack-reads
+
+edit-requires : tie.Need-edit-requires
+edit-requires c κs = search needs
+
+cast-pack : tie.Need-cast-pack
+cast-pack c = search needs
+
+pack-requires : tie.Need-pack-requires
+pack-requires c κs = search needs
+
+same-length : tie.Need-same-length
+same-length c = search needs
+
+returns : tie.Need-returns
+returns c = edit-unpacked (c .pack .ensures) (c .before .before .before .before .edit .ensures)
+
+pub zhul-edit-spec : {M : Type 1} → statement M
+zhul-edit-spec = tie.close (tie.spec edit-requires cast-pack pack-requires same-length returns)

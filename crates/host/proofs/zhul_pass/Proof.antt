@@ -1,0 +1,60 @@
+-- `zhul_pass` meets its contract. Assumes nothing.
+use mathlib.Core.Path.{_∙_}
+use native.Mathlib.Omega.{arith}
+use Rattle.host.proofs.Passes.{pass-table, pass-refused, pass-decided}
+use borrow.Author.Needs.{needs}
+use Rattle.host.proofs.zhul_pass.Statement.{statement}
+use Rattle.host.proofs.zhul_pass.Tie as tie
+use Rattle.host.proofs.zhul_pass.Reads as reads
+use Rattle.host.proofs.zhul_pass.Lts as lts
+use Rattle.engine.proofs.decide.Reads as decide-reads
+use Rattle.engine.proofs.load.load.Reads as load-reads
+use Rattle.host.proofs.number_of.Reads as number-of-reads
+
+load-requires : tie.Need-load-requires
+load-requires c κs = search needs
+
+cast-result : tie.Need-cast-result
+cast-result c = search needs
+
+same-length : tie.Need-same-length
+same-length c = search needs
+
+returns : tie.Need-returns
+returns c =
+    let start = c .before .before .before .before .before .before .before .before .before .before .before .before in
+    let given = c .before .before .before .before .before .load in (
+      pass-refused (start .args .file .now) (start .args .block .now) (start .args .table .now) _ _ _ (given .result .number) (given .result .line) (given .ensures) (c .before .if1 .taken),
+      pass-table (start .args .file .now) (start .args .block .now) (start .args .table .now) _ _ _ (given .result .number) (given .result .line) (given .ensures),
+    )
+
+decide-requires : tie.Need-decide-requires
+decide-requires c κs = search needs
+
+number-of-requires : tie.Need-number-of-requires
+number-of-requires c κs = search needs
+
+same-length-2 : tie.Need-same-length-2
+same-length-2 c = search needs
+
+returns-2 : tie.Need-returns-2
+returns-2 c =
+    let start = c .before .before .before .before .before .before .before .before .before .before .before .before .before .before .before .before in
+    let given = c .before .before .before .before .before .before .before .before .before .load in (
+      c .number-of .ensures
+          ∙ pass-decided (start .args .file .now) (start .args .block .now) (start .args .table .now) _ _ _ (given .result .number) (given .result .line) (given .ensures) (omega (arith, c .before .before .before .before .before .if1 .left)) (c .before .decide .result) (c .before .decide .ensures),
+      pass-table (start .args .file .now) (start .args .block .now) (start .args .table .now) _ _ _ (given .result .number) (given .result .line) (given .ensures),
+    )
+
+pub zhul-pass-spec : {M : Type 1} → statement M
+zhul-pass-spec =
+    tie.close
+    (tie.spec
+    load-requires
+    cast-result
+    same-length
+    returns
+    decide-requires
+    number-of-requires
+    same-length-2
+    returns-2)

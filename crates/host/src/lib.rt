@@ -1,0 +1,93 @@
+// The calls for hosts in C, each answering one number. A slice is a pointer and a length; nothing is allocated or kept.
+ghost use mathlib.Core.Path.{_≡_};
+ghost use Prim.Native.Nat.{_/_, _%_};
+ghost use lib.ListN.{length};
+ghost use Rattle.model.specs.Host.{hostCall, hostTable};
+ghost use Rattle.engine.specs.Decisions.{numberAndValuesOf};
+ghost use Rattle.engine.specs.Calls.{Loads};
+ghost use Rattle.engine.specs.EditSteps.{EditCall};
+ghost use Rattle.host.specs.Answers.{high, carried, Packs, RequestNumber};
+use engine::Decision;
+
+// "0 permit, 64 deny, 65 undefined, else the refusal."
+fn number_of(d: Decision) -> u32
+    ensures { λ r. ⌜ r ≡ numberAndValuesOf d .0 ⌝ }
+{
+    match d {
+        Decision::Permit(_) => 0,
+        Decision::Deny => 64,
+        Decision::Undefined => 65,
+        Decision::Refused(n) => n as u32,
+    }
+}
+
+// The rule of a permit.
+fn rule_of(d: Decision) -> u32
+    ensures { λ r. ⌜ r ≡ carried (numberAndValuesOf d .1) ⌝ }
+{
+    match d {
+        Decision::Permit(k) => k as u32,
+        Decision::Deny => 0,
+        Decision::Undefined => 0,
+        Decision::Refused(_) => 0,
+    }
+}
+
+// A number in the low 32 bits, and what it carries in the high ones.
+fn pack(number: u32, carried: u32) -> u64
+    ensures { λ r. ⌜ Packs number carried r ⌝ }
+{
+    number as u64 + 4294967296 * carried as u64
+}
+
+// "One call for hosts in C takes file, block and table, loads, then decides: 0 permit, 64 deny, 65 undefined, else the refusal. Table as after
+// the load."
+#[no_mangle]
+pub extern "C" fn zhul_pass(file: &[u8], block: &[u8], table: &mut [u64]) -> u32
+    ensures { λ r. ⌜ (r ≡ hostCall (now (file .entry)) (now (block .entry)) (length (now (table .entry)))) × (now (table .exit) ≡ hostTable (now (file .entry)) (now (table .entry))) ⌝ }
+{
+    let mut book = [0u64; 5240];
+    let mut rules = [0u8; 24576];
+    let loaded = engine::load::load(file, &mut book, &mut rules, table);
+    if loaded.number != 0 {
+        return loaded.number as u32;
+    }
+    number_of(engine::decide(block, &book, &rules, table))
+}
+
+// Loads a file into the host's own book: the number, and the line in the high bits.
+#[no_mangle]
+pub extern "C" fn zhul_load(
+    file: &[u8],
+    book: &mut [u64; 5240],
+    rules: &mut [u8; 24576],
+    table: &mut [u64],
+) -> u64
+    ensures { λ r. ⌜ Loads (now (file .entry)) (now (table .entry)) (r % high) (r / high) (now (table .exit)) (now (book .exit)) (now (rules .exit)) ⌝ }
+{
+    let loaded = engine::load::load(file, book, rules, table);
+    pack(loaded.number as u32, loaded.line)
+}
+
+// An edit of the host's own book: the number, and the count in the high bits.
+#[no_mangle]
+pub extern "C" fn zhul_edit(line: &[u8], book: &mut [u64; 5240], table: &mut [u64]) -> u64
+    ensures { λ r. ⌜ EditCall (now (line .entry)) (now (book .entry)) (now (table .entry)) (r % high) (r / high) (now (table .exit)) (now (book .exit)) ⌝ }
+{
+    let edited = engine::edit::edit(line, book, table);
+    pack(edited.number as u32, edited.count)
+}
+
+// Decides a request on the host's own book: the number, and the rule of a permit in the high bits.
+#[no_mangle]
+pub extern "C" fn zhul_decide(
+    block: &[u8],
+    book: &[u64; 5240],
+    rules: &[u8; 24576],
+    table: &[u64],
+) -> u64
+    ensures { λ r. ⌜ RequestNumber (now (block .entry)) (now (book .entry)) (now (rules .entry)) (now (table .entry)) r ⌝ }
+{
+    let d = engine::decide(block, book, rules, table);
+    pack(number_of(d), rule_of(d))
+}
