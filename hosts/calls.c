@@ -1,0 +1,139 @@
+/* Runs the library over the conformance kit: `calls` reads a call list (vectors/README.md, "call lists"), `calls gate` a session of the office
+   program, from standard input, and prints the answers. Status 2 for input that is no call list. */
+#include "zhulmekov.h"
+
+#include <inttypes.h>
+#include <stdio.h>
+#include <stdlib.h>
+#include <string.h>
+
+enum { INPUT = 1 << 20 };
+
+static uint8_t input[INPUT + 1], bytes[INPUT], other[INPUT];
+static uint64_t book[ZHUL_BOOK_WORDS], *table;
+static uint8_t rules[ZHUL_RULES_BYTES];
+static size_t words;
+
+static int digit(uint8_t c) { return c >= '0' && c <= '9' ? c - '0' : c >= 'a' && c <= 'f' ? c - 'a' + 10 : -1; }
+
+/* The bytes that hex pairs write; -1 where they are none. */
+static long unhex(const uint8_t *s, size_t n, uint8_t *to) {
+    if (n % 2 != 0) return -1;
+    for (size_t i = 0; i < n; i += 2) {
+        int h = digit(s[i]), l = digit(s[i + 1]);
+        if (h < 0 || l < 0) return -1;
+        to[i / 2] = (uint8_t)(16 * h + l);
+    }
+    return (long)(n / 2);
+}
+
+static void put_load(uint64_t r) { printf("load=%" PRIu32 ",%" PRIu32 "\n", ZHUL_NUMBER(r), ZHUL_CARRIED(r)); }
+static void put_edit(uint64_t r) { printf("edit=%" PRIu32 ",%" PRIu32 "\n", ZHUL_NUMBER(r), ZHUL_CARRIED(r)); }
+
+static void put_decision(uint64_t r) {
+    switch (ZHUL_NUMBER(r)) {
+    case ZHUL_PERMIT: printf("try=permit,%" PRIu32 "\n", ZHUL_CARRIED(r)); break;
+    case ZHUL_DENY: puts("try=deny"); break;
+    case ZHUL_UNDEFINED: puts("try=undefined"); break;
+    default: printf("try=refused,%" PRIu32 "\n", ZHUL_NUMBER(r));
+    }
+}
+
+static void put_words(void) {
+    const char *between = "";
+    printf("words=");
+    for (size_t i = 0; i < words; i++)
+        if (table[i] != 0) {
+            printf("%s%zu:%" PRIx64, between, i, table[i]);
+            between = ",";
+        }
+    puts("");
+}
+
+static size_t line_length(const uint8_t *s, size_t n) {
+    const uint8_t *end = memchr(s, '\n', n);
+    return end == NULL ? n : (size_t)(end - s) + 1;
+}
+
+static int begins(const uint8_t *s, size_t n, const char *word) { return n >= strlen(word) && memcmp(s, word, strlen(word)) == 0; }
+
+/* A table of the length and words that the first line of a call list gives. */
+static int read_table(char *s) {
+    char *at;
+    if (strncmp(s, "table=", 6) != 0) return 0;
+    words = strtoul(s + 6, &at, 10);
+    table = calloc(words + 1, sizeof *table);
+    while (table != NULL && *at == ',') {
+        size_t i = strtoul(at + 1, &at, 10);
+        if (*at != ':' || i >= words) return 0;
+        table[i] = strtoull(at + 1, &at, 16);
+    }
+    return table != NULL && *at == 0;
+}
+
+static int call(const uint8_t *s, size_t n) {
+    if (begins(s, n, "c=")) {
+        const uint8_t *comma = memchr(s, ',', n);
+        if (comma == NULL) return 0;
+        long f = unhex(s + 2, (size_t)(comma - s) - 2, bytes), b = unhex(comma + 1, n - (size_t)(comma - s) - 1, other);
+        if (f < 0 || b < 0) return 0;
+        printf("c=%" PRIu32 "\n", zhul_pass(bytes, (size_t)f, other, (size_t)b, table, words));
+    } else {
+        const uint8_t *equals = memchr(s, '=', n);
+        if (equals == NULL) return 0;
+        long k = unhex(equals + 1, n - (size_t)(equals - s) - 1, bytes);
+        if (k < 0) return 0;
+        if (begins(s, n, "load=")) put_load(zhul_load(bytes, (size_t)k, book, rules, table, words));
+        else if (begins(s, n, "edit=")) put_edit(zhul_edit(bytes, (size_t)k, book, table, words));
+        else if (begins(s, n, "request=")) put_decision(zhul_decide(bytes, (size_t)k, book, rules, table, words));
+        else return 0;
+    }
+    put_words();
+    return 1;
+}
+
+static int call_list(size_t n) {
+    size_t at = line_length(input, n);
+    static uint64_t none[ZHUL_TABLE_WORDS];
+    if (at == 0 || input[at - 1] != '\n') return 2;
+    input[at - 1] = 0;
+    if (!read_table((char *)input)) return 2;
+    zhul_load(bytes, 0, book, rules, none, ZHUL_TABLE_WORDS); /* the empty book */
+    while (at < n) {
+        size_t k = line_length(input + at, n - at);
+        if (!call(input + at, input[at + k - 1] == '\n' ? k - 1 : k)) return 2;
+        at += k;
+    }
+    return 0;
+}
+
+static int is_end(const uint8_t *s, size_t k) { return (k == 4 || (k == 5 && s[4] == '\n')) && memcmp(s, "end=", 4) == 0; }
+
+static void command(const uint8_t *s, size_t k) {
+    size_t n = s[k - 1] == '\n' ? k - 1 : k;
+    long b;
+    if (s[0] == '+' || s[0] == '-') put_edit(zhul_edit(s, k, book, table, words));
+    else if (begins(s, n, "try=") && (b = unhex(s + 4, n - 4, bytes)) >= 0) put_decision(zhul_decide(bytes, (size_t)b, book, rules, table, words));
+    else puts("bad=");
+}
+
+static int session(size_t n) {
+    size_t at = 0, k = 0;
+    static uint64_t lent[ZHUL_TABLE_WORDS];
+    table = lent;
+    words = ZHUL_TABLE_WORDS;
+    if (n > 65536) return put_load(2), 0;
+    while (at < n && !is_end(input + at, k = line_length(input + at, n - at))) at += k;
+    put_load(zhul_load(input, at, book, rules, table, words));
+    if (at < n) at += k;
+    for (; at < n; at += k) command(input + at, k = line_length(input + at, n - at));
+    return 0;
+}
+
+int main(int argc, char **argv) {
+    size_t n = fread(input, 1, INPUT, stdin);
+    if (ferror(stdin)) return fputs("calls: standard input can't be read\n", stderr), 1;
+    int status = argc > 1 && strcmp(argv[1], "gate") == 0 ? session(n) : call_list(n);
+    if (fflush(stdout) != 0) return fputs("calls: standard output can't be written\n", stderr), 1;
+    return status;
+}
