@@ -37,3 +37,5 @@ pub const PAIR_COUNT: usize = 2;
 pub const HOLDER_COUNT: usize = 3;
 
 pub const GROUP_COUNT: usize = 4;
+
+pub const RULE_COUNT: usize = 5;

@@ -11,16 +11,14 @@ ghost use Rattle.book.specs.Reading.{FieldsRead, RuleJudged, ruleTests, 
 use crate::ATTRIBUTES_AT;
 use crate::OPERATIONS_AT;
 use crate::PAIRS_AT;
+use crate::RULE_COUNT;
+use crate::RULES_AT;
 use crate::find::OPERATIONS;
 
-// How many rules there can be, how many bytes of code each has, and where their words stand.
+// How many rules there can be, and how many bytes of code each has.
 const RULES: usize = 32;
 
 const CODE: usize = 768;
-
-const RULES_AT: usize = 5208;
-
-const RULE_COUNT: usize = 5;
 
 fn wide(count: u64) -> usize
     ensures { λ r. ⌜ r ≡ count ⌝ }

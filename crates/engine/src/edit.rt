@@ -7,24 +7,18 @@ ghost use Rattle.model.specs.Lines.{readFields};
 ghost use Rattle.book.specs.Sections.{bookWords};
 ghost use Rattle.book.specs.TieSteps.{tieBy};
 ghost use Rattle.engine.specs.EditSteps.{FieldsTie, TwoFieldsTie, KeyTie, LineTie, TieJudged, TieChanged, TableKept, Applied, EditCall};
+use crate::TABLE_WORDS;
+use book::OWN_AT;
+use book::RULES_AT;
+use book::SLOTS_AT;
+use book::UPS_AT;
 use book::tie::Tie;
 use codes::KEY_MEMBER;
 use codes::KEY_PARENT;
 use codes::KEY_VALUE;
 
-const TABLE_WORDS: usize = 1024;
-
 // The sign of an edit that adds.
 const PLUS: u8 = 1;
-
-// Where the sections of ties begin in a book; each ends where the next begins.
-const SLOTS_AT: usize = 3864;
-
-const UPS_AT: usize = 3928;
-
-const OWN_AT: usize = 4184;
-
-const RULES_AT: usize = 5208;
 
 // What an edit is refused for.
 const WRONG_TABLE: u8 = 1;

@@ -18,6 +18,9 @@ use truth::Truth;
 pub mod edit;
 pub mod load;
 
+// How many words a table has.
+const TABLE_WORDS: usize = 1024;
+
 // "decision enum: Permit with rule number, Deny, Undefined, Refused with number."
 pub enum Decision {
     Permit(u8),
@@ -246,7 +249,7 @@ fn answered(
 pub fn decide(block: &[u8], book: &[u64; 5240], rules: &[u8; 24576], table: &[u64]) -> Decision
     ensures { λ r. ⌜ Decides (now (block .entry)) (now (book .entry)) (now (rules .entry)) (now (table .entry)) r ⌝ }
 {
-    if table.len() != 1024 {
+    if table.len() != TABLE_WORDS {
         return Decision::Refused(1);
     }
     if !is_block(block) {

@@ -7,13 +7,12 @@ ghost use Rattle.book.specs.Sections.{bookWords, ruleBytes};
 ghost use Rattle.book.specs.Held.{Holds};
 ghost use Rattle.engine.specs.Calls.{Loads};
 ghost use Rattle.engine.specs.LoadSteps.{TableFilled};
+use crate::TABLE_WORDS;
 use book::OWN_AT;
 use book::RULES_AT;
 use book::SLOTS_AT;
 use book::UPS_AT;
 use book::file::Loaded;
-
-const TABLE_WORDS: usize = 1024;
 
 // Fills the table from the book's ties.
 fn fill(words: &[u64], table: &mut [u64])
