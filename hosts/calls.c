@@ -1,5 +1,6 @@
 /* Runs the library over the conformance kit: `calls` reads a call list (vectors/README.md, "call lists"), `calls gate` a session of the office
-   program, from standard input, and prints the answers. Status 2 for input that is no call list. */
+   program, from standard input, and prints the answers. `calls many` reads many such sessions, each behind a line with its number and its length in
+   bytes, and prints a line `session=NUMBER` before the answers of each. Status 2 for input that is no call list or no such stream. */
 #include "zhulmekov.h"
 
 #include <inttypes.h>
@@ -130,10 +131,28 @@ static int session(size_t n) {
     return 0;
 }
 
-int main(int argc, char **argv) {
+/* The book, the rules and the table stay as the session before left them: a load has to cope with anything in them. */
+static int many(void) {
+    uint64_t number;
+    size_t n;
+    int read;
+    while ((read = scanf("%" SCNu64 " %zu", &number, &n)) == 2) {
+        if (getchar() != '\n' || n > INPUT || fread(input, 1, n, stdin) != n) return 2;
+        printf("session=%" PRIu64 "\n", number);
+        session(n);
+    }
+    return read == EOF ? 0 : 2;
+}
+
+static int whole(int gate) {
     size_t n = fread(input, 1, INPUT, stdin);
+    return gate ? session(n) : call_list(n);
+}
+
+int main(int argc, char **argv) {
+    const char *mode = argc > 1 ? argv[1] : "";
+    int status = strcmp(mode, "many") == 0 ? many() : whole(strcmp(mode, "gate") == 0);
     if (ferror(stdin)) return fputs("calls: standard input can't be read\n", stderr), 1;
-    int status = argc > 1 && strcmp(argv[1], "gate") == 0 ? session(n) : call_list(n);
     if (fflush(stdout) != 0) return fputs("calls: standard output can't be written\n", stderr), 1;
     return status;
 }

@@ -1,8 +1,12 @@
 //! Writes random inputs and the outputs expected: `sessions --seed N --count M
-//! --dir D [--damaged | --calls]` gives D/N.in and D/N.out for each seed from N
-//! on. They are inputs of the office program, or call lists with `--calls`.
+//! --dir D [--damaged | --calls | --stream]` gives D/N.in and D/N.out for each
+//! seed from N on. They are inputs of the office program, or call lists with
+//! `--calls`. With `--stream` all inputs go into D/in, each behind a line with
+//! its seed and its length, and the outputs into D/out, each behind a line
+//! `session=SEED`: one program can then run them all. Every third is damaged.
 
 use reference::{calls, gate, generate};
+use std::io::{BufWriter, Write};
 use std::path::PathBuf;
 use std::{env, fs, process};
 
@@ -12,10 +16,12 @@ struct Options {
     dir: PathBuf,
     damaged: bool,
     calls: bool,
+    stream: bool,
 }
 
 fn options() -> Option<Options> {
-    let mut options = Options { seed: 1, count: 100, dir: PathBuf::new(), damaged: false, calls: false };
+    let dir = PathBuf::new();
+    let mut options = Options { seed: 1, count: 100, dir, damaged: false, calls: false, stream: false };
     let mut words = env::args().skip(1);
     while let Some(word) = words.next() {
         match word.as_str() {
@@ -24,6 +30,7 @@ fn options() -> Option<Options> {
             "--dir" => options.dir = PathBuf::from(words.next()?),
             "--damaged" => options.damaged = true,
             "--calls" => options.calls = true,
+            "--stream" => options.stream = true,
             _ => return None,
         }
     }
@@ -32,10 +39,13 @@ fn options() -> Option<Options> {
 
 fn main() -> std::io::Result<()> {
     let Some(options) = options() else {
-        eprintln!("usage: sessions --seed N --count M --dir D [--damaged | --calls]");
+        eprintln!("usage: sessions --seed N --count M --dir D [--damaged | --calls | --stream]");
         process::exit(2);
     };
     fs::create_dir_all(&options.dir)?;
+    if options.stream {
+        return write_stream(&options);
+    }
     for seed in options.seed..options.seed + options.count {
         let (input, output) = drawn(seed, &options);
         fs::write(options.dir.join(format!("{seed}.in")), input)?;
@@ -44,13 +54,28 @@ fn main() -> std::io::Result<()> {
     Ok(())
 }
 
+fn write_stream(options: &Options) -> std::io::Result<()> {
+    let mut inputs = BufWriter::new(fs::File::create(options.dir.join("in"))?);
+    let mut outputs = BufWriter::new(fs::File::create(options.dir.join("out"))?);
+    for seed in options.seed..options.seed + options.count {
+        let (input, output) = drawn(seed, options);
+        writeln!(inputs, "{seed} {}", input.len())?;
+        inputs.write_all(&input)?;
+        writeln!(outputs, "session={seed}")?;
+        outputs.write_all(&output)?;
+    }
+    inputs.flush()?;
+    outputs.flush()
+}
+
 fn drawn(seed: u64, options: &Options) -> (Vec<u8>, Vec<u8>) {
     if options.calls {
         let list = calls::write(&generate::session(seed));
         let output = calls::run(&list).expect("what is written is a call list");
         return (list, output);
     }
-    let input = if options.damaged { generate::damaged_input(seed) } else { generate::gate_input(seed) };
+    let damaged = options.damaged || options.stream && seed.is_multiple_of(3);
+    let input = if damaged { generate::damaged_input(seed) } else { generate::gate_input(seed) };
     let output = gate(&input);
     (input, output)
 }
