@@ -5,7 +5,11 @@
    their length; the table is words with their number, which has to be ZHUL_TABLE_WORDS (else every call answers 1 and the table keeps its words).
 
    The book and the rules may hold anything before the first load. Between calls they are the library's: a host may copy, keep and compare them as
-   plain memory, and must lend an edit or a request the book and the table that the last load or edit left. */
+   plain memory, and must lend an edit or a request the book and the table that the last load or edit left.
+
+   Stack, as hosts/stack measures it on x86-64 (KB of 1000 bytes; measured, not proved): zhul_pass 293 KB, zhul_load 226 KB, zhul_edit 16 KB,
+   zhul_decide 16 KB. The first two are for a refused file with a rule line full of parentheses, as a policy is read to its end before its depth is
+   judged, some 0.9 KB for each parenthesis; for the largest files that are accepted it is 93 KB and 26 KB. */
 #ifndef ZHULMEKOV_H
 #define ZHULMEKOV_H
 
@@ -30,7 +34,7 @@ extern "C" {
 #define ZHUL_CARRIED(answer) ((uint32_t)((answer) >> 32))
 
 /* Document 01's one call: loads the file, then decides the block. 0 permit, 64 deny, 65 undefined, else the refusal; the table as after the load.
-   It has its book on the stack: some 70 KB. */
+   It has its book on the stack: see above. */
 uint32_t zhul_pass(const uint8_t *file, size_t file_length, const uint8_t *block, size_t block_length, uint64_t *table, size_t table_words);
 
 /* Loads a file into the host's book: book[ZHUL_BOOK_WORDS], rules[ZHUL_RULES_BYTES]. */
