@@ -64,7 +64,7 @@ kept-after words S = go (wrongTable (length words)) refl
     go false e = either (wrongTable (length kept))
 
 -- what a call leaves goes with the ledger's state
-together-after : (S : State) (words : List ℕ) (c : Call) {a : Answer} {after : Lent} → Standing S
+pub together-after : (S : State) (words : List ℕ) (c : Call) {a : Answer} {after : Lent} → Standing S
     → Gives (outcome S words c) a (after .words) (after .book) (after .code) → Together (outcome S words c .state) (after .book) (after .code) (after .words)
 together-after S words c {a} {after} standing g = record {
   standing = step-standing (length words) c standing;

@@ -1,0 +1,29 @@
+-- `output::put_edit` meets its contract.
+use native.Mathlib.Omega.{arith}
+use lib.ListN.{length}
+use Rattle.model.specs.Gate.{printed}
+use Rattle.office.proofs.Lengths.{edit-short, short-fits}
+use borrow.Author.Needs.{needs}
+use Rattle.office.proofs.output.put_edit.Statement.{statement}
+use Rattle.office.proofs.output.put_edit.Tie as tie
+
+slice-aggregate-put-pair : tie.Need-slice-aggregate-put-pair
+slice-aggregate-put-pair c = search needs
+
+put-pair-requires : tie.Need-put-pair-requires
+unfolding printed
+put-pair-requires c κs =
+    let h = c .before .before .before in
+    short-fits (h .args .at) _ (length (h .args .out .now)) (h .pre) (edit-short (h .args .number) (h .args .count) (omega arith) (omega arith))
+
+same-length : tie.Need-same-length
+same-length c = search needs
+
+returns : tie.Need-returns
+unfolding printed
+returns c =
+    let h = c .before .before .before .before .before .before in
+    record { put = c .before .before .put-pair .ensures; short = edit-short (h .args .number) (h .args .count) (omega arith) (omega arith) }
+
+pub put-edit-spec : {M : Type 1} → statement M
+put-edit-spec = tie.close (tie.spec slice-aggregate-put-pair put-pair-requires same-length returns)
