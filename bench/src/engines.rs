@@ -1,0 +1,71 @@
+//! Both engines side by side on the inputs of one case, held to the same answers and the same words.
+
+use crate::case::{Calls, Case};
+use crate::library::Library;
+use crate::told::Told;
+use reference::session::{Engine, TableEngine};
+use reference::{c_call, TABLE_WORDS};
+
+pub struct Engines {
+    pub ours: Library,
+    pub reference: TableEngine,
+}
+
+impl Engines {
+    /// Both with the case's file loaded.
+    pub fn start(case: &Case) -> Result<Engines, String> {
+        let reference = TableEngine::new(vec![0; TABLE_WORDS]);
+        let mut engines = Engines { ours: Library::new(), reference };
+        engines.load(case)?;
+        Ok(engines)
+    }
+
+    /// Makes each call of the case once. The error says where the engines differ, or what the case did not
+    /// expect.
+    pub fn agree(&mut self, case: &Case) -> Result<(), String> {
+        match &case.calls {
+            Calls::Load => self.load(case),
+            Calls::Edits(edits) => edits.iter().try_for_each(|(line, wanted)| self.edit(line, *wanted)),
+            Calls::Request(block, wanted) => self.request(block, *wanted),
+            Calls::Pass(block, wanted) => self.pass(&case.file, block, *wanted),
+        }
+    }
+
+    fn load(&mut self, case: &Case) -> Result<(), String> {
+        let ours = Told::of_library(self.ours.load(&case.file));
+        let reference = Told::of_load(self.reference.load(&case.file));
+        self.compare("load", ours, reference, Told::new(0, case.lines()))
+    }
+
+    fn edit(&mut self, line: &str, wanted: Told) -> Result<(), String> {
+        let ours = Told::of_library(self.ours.edit(line.as_bytes()));
+        let reference = Told::of_edit(self.reference.edit(line.as_bytes()));
+        self.compare(line.trim_end(), ours, reference, wanted)
+    }
+
+    fn request(&mut self, block: &[u8], wanted: Told) -> Result<(), String> {
+        let ours = Told::of_library(self.ours.request(block));
+        let reference = Told::of_decision(self.reference.request(block));
+        self.compare("request", ours, reference, wanted)
+    }
+
+    fn pass(&mut self, file: &[u8], block: &[u8], wanted: u32) -> Result<(), String> {
+        let ours = Told::new(self.ours.pass(file, block), 0);
+        let reference = Told::new(c_call(file, block, &mut self.reference.table).into(), 0);
+        self.compare("the one C call", ours, reference, Told::new(wanted, 0))
+    }
+
+    fn compare(&self, call: &str, ours: Told, reference: Told, wanted: Told) -> Result<(), String> {
+        if ours != reference {
+            return Err(format!("{call}: the library answers {ours:?}, the reference {reference:?}"));
+        }
+        if ours != wanted {
+            return Err(format!("{call}: both answer {ours:?}, but {wanted:?} was to be timed"));
+        }
+        let differs = |word: &usize| self.ours.table[*word] != self.reference.table[*word];
+        match (0..TABLE_WORDS).find(differs) {
+            Some(word) => Err(format!("{call}: word {word} of the table differs")),
+            None => Ok(()),
+        }
+    }
+}

@@ -1,0 +1,21 @@
+//! Policies that are FALSE or UNDEF, so that all rules of an operation are evaluated.
+
+/// 16 terms over the valley file's names, UNDEF.
+pub fn sixteen_terms_valley() -> &'static str {
+    "user.zone=object.zone AND env.hour<17 AND env.hour>=8 AND user.zone IN{1,2,3}AND(user.kind IN{\"day\",\"season\"}\
+     OR NOT user.staff)AND user.zone!=9 AND object.zone SUBSET{2}AND 3<2 OR user.zone=7 OR 1>2 OR{1,2}={3}OR 5=6 \
+     OR UNDEF OR 3=4 OR FALSE"
+}
+
+/// 16 terms over the names of the full file, FALSE.
+pub fn sixteen_terms_full() -> &'static str {
+    "user.a0=object.a1 AND env.a2<17 AND user.a3=\"s1\"AND user.a0 IN{1,2,3}AND NOT user.a5 AND env.a2>=8 AND 1=2 \
+     OR admin.a4!=5 AND object.a6=\"s2\"AND user.a0<9 AND object.a1>2 AND env.a2=3 AND user.a0!=7 AND connect.a7 \
+     AND user.a5 AND 3=4"
+}
+
+/// So many terms over the valley file's names, none of them TRUE.
+pub fn terms(count: usize) -> String {
+    let term = |k: usize| if k.is_multiple_of(2) { "user.zone=9" } else { "env.hour<8" };
+    (0..count).map(term).collect::<Vec<&str>>().join(" OR ")
+}

@@ -1,0 +1,100 @@
+//! Measured rows as lines of text, and the tables that one or several runs give.
+
+use crate::case::Case;
+use crate::measure::Times;
+
+/// The rows of one case over all runs.
+struct Row {
+    part: String,
+    name: String,
+    goal: Option<f64>,
+    times: Vec<Times>,
+}
+
+/// A measured case as a line: part, name, goal and both times, parted by tabs.
+pub fn line(case: &Case, times: &Times) -> String {
+    let goal = case.goal.map_or("-".to_string(), |goal| goal.to_string());
+    format!("{}\t{}\t{goal}\t{}\t{}", case.part, case.name, times.ours, times.reference)
+}
+
+/// The tables of all lines, in Markdown; runs stand one after another.
+pub fn tables(lines: &str) -> Result<String, String> {
+    let mut rows: Vec<Row> = Vec::new();
+    for (place, line) in lines.lines().enumerate() {
+        let row = read(line).ok_or(format!("line {} is no measured row", place + 1))?;
+        match rows.iter_mut().find(|one| (&one.part, &one.name) == (&row.part, &row.name)) {
+            Some(known) => known.times.extend(row.times),
+            None => rows.push(row),
+        }
+    }
+    let mut text = String::new();
+    let mut part = "";
+    for row in &rows {
+        if row.part != part {
+            part = &row.part;
+            text += &format!(
+                "\n| {part} | library, ns | reference, ns | times faster | goal |\n|---|---|---|---|---|\n"
+            );
+        }
+        text += &print(row);
+    }
+    Ok(text)
+}
+
+fn read(line: &str) -> Option<Row> {
+    let fields: Vec<&str> = line.split('\t').collect();
+    let [part, name, goal, ours, reference] = fields.as_slice() else {
+        return None;
+    };
+    let goal = if *goal == "-" { None } else { Some(goal.parse().ok()?) };
+    let times = Times { ours: ours.parse().ok()?, reference: reference.parse().ok()? };
+    Some(Row { part: part.to_string(), name: name.to_string(), goal, times: vec![times] })
+}
+
+fn print(row: &Row) -> String {
+    let all = |of: fn(&Times) -> f64| row.times.iter().map(of).collect::<Vec<f64>>();
+    let ratios = all(|times| times.reference / times.ours);
+    format!(
+        "| {} | {} | {} | {} | {} |\n",
+        row.name,
+        spread(&all(|times| times.ours), nanoseconds),
+        spread(&all(|times| times.reference), nanoseconds),
+        spread(&ratios, |ratio| format!("{ratio:.2}")),
+        row.goal.map_or("-".to_string(), |goal| verdict(goal, &ratios)),
+    )
+}
+
+/// The lowest and the highest, or the one that there is.
+fn spread(values: &[f64], text: impl Fn(f64) -> String) -> String {
+    let lowest = text(values.iter().copied().fold(f64::INFINITY, f64::min));
+    let highest = text(values.iter().copied().fold(0.0, f64::max));
+    if lowest == highest {
+        return lowest;
+    }
+    format!("{lowest} to {highest}")
+}
+
+/// One decimal below 100, else whole with a comma before each three digits.
+fn nanoseconds(value: f64) -> String {
+    if value < 99.95 {
+        return format!("{value:.1}");
+    }
+    let digits = format!("{value:.0}");
+    let mut text = String::new();
+    for (place, digit) in digits.chars().enumerate() {
+        if place > 0 && (digits.len() - place).is_multiple_of(3) {
+            text.push(',');
+        }
+        text.push(digit);
+    }
+    text
+}
+
+fn verdict(goal: f64, ratios: &[f64]) -> String {
+    let met = ratios.iter().filter(|&&ratio| ratio >= goal).count();
+    match met {
+        0 => format!("{goal}: missed"),
+        all if all == ratios.len() => format!("{goal}: met"),
+        some => format!("{goal}: met in {some} of {} runs", ratios.len()),
+    }
+}

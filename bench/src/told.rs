@@ -1,0 +1,48 @@
+//! What both engines answer, in one form.
+
+use reference::{Decision, EditAnswer, LoadAnswer};
+
+/// A number of document 01, and what it carries: the line of a load (of an accepted one the lines read), the
+/// count of an edit, the rule of a permit.
+#[derive(Clone, Copy, Debug, PartialEq, Eq)]
+pub struct Told {
+    pub number: u32,
+    pub carried: u32,
+}
+
+pub const DENY: u32 = 64;
+pub const UNDEFINED: u32 = 65;
+
+impl Told {
+    pub fn new(number: u32, carried: usize) -> Told {
+        Told { number, carried: carried as u32 }
+    }
+
+    /// The library packs both into one word.
+    pub fn of_library(answer: u64) -> Told {
+        Told { number: answer as u32, carried: (answer >> 32) as u32 }
+    }
+
+    pub fn of_load(answer: LoadAnswer) -> Told {
+        match answer {
+            Ok(lines) => Told::new(0, lines),
+            Err(refused) => Told::new(refused.refusal.number().into(), refused.line),
+        }
+    }
+
+    pub fn of_edit(answer: EditAnswer) -> Told {
+        match answer {
+            Ok(count) => Told::new(0, count),
+            Err(refusal) => Told::new(refusal.number().into(), 0),
+        }
+    }
+
+    pub fn of_decision(decision: Decision) -> Told {
+        match decision {
+            Decision::Permit(rule) => Told::new(0, rule),
+            Decision::Deny => Told::new(DENY, 0),
+            Decision::Undefined => Told::new(UNDEFINED, 0),
+            Decision::Refused(refusal) => Told::new(refusal.number().into(), 0),
+        }
+    }
+}
