@@ -29,8 +29,8 @@ use Rattle.model.proofs.TableLayout.{setIn, words-same, set-in-table}
 use Rattle.model.proofs.Changes.{setChanged, changes-exact}
 use Rattle.model.specs.Standing.{Standing}
 use Rattle.engine.specs.Calls.{Gives, Together}
-use Rattle.engine.specs.Runs.{Lent, Does}
-use Rattle.engine.proofs.Runs.{does-gives}
+use Rattle.engine.specs.Runs.{Lent, Does, Leads}
+use Rattle.engine.proofs.Runs.{does-gives, leads-together}
 
 -- the answer and the words after an edit, on a table of another length and on one of 1,024 words
 module _ (S : State) (words : List ℕ) (line : Bytes) (kept : tableAfter words S ≡ words) where
@@ -74,8 +74,12 @@ count-exact {S} standing line = go (eqb (editRefusal S line) 0) (edit-standing S
     go true after = changes-exact (S .declared) (S .ties) (model.accepting S line .state .ties) standing after
     go false after = sym (none-changed (table (S .declared) (S .ties)))
 
-module _ {S : State} {before after : Lent} {line : Bytes} {number changed : ℕ}
-    (together : Together S (before .book) (before .code) (before .words)) (does : Does (Call.edit line) before (ledger.edited number changed) after) where
+-- an edit, after a list of calls that begins with a load and leads to the ledger's state S
+module _ {calls : List Call} {S : State} {before after : Lent} {line : Bytes} {number changed : ℕ}
+    (run : Leads calls S before) (does : Does (Call.edit line) before (ledger.edited number changed) after) where
+  together : Together S (before .book) (before .code) (before .words)
+  together = leads-together run
+
   given : Gives (outcome S (before .words) (Call.edit line)) (ledger.edited number changed) (after .words) (after .book) (after .code)
   given = does-gives together does
 

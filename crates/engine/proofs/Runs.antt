@@ -17,7 +17,7 @@ use Rattle.model.proofs.Standing.{empty-standing}
 use Rattle.model.proofs.Ledger.{step-standing, request-keeps}
 use Rattle.book.specs.Held.{Holds}
 use Rattle.engine.specs.Calls.{Gives, Together, Loads, Edits}
-use Rattle.engine.specs.Runs.{Lent, Does, loads, edits, decides, Seen, Run, end, next}
+use Rattle.engine.specs.Runs.{Lent, Does, loads, edits, decides, Seen, Run, end, next, Leads, from-load, from-there}
 
 -- what is compared after a call: "the answer with all it carries …, and all 1,024 words"
 pub record Compared : Type 0 where
@@ -116,3 +116,10 @@ unfolding ledger
 runs-are-the-ledger lent file calls results (next {after = after} {rest = rest} (loads g) run) =
     one-more empty (Call.load file) (lent .words) calls (map seen rest) g
     (run-posts (outcome empty (lent .words) (Call.load file) .state) after calls rest (together-after empty (lent .words) (Call.load file) empty-standing g) run)
+
+-- what is lent to a call of a run goes with the ledger's state
+pub leads-together : {calls : List Call} {S : State} {lent : Lent} → Leads calls S lent → Together S (lent .book) (lent .code) (lent .words)
+leads-together (from-load {file = file} {before = before} (loads g)) = together-after empty (before .words) (Call.load file) empty-standing g
+leads-together (from-there {S = S} {c = c} {before = before} run does) =
+    let t = leads-together run in
+    together-after S (before .words) c (t .standing) (does-gives t does)

@@ -2,9 +2,9 @@
 -- Assumes nothing: these are definitions.
 use Prim.Native.Nat.{ℕ}
 use mathlib.Core.Path.{_≡_}
-use mathlib.Core.List.{List, [], _∷_}
+use mathlib.Core.List.{List, [], _∷_, _++_}
 use Rattle.model.specs.Bytes.{Bytes}
-use Rattle.model.specs.State.{State}
+use Rattle.model.specs.State.{State, empty}
 use Rattle.model.specs.Decision.{Decision}
 use Rattle.model.specs.Ledger.{Call, load, edit, request, Answer, loaded, edited, decided, outcome}
 use Rattle.engine.specs.Calls.{Together, Loads, Edits}
@@ -38,3 +38,9 @@ pub data Run : Lent → List Call → List Seen → Type 0 where
   end : {lent : Lent} → Run lent [] []
   next : {before after : Lent} {c : Call} {calls : List Call} {a : Answer} {rest : List Seen} → Does c before a after → Run after calls rest
       → Run before (c ∷ calls) (record { answer = a; left = after } ∷ rest)
+
+-- where a list of calls that begins with a load has led: the ledger's state, and what is lent to the next call
+pub data Leads : List Call → State → Lent → Type 0 where
+  from-load : {file : Bytes} {a : Answer} {before after : Lent} → Does (load file) before a after → Leads (load file ∷ []) (outcome empty (before .words) (load file) .state) after
+  from-there : {calls : List Call} {S : State} {c : Call} {a : Answer} {before after : Lent} → Leads calls S before → Does c before a after
+      → Leads (calls ++ c ∷ []) (outcome S (before .words) c .state) after

@@ -6,7 +6,6 @@ ghost use lib.ListN.{length, take};
 ghost use Rattle.io.specs.Counts.{Counts};
 ghost use Rattle.model.specs.Gate.{gate};
 ghost use Rattle.office.specs.Output.{answerBytes};
-use libc::STDERR_FILENO;
 use libc::STDIN_FILENO;
 use libc::STDOUT_FILENO;
 
@@ -38,19 +37,15 @@ fn written(input: &[u8], out: &mut [u8]) -> usize
 fn main() {
     let mut input = input_buffer();
     let n = io::read_full(STDIN_FILENO, &mut input);
-    // A short count is the end of the input, or a read that failed and fails again.
-    let mut more: [u8; 1] = [0; 1];
-    if n < READ {
-        let got = libc::read(STDIN_FILENO, &mut more);
-        if got < 0 {
-            io::write_all(STDERR_FILENO, b"gate: standard input cannot be read\n");
-            return;
-        }
+    // A short count is the end of the input or a read that failed; errno is 0 at a program's start, and a read that succeeds leaves it.
+    if os::errno() != 0 {
+        os::fail(b"gate: standard input cannot be read");
+        return;
     }
     let mut out = output_buffer();
     let length = written(&input[..n], &mut out);
     let is_written = io::write_all(STDOUT_FILENO, &out[..length]);
     if !is_written {
-        io::write_all(STDERR_FILENO, b"gate: standard output cannot be written\n");
+        os::fail(b"gate: standard output cannot be written");
     }
 }

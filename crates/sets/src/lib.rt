@@ -45,13 +45,13 @@ fn gather(table: &[u64], slots: &[u64], mask: u64) -> [u64; 4]
     ensures { λ r. ⌜ Numbers 256 r (λ p. anyBelow groupLimit (λ q. bit mask q && holds (now (table .entry)) (getD (now (slots .entry)) q 0) p)) ⌝ }
 {
     let mut sum = [0u64; 4];
-    let mut left = mask;
-    while left != 0 {
-        let q = bits::lowest(left);
+    let mut above = mask;
+    while above != 0 {
+        let q = bits::lowest(above);
         let k = ties::holder_at(slots, q);
         let next = inherit(sum, table, k);
         sum = next;
-        left = bits::without(left, q);
+        above = bits::without(above, q);
     }
     sum
 }

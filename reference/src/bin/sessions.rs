@@ -1,9 +1,10 @@
 //! Writes random inputs and the outputs expected: `sessions --seed N --count M
-//! --dir D [--damaged | --calls | --stream]` gives D/N.in and D/N.out for each
-//! seed from N on. They are inputs of the office program, or call lists with
-//! `--calls`. With `--stream` all inputs go into D/in, each behind a line with
-//! its seed and its length, and the outputs into D/out, each behind a line
-//! `session=SEED`: one program can then run them all. Every third is damaged.
+//! --dir D [--damaged | --mixed | --calls] [--stream]` gives D/N.in and D/N.out
+//! for each seed from N on. They are inputs of the office program (damaged, or
+//! with `--mixed` every third damaged), or call lists with `--calls`. With
+//! `--stream` all inputs go into D/in, each behind a line with its seed and its
+//! length, and the outputs into D/out, each behind a line `session=SEED`: one
+//! program can then run them all.
 
 use reference::{calls, gate, generate};
 use std::io::{BufWriter, Write};
@@ -15,13 +16,15 @@ struct Options {
     count: u64,
     dir: PathBuf,
     damaged: bool,
+    mixed: bool,
     calls: bool,
     stream: bool,
 }
 
 fn options() -> Option<Options> {
     let dir = PathBuf::new();
-    let mut options = Options { seed: 1, count: 100, dir, damaged: false, calls: false, stream: false };
+    let mut options =
+        Options { seed: 1, count: 100, dir, damaged: false, mixed: false, calls: false, stream: false };
     let mut words = env::args().skip(1);
     while let Some(word) = words.next() {
         match word.as_str() {
@@ -29,6 +32,7 @@ fn options() -> Option<Options> {
             "--count" => options.count = words.next()?.parse().ok()?,
             "--dir" => options.dir = PathBuf::from(words.next()?),
             "--damaged" => options.damaged = true,
+            "--mixed" => options.mixed = true,
             "--calls" => options.calls = true,
             "--stream" => options.stream = true,
             _ => return None,
@@ -39,7 +43,7 @@ fn options() -> Option<Options> {
 
 fn main() -> std::io::Result<()> {
     let Some(options) = options() else {
-        eprintln!("usage: sessions --seed N --count M --dir D [--damaged | --calls | --stream]");
+        eprintln!("usage: sessions --seed N --count M --dir D [--damaged | --mixed | --calls] [--stream]");
         process::exit(2);
     };
     fs::create_dir_all(&options.dir)?;
@@ -74,7 +78,7 @@ fn drawn(seed: u64, options: &Options) -> (Vec<u8>, Vec<u8>) {
         let output = calls::run(&list).expect("what is written is a call list");
         return (list, output);
     }
-    let damaged = options.damaged || options.stream && seed.is_multiple_of(3);
+    let damaged = options.damaged || options.mixed && seed.is_multiple_of(3);
     let input = if damaged { generate::damaged_input(seed) } else { generate::gate_input(seed) };
     let output = gate(&input);
     (input, output)

@@ -13,12 +13,12 @@ use Rattle.sets.proofs.gather.Statement.{statement}
 use Rattle.sets.proofs.gather.Tie as tie
 
 abbrev Inv-loop : tie.InvT-loop
-Inv-loop table slots mask sum₀ left₀ sum left =
+Inv-loop table slots mask sum₀ above₀ sum above =
     (p : ℕ) → p < 256
-    → (member sum p || anyBelow 64 (λ q. bit left q && holds table (getD slots q 0) p)) ≡ anyBelow 64 (λ q. bit mask q && holds table (getD slots q 0) p)
+    → (member sum p || anyBelow 64 (λ q. bit above q && holds table (getD slots q 0) p)) ≡ anyBelow 64 (λ q. bit mask q && holds table (getD slots q 0) p)
 
 abbrev μ-loop : tie.MeasureT-loop
-μ-loop table slots mask sum₀ left₀ sum left = countBelow 64 (bit left)
+μ-loop table slots mask sum₀ above₀ sum above = countBelow 64 (bit above)
 
 loop-holds : tie.Need-loop-holds Inv-loop μ-loop
 loop-holds c p h =
@@ -40,7 +40,7 @@ without-requires c κs = c .before .before .lowest .ensures .held (c .before .be
 loop-less : tie.Need-loop-less Inv-loop μ-loop
 loop-less c =
     let held = c .before .before .before .lowest .ensures .held (c .before .before .before .before .loop-test .taken) in
-    fewer-left (c .before .before .before .before .before .loop .left) (c .without .result) (c .before .before .before .lowest .result) (held .1) (c .without .ensures) (held .0)
+    fewer-left (c .before .before .before .before .before .loop .above) (c .without .result) (c .before .before .before .lowest .result) (held .1) (c .without .ensures) (held .0)
 
 loop-again : tie.Need-loop-again Inv-loop μ-loop
 loop-again c p h =
@@ -52,14 +52,14 @@ loop-again c p h =
     let rest : Bool = anyBelow 64 (λ q. bit (c .without .result) q && f q) in
     ap (λ (b : Bool). b || rest) (c .before .inherit .ensures p h ∙ ap (λ (k : ℕ). member (head .loop .sum) p || holds (a .table .now) k p) (c .before .before .holder-at .ensures))
     ∙ or-regroup (member (head .loop .sum) p) (f q) rest
-    ∙ ap (λ (b : Bool). member (head .loop .sum) p || b) (sym (any-left (head .loop .left) (c .without .result) q (held .1) (c .without .ensures) 64 f (held .0)))
+    ∙ ap (λ (b : Bool). member (head .loop .sum) p || b) (sym (any-left (head .loop .above) (c .without .result) q (held .1) (c .without .ensures) 64 f (held .0)))
     ∙ head .loop .inv p h
 
 returns : tie.Need-returns Inv-loop μ-loop
 returns c p h =
     let a = c .before .before .before .before .args in
     let head = c .before in
-    sym (ap (λ (b : Bool). member (head .loop .sum) p || b) (none-left (head .loop .left) 64 (λ q. holds (a .table .now) (getD (a .slots .now) q 0) p) (c .loop-test .left)) ∙ or-false (member (head .loop .sum) p))
+    sym (ap (λ (b : Bool). member (head .loop .sum) p || b) (none-left (head .loop .above) 64 (λ q. holds (a .table .now) (getD (a .slots .now) q 0) p) (c .loop-test .left)) ∙ or-false (member (head .loop .sum) p))
     ∙ head .loop .inv p h
 
 pub gather-spec : {M : Type 1} → statement M
