@@ -17,7 +17,7 @@ use Rattle.bits.proofs.Counts.{any-ext, any-find, find-any}
 use Rattle.bits.proofs.Bits.{bit-none}
 use Rattle.ties.specs.TieArrays.{inUse, tied, Distinct}
 use Rattle.ties.proofs.Masks.{in-use-lt}
-use Rattle.sets.specs.Settled.{Solves, RightAt, Right, Stored, ShortChains, Chain, one, more, Deep, Settled, Spared, AllDeep, GroupsRight, NoGroups, MarksChanged, StoredEach}
+use Rattle.sets.specs.Settled.{Solves, RightAt, Right, Stored, ShortChains, Chain, one, more, Deep, Settled, Spared, AllDeep, GroupsRight, NoGroups, MarksChanged, StoredEach, StoredTied}
 use Rattle.sets.proofs.Parts.{holds-kept}
 use Rattle.sets.proofs.Telling.{SameAt, others-same, told-none, told-more}
 
@@ -275,3 +275,32 @@ each-all {ups} {own} {slots} {wanted} {t} {t₁} k l long long₁ a = record {
     go : (j : ℕ) → (member wanted (j / 4) ≡ true → j / 4 < length ups → ⊥) → Dec (j / 4 < length ups) → getD t₁ j 0 ≡ getD t j 0
     go j out (yes d) = a .others j (λ o x. out o d)
     go j out (no d) = List·getD-eq-default t₁ 0 {n = j} (omega arith) ∙ sym (List·getD-eq-default t 0 {n = j} (omega arith))
+
+-- ---- the holders that have a tie up, one after another
+
+pub tied-none : (ups own slots t : List ℕ) → StoredTied ups own slots t t 0
+tied-none ups own slots t = record { right = λ f s r k l some. absurd (omega arith); stays = λ f s r k y. y }
+
+module _ {ups own slots t t₁ : List ℕ} {k : ℕ} (a : StoredTied ups own slots t t₁ k) where
+  pub tied-passed : getD ups k 0 ≡ 0 → StoredTied ups own slots t t₁ (k + 1)
+  tied-passed none = record { right = λ f s r i l some. a .right f s r i (before i l some (ℕ-discrete i k)) some; stays = a .stays }
+    where
+      before : (i : ℕ) → i < k + 1 → (getD ups i 0 ≡ 0 → ⊥) → Dec (i ≡ k) → i < k
+      before i l some (yes e) = absurd (some (ap (λ (x : ℕ). getD ups x 0) e ∙ none))
+      before i l some (no n) = omega arith
+
+  module _ {t₂ : List ℕ} (mask : ℕ) (few : k < length ups) (long : length t₁ ≡ 4 * length ups) (by : mask ≡ getD ups k 0) (b : Stored own slots k mask t₁ t₂)
+      (f : ℕ → ℕ → Bool) (s : Solves ups own slots f) (r : GroupsRight (length ups) slots f t) where
+    now-right : RightAt f t₂ k
+    unfolding GroupsRight
+    now-right = stored-right ups own slots k mask f s few long by b (λ q l u on. a .stays f s r (getD slots q 0) (r q l u))
+
+    still-right : (i : ℕ) → Dec (i ≡ k) → ((i ≡ k → ⊥) → RightAt f t₁ i) → RightAt f t₂ i
+    still-right i (yes e) y = subst (RightAt f t₂) (sym e) now-right
+    still-right i (no n) y = other-right own slots k mask i f b n (y n)
+
+  pub tied-stored : {t₂ : List ℕ} (mask : ℕ) → k < length ups → length t₁ ≡ 4 * length ups → mask ≡ getD ups k 0 → Stored own slots k mask t₁ t₂ → StoredTied ups own slots t t₂ (k + 1)
+  tied-stored mask few long by b = record {
+    right = λ f s r i l some. still-right mask few long by b f s r i (ℕ-discrete i k) (λ n. a .right f s r i (omega arith) some);
+    stays = λ f s r i y. still-right mask few long by b f s r i (ℕ-discrete i k) (λ n. a .stays f s r i y);
+  }

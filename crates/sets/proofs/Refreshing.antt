@@ -12,7 +12,7 @@ use lib.ListN.{length, getD, replicate, List·getD-eq-default, getD-replicate, l
 use borrow.Author.Tests.{eq-eqb, eqb-true, ne-eqb, lt-ltb, not-true, not-false}
 use Rattle.model.specs.Declarations.{Declarations, holderNumbersOf}
 use Rattle.model.specs.Ties.{Ties}
-use Rattle.model.specs.Table.{effectiveSet, table}
+use Rattle.model.specs.Table.{effectiveSet}
 use Rattle.model.specs.Edits.{differs, changes}
 use Rattle.model.proofs.Options.{parts, both}
 use Rattle.model.proofs.Lists.{true-or-false, or-cases, or-left, or-right, or-none}
@@ -45,13 +45,13 @@ any-rest n (suc m) f l e = ⊎-elim
     (eq-or-lt-of-le l)
 
 -- the empty set
-no-numbers : (k : ℕ) → member (replicate 16 0) k ≡ false
+no-numbers : (k : ℕ) → member (replicate 4 0) k ≡ false
 unfolding member
-no-numbers k = ap (λ (w : ℕ). bit w (k % 64)) (go (decLt (k / 64) 16)) ∙ bit-none (k % 64)
+no-numbers k = ap (λ (w : ℕ). bit w (k % 64)) (go (decLt (k / 64) 4)) ∙ bit-none (k % 64)
   where
-    go : Dec (k / 64 < 16) → _≡_ {A = ℕ} (getD (replicate 16 0) (k / 64) 0) 0
-    go (yes l) = getD-replicate 16 (k / 64) 0 0 l
-    go (no l) = List·getD-eq-default (replicate 16 0) 0 {n = k / 64} (omega (arith, length-replicate {A = ℕ} 16 0))
+    go : Dec (k / 64 < 4) → _≡_ {A = ℕ} (getD (replicate 4 0) (k / 64) 0) 0
+    go (yes l) = getD-replicate 4 (k / 64) 0 0 l
+    go (no l) = List·getD-eq-default (replicate 4 0) 0 {n = k / 64} (omega (arith, length-replicate {A = ℕ} 4 0))
 
 -- ---- the groups at e and below it, in the arrays
 
@@ -148,7 +148,7 @@ module _ (ups own slots : List ℕ) (e up : ℕ) (t t′ marks marks′ : List �
 -- ---- a group: the groups of the mask are settled anew, and then the others under e are stored
 
 module _ (ups own slots : List ℕ) (e m : ℕ) (marks : Marks ups slots e m) (small : m < 2 ^ 64) (t t₁ t₂ m₀ m₁ m₂ holders wanted : List ℕ) (d₁ : ℕ)
-    (h : (k : ℕ) → member holders k ≡ (member (replicate 16 0) k || ltb k (length ups) && under ups m e k))
+    (h : (k : ℕ) → member holders k ≡ (member (replicate 4 0) k || ltb k (length ups) && under ups m e k))
     (w : (k : ℕ) → member wanted k ≡ (member holders k && not (groupOf (length ups) slots m k)))
     (a : Settled ups own slots t t₁ m₀ m₁ (2 ^ 64 - 1 - m) d₁ (AllDeep ups slots) (λ g. g < 64)) (b : StoredEach ups own slots wanted t₁ t₂ m₁ m₂ (length ups)) where
   g : ℕ → Bool
@@ -205,8 +205,8 @@ module _ (ups own slots : List ℕ) (e m : ℕ) (marks : Marks ups slots e m) (s
 
 -- ---- how many changed
 
-module _ (ups own slots : List ℕ) (e : ℕ) (t t′ changed : List ℕ) (r : ℕ) (few : length ups ≤ 1024) (long : length t ≡ 4 * length ups) (long′ : length t′ ≡ 4 * length ups)
-    (fit : (j : ℕ) → getD t′ j 0 < 2 ^ 64) (b : Rewritten ups own slots e t t′ (replicate 16 0) changed) (n : r ≡ countBelow 1024 (member changed)) where
+module _ (ups own slots : List ℕ) (e : ℕ) (t t′ changed : List ℕ) (r : ℕ) (few : length ups ≤ 256) (long : length t ≡ 4 * length ups) (long′ : length t′ ≡ 4 * length ups)
+    (fit : (j : ℕ) → getD t′ j 0 < 2 ^ 64) (b : Rewritten ups own slots e t t′ (replicate 4 0) changed) (n : r ≡ countBelow 256 (member changed)) where
   module _ (D : Declarations) (T U : Ties) (edit : EditedAt ups own slots e D T U) (room : Room D (length ups)) (was : KeepsSets (length ups) t D T) where
     now : KeepsSets (length ups) t′ D U
     now = b .right D T U edit room was
@@ -235,8 +235,8 @@ module _ (ups own slots : List ℕ) (e : ℕ) (t t′ changed : List ℕ) (r : �
     counted : r ≡ changes D T U
     unfolding changes differs holderNumbersOf countBelow anyBelow
     counted =
-        n ∙ count-ext 1024 (member changed) (unlike t t′) (λ k l. b .told (edit .kept .distinct) .marks k ∙ ap (λ (x : Bool). x || unlike t t′ k) (no-numbers k))
-        ∙ count-rest (length (D .holders)) 1024 (unlike t t′) (le-trans (model.room-length D (length ups) room) few) (λ k l h. unlike-none k l)
+        n ∙ count-ext 256 (member changed) (unlike t t′) (λ k l. b .told (edit .kept .distinct) .marks k ∙ ap (λ (x : Bool). x || unlike t t′ k) (no-numbers k))
+        ∙ count-rest (length (D .holders)) 256 (unlike t t′) (le-trans (model.room-length D (length ups) room) few) (λ k l h. unlike-none k l)
         ∙ count-ext (length (D .holders)) (unlike t t′) (differs D T U) (λ k l. unlike-differs k (lt-of-lt-of-le l (model.room-length D (length ups) room)))
 
   pub refreshed : Refreshed ups own slots e t t′ r
@@ -249,5 +249,5 @@ module _ (ups own slots : List ℕ) (e : ℕ) (t t′ changed : List ℕ) (r : �
           counted D T U edit room sets,
         );
     elsewhere = b .elsewhere;
-    at-most = omega (arith, n, count-below-le 1024 (member changed));
+    at-most = omega (arith, n, count-below-le 256 (member changed));
   }

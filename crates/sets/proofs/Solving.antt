@@ -1,11 +1,11 @@
 -- The specification's effective sets solve the sentence over the arrays that keep the ties. Assumes nothing.
-use Prim.Native.Nat.{ℕ, zero, suc, _*_, _/_, _%_, _^_, _≤_, _<_}
+use Prim.Native.Nat.{ℕ, zero, suc, _*_, _/_, _^_, _≤_, _<_}
 use mathlib.Core.Path.{_≡_, refl, sym, ap, ap₂, _∙_, subst}
-use mathlib.Core.Bool.{Bool, true, false, not, _&&_, _||_, true≢false}
+use mathlib.Core.Bool.{Bool, true, false, not, _&&_, _||_, or-false, true≢false}
 use mathlib.Core.List.{List}
-use native.Mathlib.Decide.{decLt}
+use native.Mathlib.Decide.{ℕ-discrete, decLt}
 use native.Mathlib.Omega.{arith}
-use lib.ListN.{length, getD, replicate, getD-replicate}
+use lib.ListN.{length, getD}
 use Rattle.model.specs.Notation.{any, below}
 use Rattle.model.specs.Declarations.{Declarations, holderNumbersOf}
 use Rattle.model.specs.Ties.{Ties, up}
@@ -19,13 +19,14 @@ use Rattle.model.proofs.Chains.{acyclic-depth}
 use Rattle.model.proofs.Effective.{effective-equation}
 use Rattle.model.specs.Standing.{Standing}
 use Rattle.model.proofs.Standing.{among, holders-fit, room-length, length-room}
-use Rattle.bits.specs.Bits.{bit, member, holds, anyBelow}
-use Rattle.bits.proofs.Bits.{bit-none, bit-not}
-use Rattle.ties.specs.TieArrays.{tied, isGroup, groupOf, KeepsTies, Room}
+use Rattle.bits.specs.Bits.{member, holds, anyBelow}
+use Rattle.bits.proofs.Bits.{bit-none}
+use Rattle.bits.proofs.Walks.{none-left}
+use Rattle.ties.specs.TieArrays.{tied, isGroup, KeepsTies, Room}
 use Rattle.ties.proofs.Masks.{in-use-lt}
 use Rattle.bits.proofs.Counts.{any-find, find-any}
-use Rattle.ties.proofs.Keeps.{up-slot, slot-up, group-slot, slot-group, group-any}
-use Rattle.sets.specs.Settled.{Solves, RightAt, Right, ShortChains, Settled, AllDeep, GroupsRight, NoGroups, StoredEach}
+use Rattle.ties.proofs.Keeps.{up-slot, slot-up, group-slot, slot-group}
+use Rattle.sets.specs.Settled.{Solves, RightAt, Right, ShortChains, Settled, AllDeep, GroupsRight, NoGroups, StoredEach, StoredTied}
 use Rattle.sets.specs.Filled.{KeepsSets, Filled}
 use Rattle.sets.proofs.Parts.{holds-kept}
 use Rattle.sets.proofs.Tables.{sets-table}
@@ -122,28 +123,36 @@ each-right {ups} {own} {slots} {wanted} {t₁} {t₂} {m₁} {m₂} f g e s r b 
         ∙ subst (λ (i : ℕ). holds t₁ i p ≡ f i p) (m .3) (r (m .0) (m .1) (m .2) p h)
     go false q p h = b .right f s r none k few (e k ∙ ap₂ (λ (a b : Bool). a && not b) on q) p h
 
--- the set of all numbers below 1,024
-pub all-numbers : (k : ℕ) → k < 1024 → member (replicate 16 18446744073709551615) k ≡ true
-unfolding member
-all-numbers k h =
-    ap (λ (w : ℕ). bit w (k % 64)) (getD-replicate 16 (k / 64) 18446744073709551615 0 (omega arith))
-    ∙ bit-not 64 0 (k % 64) (omega arith) (omega arith) ∙ ap not (bit-none (k % 64))
+-- a holder with no tie up has its own pairs
+untied-right : (ups own slots t : List ℕ) (f : ℕ → ℕ → Bool) → Solves ups own slots f → (k : ℕ) → k < length ups → getD ups k 0 ≡ 0 → ((j : ℕ) → j / 4 ≡ k → getD t j 0 ≡ getD own j 0)
+    → RightAt f t k
+unfolding RightAt tied
+untied-right ups own slots t f s k few none same p h =
+    holds-kept own t k p h same ∙ sym (or-false (holds own k p))
+    ∙ ap (λ (b : Bool). holds own k p || b) (sym (none-left (getD ups k 0) 64 (λ q. f (getD slots q 0) p) none)) ∙ sym (s .sentence k p few h)
 
--- the groups, and then the others
-module _ (ups own slots wanted t t₁ t₂ m m₁ m₂ : List ℕ) (d₁ : ℕ) (few : length ups ≤ 1024) (tall : length t₂ ≡ 4 * length ups) (fit : (j : ℕ) → getD t₂ j 0 < 2 ^ 64)
-    (a : Settled ups own slots t t₁ m m₁ 0 d₁ (AllDeep ups slots) (λ g. g < 64)) (b : StoredEach ups own slots wanted t₁ t₂ m₁ m₂ (length ups))
-    (e : (k : ℕ) → member wanted k ≡ (member (replicate 16 18446744073709551615) k && not (groupOf (length ups) slots 18446744073709551615 k))) where
-  all-slots : (k : ℕ) → member wanted k ≡ (member (replicate 16 18446744073709551615) k && not (isGroup (length ups) slots k))
-  all-slots k =
-      e k ∙ ap (λ (b : Bool). member (replicate 16 18446744073709551615) k && not b)
-      (group-any (length ups) slots 18446744073709551615 k (λ q l u at. bit-not 64 0 q (omega arith) l ∙ ap not (bit-none q)))
+-- own pairs, then the groups, and then the holders that have a tie
+module _ (ups own slots t t₁ t₂ m m₁ : List ℕ) (d₁ : ℕ) (few : length ups ≤ 256) (tall : length t₂ ≡ 4 * length ups) (fit : (j : ℕ) → getD t₂ j 0 < 2 ^ 64)
+    (copied : (j : ℕ) → getD t j 0 ≡ getD own j 0)
+    (a : Settled ups own slots t t₁ m m₁ 0 d₁ (AllDeep ups slots) (λ g. g < 64)) (b : StoredTied ups own slots t₁ t₂ (length ups)) where
+  module _ (f : ℕ → ℕ → Bool) (s : Solves ups own slots f) (r : GroupsRight (length ups) slots f t₁) (k : ℕ) (l : k < length ups) where
+    before-ties : getD ups k 0 ≡ 0 → (g : Bool) → isGroup (length ups) slots k ≡ g → RightAt f t₁ k
+    unfolding GroupsRight
+    before-ties none true y = let q = group-slot (length ups) slots k y in subst (RightAt f t₁) (q .3) (r (q .0) (q .1) (q .2))
+    before-ties none false y =
+        untied-right ups own slots t₁ f s k l none
+        (λ j at. a .others j (λ q low u off on x. true≢false (sym (slot-group (length ups) slots q low u) ∙ ap (isGroup (length ups) slots) (sym x ∙ at) ∙ y)) ∙ copied j)
+
+    each-holder : Dec (getD ups k 0 ≡ 0) → RightAt f t₂ k
+    each-holder (yes e) = b .stays f s r k (before-ties e (isGroup (length ups) slots k) refl)
+    each-holder (no n) = b .right f s r k l n
 
   all-right : (D : Declarations) (T : Ties) → Standing (record { declared = D; ties = T }) → KeepsTies ups own slots T → Room D (length ups) → KeepsSets (length ups) t₂ D T
   unfolding KeepsSets RightAt
   all-right D T standing kept room k p h l =
       let s = effective-solves ups own slots D T standing kept in
       let r = groups-right (effectiveSet D T) a s (right-none (length ups) slots (effectiveSet D T) t) (all-deep ups own slots D T standing kept room) in
-      each-right (effectiveSet D T) (member (replicate 16 18446744073709551615)) all-slots s r b k h (all-numbers k (omega arith)) p l
+      each-holder (effectiveSet D T) s r k h (ℕ-discrete (getD ups k 0) 0) p l
 
   pub filled : Filled ups own slots t₂
   filled = record {

@@ -4,7 +4,7 @@ use mathlib.Core.Path.{_≡_}
 use mathlib.Core.Bool.{Bool, true, false, not, _&&_, _||_, Bool·beq}
 use mathlib.Core.List.{List}
 use lib.ListN.{getD, length}
-use Rattle.model.specs.Limits.{groupLimit, pairLimit, wordBits}
+use Rattle.model.specs.Limits.{groupLimit, pairLimit, holderNumbers, wordBits}
 use Rattle.bits.specs.Bits.{bit, member, holds, anyBelow}
 use Rattle.ties.specs.TieArrays.{inUse, tied, Distinct}
 
@@ -14,9 +14,9 @@ pub record Shaped (ups own slots t : List ℕ) : Type 0 where
   pub slots-long : length slots ≡ groupLimit
   pub table-long : length t ≡ 4 * length ups
 
--- the words of the sets of holders that a call makes for itself: room for 1,024 holders
+-- the words of the sets of holders that a call makes for itself: room for document 01's number of holders
 abbrev pub markWords : ℕ
-markWords = 16
+markWords = holderNumbers / wordBits
 
 -- a set of holders with room for those of the arrays, and not too long to be walked over
 pub record Marked (ups marks : List ℕ) : Type 0 where
@@ -96,3 +96,8 @@ pub record StoredEach (ups own slots wanted t t′ m m′ : List ℕ) (n : ℕ) 
       → (k : ℕ) → k < n → member wanted k ≡ true → RightAt f t′ k
   pub others : (j : ℕ) → (member wanted (j / 4) ≡ true → j / 4 < n → ⊥) → getD t′ j 0 ≡ getD t j 0
   pub told : MarksChanged m m′ t t′
+
+-- the holders below n that have a tie up are stored, from groups that were right, and what was right stays so
+pub record StoredTied (ups own slots t t′ : List ℕ) (n : ℕ) : Type 0 where
+  pub right : (f : ℕ → ℕ → Bool) → Solves ups own slots f → GroupsRight (length ups) slots f t → (k : ℕ) → k < n → (getD ups k 0 ≡ 0 → ⊥) → RightAt f t′ k
+  pub stays : (f : ℕ → ℕ → Bool) → Solves ups own slots f → GroupsRight (length ups) slots f t → (k : ℕ) → RightAt f t k → RightAt f t′ k

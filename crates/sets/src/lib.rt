@@ -1,16 +1,16 @@
 // The kept table: every holder's effective set in four words, filled from the book's arrays and refreshed after an edit.
 ghost use mathlib.Core.Path.{_≡_};
 ghost use mathlib.Core.Bool.{_||_, _&&_};
-ghost use Prim.Native.Nat.{_*_, _%_, _<_, _≤_};
+ghost use Prim.Native.Nat.{ℕ, _*_, _%_, _<_, _≤_};
 ghost use lib.ListN.{length, getD};
 ghost use Rattle.model.specs.Limits.{groupLimit};
 ghost use Rattle.bits.specs.Bits.{bit, member, holds, differ, Numbers, anyBelow};
-ghost use Rattle.sets.specs.Settled.{markWords, Shaped, Marked, unlike, MarksChanged, Stored, Settled, Deep, Spared, AllDeep, StoredEach};
+ghost use Rattle.sets.specs.Settled.{markWords, Shaped, Marked, unlike, MarksChanged, Stored, Settled, Deep, Spared, AllDeep, StoredEach, StoredTied};
 ghost use Rattle.sets.specs.Filled.{Filled};
 ghost use Rattle.sets.specs.Refreshed.{Rewritten, Refreshed};
 
-// A bit for each holder, of which there may be 1,024.
-const MARK_WORDS: usize = 16;
+// A bit for each holder, of which there are at most 256.
+const MARK_WORDS: usize = 4;
 
 // Rewrites one set, which is lent by its four words: its own pairs, joined with those that it inherits. Tells whether it changed.
 fn rewrite(set: &mut [u64], own: &[u64], inherited: [u64; 4]) -> bool
@@ -171,16 +171,39 @@ fn store_each(
     }
 }
 
-// Fills the table: every holder's set, each once, a group's after those above it.
+// Every holder's own pairs as its set.
+fn copy_own(table: &mut [u64], own: &[u64])
+    requires { ⌜ length (now own) ≡ length (now table) ⌝ }
+    ensures { λ _. ⌜ ((j : ℕ) → getD (now (table .exit)) j 0 ≡ getD (now (own .entry)) j 0) ⌝ }
+{
+    for j in 0..table.len() {
+        table[j] = own[j];
+    }
+}
+
+// Stores the holders that have a tie up, once the groups' sets are right. A group's is stored once more, as it is.
+fn store_tied(table: &mut [u64], own: &[u64], ups: &[u64], slots: &[u64])
+    requires { ⌜ Shaped (now ups) (now own) (now slots) (now table) ⌝ }
+    ensures { λ _. ⌜ StoredTied (now (ups .entry)) (now (own .entry)) (now (slots .entry)) (now (table .entry)) (now (table .exit)) (length (now (ups .entry))) ⌝ }
+{
+    for k in 0..ups.len() {
+        let up = ups[k];
+        if up != 0 {
+            store(table, own, slots, k, up);
+        }
+    }
+}
+
+// Fills the table: every holder's set, a group's after those above it. Who has no tie up has its own pairs, and most numbers have no holder at all:
+// these are copied in one go.
 pub fn fill(table: &mut [u64], own: &[u64], ups: &[u64], slots: &[u64])
     requires { ⌜ Shaped (now ups) (now own) (now slots) (now table) × (length (now ups) ≤ 64 * markWords) ⌝ }
     ensures { λ _. ⌜ Filled (now (ups .entry)) (now (own .entry)) (now (slots .entry)) (now (table .exit)) ⌝ }
 {
+    copy_own(table, own);
     let mut marks = [0u64; MARK_WORDS];
-    let mut parties = [18446744073709551615u64; MARK_WORDS];
-    ties::drop_groups(&mut parties, slots, 18446744073709551615, ups.len());
     settle_groups(table, &mut marks, own, ups, slots, 0);
-    store_each(table, &mut marks, own, ups, slots, &parties);
+    store_tied(table, own, ups, slots);
 }
 
 // Rewrites the set of holder `edited` and those of the holders below it, each once and no other, a group's after those above it, and marks
@@ -196,12 +219,12 @@ fn rewrite_below(
     requires { ⌜ Shaped (now ups) (now own) (now slots) (now table) × (length (now ups) ≤ 64 * length (now marks)) × (length (now ups) ≤ 64 * markWords) ⌝ }
     ensures { λ _. ⌜ Rewritten (now (ups .entry)) (now (own .entry)) (now (slots .entry)) edited (now (table .entry)) (now (table .exit)) (now (marks .entry)) (now (marks .exit)) ⌝ }
 {
-    let below = ties::groups_below(ups, slots, edited);
-    if below == 0 {
+    if !ties::is_group(slots, edited, ups.len()) {
         let up = ties::ties_up(ups, edited);
         store_marked(table, marks, own, slots, edited, up);
         return;
     }
+    let below = ties::groups_below(ups, slots, edited);
     let mut parties = [0u64; MARK_WORDS];
     ties::holders_below(&mut parties, ups, below, edited);
     ties::drop_groups(&mut parties, slots, below, ups.len());

@@ -1,5 +1,6 @@
 pub mod Masks
 pub mod Keeps
+pub mod Climbing
 pub mod Widening
 pub mod Below
 pub mod Editing

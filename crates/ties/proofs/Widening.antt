@@ -1,8 +1,8 @@
 -- A mask that is widened until nothing is new has just the groups below a holder. Assumes nothing.
 use Prim.Native.Nat.{ℕ, _+_, _-_, _^_, _≤_, _<_}
-use mathlib.Core.Path.{_≡_, refl, sym, ap, _∙_}
+use mathlib.Core.Path.{_≡_, refl, sym, ap, _∙_, subst}
 use mathlib.Core.Logic.{_⊎_, inl, inr, ⊎-elim}
-use mathlib.Core.Bool.{Bool, true, false, not, _&&_, _||_, or-false, true≢false, and-true, and-false}
+use mathlib.Core.Bool.{Bool, true, false, not, _&&_, _||_, or-false, true≢false, and-true}
 use mathlib.Core.List.{List}
 use native.Mathlib.Decide.{ℕ-discrete, decLt}
 use native.Mathlib.Omega.{arith}
@@ -12,9 +12,10 @@ use borrow.Author.Tests.{eq-eqb, eqb-true, ne-eqb, lt-ltb, le-ltb, not-true}
 use Rattle.model.proofs.Options.{parts, both}
 use Rattle.model.proofs.Lists.{same-truth, true-or-false, or-cases, or-left, or-right, count-more, below-in}
 use Rattle.bits.specs.Bits.{bit, anyBelow, countBelow}
-use Rattle.bits.proofs.Bits.{bit-none, bit-not, bit-high, bit-ext}
+use Rattle.bits.proofs.Bits.{bit-none, bit-high, bit-ext}
 use Rattle.bits.proofs.Counts.{any-none, any-find, find-any}
-use Rattle.ties.specs.TieArrays.{inUse, tied, meets, under, Under, here, over, Marks}
+use Rattle.ties.specs.TieArrays.{inUse, tied, meets, isGroup, under, Under, here, over, AllUnder, Marks, Widened}
+use Rattle.ties.proofs.Keeps.{slot-group}
 
 -- ---- a turn of a loop that marks the numbers that pass
 
@@ -37,46 +38,6 @@ turn-off d i k off = go (ℕ-discrete i k) (decLt i k)
 pub or-regroup : (a b c : Bool) → (a || b || c) ≡ (a || (b || c))
 or-regroup true b c = refl
 or-regroup false b c = refl
-
--- ---- a turn of a walk over the bits that m does not have: those of `left` are left, and v is `left` without q
-
-module _ (m left v q : ℕ) (d : ℕ → Bool) (rest : (j : ℕ) → bit v j ≡ (bit left j && not (eqb j q))) where
-  still-left : (x : ℕ) → (x ≡ q → ⊥) → bit v x ≡ bit left x
-  still-left x n = rest x ∙ ap (λ (b : Bool). bit left x && not b) (ne-eqb x q n) ∙ and-true (bit left x)
-
-  passed : bit v q ≡ false
-  passed = rest q ∙ ap (λ (b : Bool). bit left q && not b) (eq-eqb q q refl) ∙ and-false (bit left q)
-
-  pub walk-on : d q ≡ true → (x : ℕ) → (bit m x || not (bit left x) && d x || eqb x q) ≡ (bit m x || not (bit v x) && d x)
-  walk-on on x = go (ℕ-discrete x q)
-    where
-      go : Dec (x ≡ q) → (bit m x || not (bit left x) && d x || eqb x q) ≡ (bit m x || not (bit v x) && d x)
-      go (yes e) =
-          or-right (bit m x || not (bit left x) && d x) (eqb x q) (eq-eqb x q e)
-          ∙ sym (or-right (bit m x) (not (bit v x) && d x) (both (ap (λ (i : ℕ). not (bit v i)) e ∙ ap not passed) (ap d e ∙ on)))
-      go (no n) =
-          ap (λ (b : Bool). bit m x || not (bit left x) && d x || b) (ne-eqb x q n) ∙ or-false (bit m x || not (bit left x) && d x)
-          ∙ ap (λ (b : Bool). bit m x || not b && d x) (sym (still-left x n))
-
-  pub walk-off : d q ≡ false → (x : ℕ) → (bit m x || not (bit left x) && d x) ≡ (bit m x || not (bit v x) && d x)
-  walk-off off x = go (ℕ-discrete x q)
-    where
-      go : Dec (x ≡ q) → (bit m x || not (bit left x) && d x) ≡ (bit m x || not (bit v x) && d x)
-      go (yes e) =
-          let none : d x ≡ false = ap d e ∙ off in
-          ap (λ (b : Bool). bit m x || b) (ap (λ (b : Bool). not (bit left x) && b) none ∙ and-false (not (bit left x)) ∙ sym (ap (λ (b : Bool). not (bit v x) && b) none ∙ and-false (not (bit v x))))
-      go (no n) = ap (λ (b : Bool). bit m x || not b && d x) (sym (still-left x n))
-
--- at the start those of m are passed, and at the end all are
-pub walk-start : (m x : ℕ) (b : Bool) → m < 2 ^ 64 → x < 64 → bit m x ≡ (bit m x || not (bit (2 ^ 64 - 1 - m) x) && b)
-walk-start m x b fit l = sym (ap (λ (c : Bool). bit m x || not c && b) (bit-not 64 m x fit l) ∙ same (bit m x))
-  where
-    same : (a : Bool) → (a || not (not a) && b) ≡ a
-    same true = refl
-    same false = refl
-
-pub walk-end : (m left x : ℕ) (b : Bool) → left ≡ 0 → (bit m x || not (bit left x) && b) ≡ (bit m x || b)
-walk-end m left x b e = ap (λ (c : Bool). bit m x || not c && b) (ap (λ (w : ℕ). bit w x) e ∙ bit-none x)
 
 -- ---- masks that grow
 
@@ -116,17 +77,10 @@ grows-more m m′ f f′ g n = go (anyBelow 64 new) refl
 -- ---- the mask that is widened
 
 module _ (ups slots : List ℕ) (e : ℕ) where
-  -- the slots of m, and those whose groups are e, or have a tie up to a group of m
-  abbrev pub Widened : ℕ → ℕ → Type 0
-  Widened m next = (q : ℕ) → q < 64 → bit next q ≡ (bit m q || inUse (length ups) slots q && under ups m e (getD slots q 0))
-
-  pub widened-grows : (m next : ℕ) → Widened m next → Grows m next
-  widened-grows m next a q l on = a q l ∙ or-left (bit m q) (inUse (length ups) slots q && under ups m e (getD slots q 0)) on
-
-  pub none-sound : (q : ℕ) → q < 64 → bit 0 q ≡ true → Under ups slots e q
+  pub none-sound : AllUnder ups slots e 0
   none-sound q l on = absurd (true≢false (sym on ∙ bit-none q))
 
-  joins-sound : (m : ℕ) → ((q : ℕ) → q < 64 → bit m q ≡ true → Under ups slots e q) → (q : ℕ) → (inUse (length ups) slots q && under ups m e (getD slots q 0)) ≡ true → Under ups slots e q
+  joins-sound : (m : ℕ) → AllUnder ups slots e m → (q : ℕ) → (inUse (length ups) slots q && under ups m e (getD slots q 0)) ≡ true → Under ups slots e q
   unfolding under meets tied
   joins-sound m sound q on =
       let k : ℕ = getD slots q 0 in
@@ -138,18 +92,80 @@ module _ (ups slots : List ℕ) (e : ℕ) where
       over (s .0) (r .1) (z .0) (sound (r .0) (r .1) (z .1)))
       (or-cases (eqb k e) (meets (getD ups k 0) m) (s .1))
 
-  pub widened-sound : (m next : ℕ) → ((q : ℕ) → q < 64 → bit m q ≡ true → Under ups slots e q) → Widened m next → (q : ℕ) → q < 64 → bit next q ≡ true → Under ups slots e q
-  widened-sound m next sound a q l on =
-      ⊎-elim (sound q l) (joins-sound m sound q) (or-cases (bit m q) (inUse (length ups) slots q && under ups m e (getD slots q 0)) (sym (a q l) ∙ on))
+  -- what is under a mask is under one that has grown
+  under-grows : (m next k : ℕ) → Grows m next → under ups m e k ≡ true → under ups next e k ≡ true
+  unfolding under meets
+  under-grows m next k grows on = ⊎-elim (or-left (eqb k e) (meets (getD ups k 0) next))
+      (λ y.
+      let r = any-find 64 (λ r. bit (getD ups k 0) r && bit m r) y in
+      let z = parts (bit (getD ups k 0) (r .0)) (bit m (r .0)) (r .2) in
+      or-right (eqb k e) (meets (getD ups k 0) next) (find-any 64 (λ r. bit (getD ups k 0) r && bit next r) (r .0) (r .1) (both (z .0) (grows (r .0) (r .1) (z .1)))))
+      (or-cases (eqb k e) (meets (getD ups k 0) m) on)
+
+  -- a walk over the slots: those of `left` are left, the others are taken where they are to be
+  pub record Passed (m next : ℕ) (left : ℕ → Bool) : Type 0 where
+    pub grows : Grows m next
+    pub sound : AllUnder ups slots e m → AllUnder ups slots e next
+    pub takes : (q : ℕ) → q < 64 → left q ≡ false → inUse (length ups) slots q ≡ true → under ups m e (getD slots q 0) ≡ true → bit next q ≡ true
+
+  -- at the start those are left that m does not have
+  pub pass-start : (m : ℕ) (left : ℕ → Bool) → ((q : ℕ) → q < 64 → left q ≡ false → bit m q ≡ true) → Passed m m left
+  pass-start m left most = record { grows = λ q l on. on; sound = λ all. all; takes = λ q l off u y. most q l off }
+
+  pub pass-end : {m next : ℕ} {left : ℕ → Bool} → Passed m next left → ((q : ℕ) → q < 64 → left q ≡ false) → Widened ups slots e m next
+  pass-end p none = record { grows = p .grows; sound = p .sound; takes = λ q l. p .takes q l (none q l) }
+
+  -- one walk after another
+  pub widened-more : {m up next : ℕ} → Widened ups slots e m up → Widened ups slots e up next → Widened ups slots e m next
+  widened-more a b = record {
+    grows = λ q l on. b .grows q l (a .grows q l on);
+    sound = λ all. b .sound (a .sound all);
+    takes = λ q l u y. b .grows q l (a .takes q l u y);
+  }
+
+  -- slot q is looked at, and v is `left` without it
+  module _ {m next : ℕ} {left : ℕ → Bool} (p : Passed m next left) (v : ℕ → Bool) (q : ℕ) (rest : (j : ℕ) → v j ≡ (left j && not (eqb j q))) where
+    now-or-before : (j : ℕ) → v j ≡ false → (j ≡ q) ⊎ (left j ≡ false)
+    now-or-before j off = go (ℕ-discrete j q)
+      where
+        go : Dec (j ≡ q) → (j ≡ q) ⊎ (left j ≡ false)
+        go (yes y) = inl y
+        go (no n) = inr (sym (and-true (left j)) ∙ ap (λ (b : Bool). left j && not b) (sym (ne-eqb j q n)) ∙ sym (rest j) ∙ off)
+
+    pub pass-on : (next′ : ℕ) → ((j : ℕ) → bit next′ j ≡ (bit next j || eqb j q)) → (inUse (length ups) slots q && under ups next e (getD slots q 0)) ≡ true → Passed m next′ v
+    pass-on next′ with on = record {
+      grows = λ j l y. with j ∙ or-left (bit next j) (eqb j q) (p .grows j l y);
+      sound = λ all j l y. ⊎-elim (p .sound all j l)
+          (λ z. subst (Under ups slots e) (sym (eqb-true j q z)) (joins-sound next (p .sound all) q on)) (or-cases (bit next j) (eqb j q) (sym (with j) ∙ y));
+      takes = λ j l off u y. ⊎-elim
+          (λ z. with j ∙ or-right (bit next j) (eqb j q) (eq-eqb j q z))
+          (λ z. with j ∙ or-left (bit next j) (eqb j q) (p .takes j l z u y)) (now-or-before j off);
+    }
+
+    pub pass-off : (inUse (length ups) slots q && under ups next e (getD slots q 0)) ≡ false → Passed m next v
+    pass-off none = record {
+      grows = p .grows;
+      sound = p .sound;
+      takes = λ j l off u y. ⊎-elim
+          (λ z. absurd (true≢false (sym (both (ap (inUse (length ups) slots) (sym z) ∙ u) (under-grows m next (getD slots q 0) (p .grows) (ap (λ (x : ℕ). under ups m e (getD slots x 0)) (sym z) ∙ y))) ∙ none)))
+          (λ z. p .takes j l z u y) (now-or-before j off);
+    }
 
   -- a mask that does not grow has them all
-  closed-complete : (m : ℕ) → Widened m m → {q : ℕ} → Under ups slots e q → q < 64 → bit m q ≡ true
+  closed-complete : (m : ℕ) → Widened ups slots e m m → {q : ℕ} → Under ups slots e q → q < 64 → bit m q ≡ true
   unfolding under meets tied
-  closed-complete m w {q} (here u at) l = w q l ∙ or-right (bit m q) (inUse (length ups) slots q && under ups m e (getD slots q 0)) (both u (or-left (eqb (getD slots q 0) e) (meets (getD ups (getD slots q 0) 0) m) (eq-eqb (getD slots q 0) e at)))
+  closed-complete m w {q} (here u at) l = w .takes q l u (or-left (eqb (getD slots q 0) e) (meets (getD ups (getD slots q 0) 0) m) (eq-eqb (getD slots q 0) e at))
   closed-complete m w {q} (over {r = r} u low on c) l =
-      w q l
-      ∙ or-right (bit m q) (inUse (length ups) slots q && under ups m e (getD slots q 0)) (both u (or-right (eqb (getD slots q 0) e) (meets (getD ups (getD slots q 0) 0) m)
-      (find-any 64 (λ r. bit (getD ups (getD slots q 0) 0) r && bit m r) r low (both on (closed-complete m w c low)))))
+      w .takes q l u (or-right (eqb (getD slots q 0) e) (meets (getD ups (getD slots q 0) 0) m)
+      (find-any 64 (λ r. bit (getD ups (getD slots q 0) 0) r && bit m r) r low (both on (closed-complete m w c low))))
 
-  pub marks : (m next : ℕ) → next ≡ m → ((q : ℕ) → q < 64 → bit m q ≡ true → Under ups slots e q) → Widened m next → Marks ups slots e m
-  marks m next same sound w = record { sound = sound; complete = λ q l c. closed-complete m (λ q l. ap (λ (x : ℕ). bit x q) (sym same) ∙ w q l) c l }
+  pub marks : (m next : ℕ) → next ≡ m → AllUnder ups slots e m → Widened ups slots e m next → Marks ups slots e m
+  marks m next same sound w = record { sound = sound; complete = λ q l c. closed-complete m (subst (Widened ups slots e m) same w) c l }
+
+  -- no group is below a user or an object
+  under-group : {q : ℕ} → Under ups slots e q → q < 64 → isGroup (length ups) slots e ≡ true
+  under-group {q} (here u at) l = ap (isGroup (length ups) slots) (sym at) ∙ slot-group (length ups) slots q l u
+  under-group (over u low on c) l = under-group c low
+
+  pub none-below : isGroup (length ups) slots e ≡ false → Marks ups slots e 0
+  none-below none = record { sound = none-sound; complete = λ q l c. absurd (true≢false (sym (under-group c l) ∙ none)) }

@@ -1,8 +1,8 @@
 -- Ties in arrays. A group has a slot, and `slots` gives the holder number of each; a holder's ties up are a mask over slots, in `ups`; its own
 -- pairs are four words, in `own`. The number of holders is that of the words of `ups`. Assumes nothing: these are definitions.
-use Prim.Native.Nat.{ℕ, _≤_, _<_}
+use Prim.Native.Nat.{ℕ, _<_}
 use mathlib.Core.Path.{_≡_}
-use mathlib.Core.Bool.{Bool, true, _&&_, _||_}
+use mathlib.Core.Bool.{Bool, true, false, _&&_, _||_}
 use mathlib.Core.List.{List}
 use lib.Dec.{eqb, ltb}
 use lib.ListN.{getD, length}
@@ -52,14 +52,35 @@ pub data Under (ups slots : List ℕ) (e : ℕ) : ℕ → Type 0 where
   here : {q : ℕ} → inUse (length ups) slots q ≡ true → getD slots q 0 ≡ e → Under ups slots e q
   over : {q r : ℕ} → inUse (length ups) slots q ≡ true → r < groupLimit → tied ups (getD slots q 0) r ≡ true → Under ups slots e r → Under ups slots e q
 
+-- the slots of the mask m are all of such groups
+abbrev pub AllUnder : List ℕ → List ℕ → ℕ → ℕ → Type 0
+AllUnder ups slots e m = (q : ℕ) → q < groupLimit → bit m q ≡ true → Under ups slots e q
+
 -- the mask m has the slots of just those groups
 pub record Marks (ups slots : List ℕ) (e m : ℕ) : Type 0 where
-  pub sound : (q : ℕ) → q < groupLimit → bit m q ≡ true → Under ups slots e q
+  pub sound : AllUnder ups slots e m
   pub complete : (q : ℕ) → q < groupLimit → Under ups slots e q → bit m q ≡ true
+
+-- a chain of ties leads from holder k up to the group of slot q
+pub data Above (ups slots : List ℕ) : ℕ → ℕ → Type 0 where
+  next : {k q : ℕ} → q < groupLimit → tied ups k q ≡ true → Above ups slots k q
+  far : {k r q : ℕ} → r < groupLimit → tied ups k r ≡ true → Above ups slots (getD slots r 0) q → Above ups slots k q
+
+-- r tells whether a chain of ties leads from holder k up to holder e
+pub record LeadsTo (ups slots : List ℕ) (k e : ℕ) (r : Bool) : Type 0 where
+  pub leads : r ≡ true → (q : ℕ) × Above ups slots k q × (getD slots q 0 ≡ e)
+  pub none : r ≡ false → (q : ℕ) → Above ups slots k q → getD slots q 0 ≡ e → ⊥
 
 -- holder k is e, or one tie leads from it up to a group of the mask m
 unfoldable pub under : List ℕ → ℕ → ℕ → ℕ → Bool
 under ups m e k = eqb k e || meets (getD ups k 0) m
+
+-- from the mask m to r: no slot is lost; where all slots of m are of groups that are e or below it, so are those of r; and every group that is e, or has a
+-- tie up to a group of m, has its slot in r
+pub record Widened (ups slots : List ℕ) (e m r : ℕ) : Type 0 where
+  pub grows : (q : ℕ) → q < groupLimit → bit m q ≡ true → bit r q ≡ true
+  pub sound : AllUnder ups slots e m → AllUnder ups slots e r
+  pub takes : (q : ℕ) → q < groupLimit → inUse (length ups) slots q ≡ true → under ups m e (getD slots q 0) ≡ true → bit r q ≡ true
 
 -- "parent tie that closes a circle, itself included", for every standing state that the arrays keep, with room for its holders
 unfoldable pub ClosesCircle : List ℕ → List ℕ → ℕ → ℕ → Bool → Type 0

@@ -5,8 +5,8 @@ ghost use Prim.Native.Nat.{ℕ, _+_, _*_, _<_, _≤_};
 ghost use lib.Dec.{eqb, ltb};
 ghost use lib.ListN.{length, getD};
 ghost use Rattle.model.specs.Limits.{groupLimit, pairLimit};
-ghost use Rattle.bits.specs.Bits.{bit, member};
-ghost use Rattle.ties.specs.TieArrays.{inUse, meets, groupOf, under, Marks, ClosesCircle};
+ghost use Rattle.bits.specs.Bits.{bit, member, anyBelow};
+ghost use Rattle.ties.specs.TieArrays.{inUse, meets, isGroup, groupOf, under, Marks, Widened, LeadsTo, ClosesCircle};
 ghost use Rattle.ties.specs.TieEdits.{AddedUp, TakenUp, AddedValue, TakenValue, SlotGiven};
 
 fn wide(s: u64) -> usize
@@ -33,6 +33,31 @@ pub fn in_use(slots: &[u64], q: usize, n: usize) -> bool
         return false;
     }
     k < n
+}
+
+// Whether a slot has the holder number k. The loop goes over all slots, so that the compiler can compare several at a time.
+fn any_slot(slots: &[u64], k: usize) -> bool
+    ensures { λ r. ⌜ r ≡ anyBelow (length (now (slots .entry))) (λ q. eqb (getD (now (slots .entry)) q 0) k) ⌝ }
+{
+    let mut found = false;
+    for q in 0..slots.len() {
+        found = found | (holder_at(slots, q) == k);
+    }
+    found
+}
+
+// Whether holder k is a group, among n holders.
+pub fn is_group(slots: &[u64], k: usize, n: usize) -> bool
+    requires { ⌜ length (now slots) ≡ groupLimit ⌝ }
+    ensures { λ r. ⌜ r ≡ isGroup n (now (slots .entry)) k ⌝ }
+{
+    if k == 0 {
+        return false;
+    }
+    if k >= n {
+        return false;
+    }
+    any_slot(slots, k)
 }
 
 // Holder k's ties up: none where there is no such holder.
@@ -99,21 +124,50 @@ fn joins(ups: &[u64], slots: &[u64], m: u64, e: usize, q: usize) -> bool
     is_under(ups, m, e, k)
 }
 
-// The mask m with the slots of such groups: those that are not in it yet are looked at.
+// The mask m with the slots of such groups: those that are not in it yet are looked at, each against what is in it by then, so that a chain of
+// groups that were declared from the top down is taken at once.
 fn widened(ups: &[u64], slots: &[u64], m: u64, e: usize) -> u64
     requires { ⌜ length (now slots) ≡ groupLimit ⌝ }
-    ensures { λ r. ⌜ ((q : ℕ) → q < groupLimit → bit r q ≡ (bit m q || inUse (length (now (ups .entry))) (now (slots .entry)) q && under (now (ups .entry)) m e (getD (now (slots .entry)) q 0))) ⌝ }
+    ensures { λ r. ⌜ Widened (now (ups .entry)) (now (slots .entry)) e m r ⌝ }
 {
     let mut next = m;
     let mut left = !m;
     while left != 0 {
         let q = bits::lowest(left);
-        if joins(ups, slots, m, e, q) {
+        if joins(ups, slots, next, e, q) {
             next = bits::with(next, q);
         }
         left = bits::without(left, q);
     }
     next
+}
+
+// The same from the highest slot down, which takes a chain of groups that were declared from the bottom up at once.
+fn widened_down(ups: &[u64], slots: &[u64], m: u64, e: usize) -> u64
+    requires { ⌜ length (now slots) ≡ groupLimit ⌝ }
+    ensures { λ r. ⌜ Widened (now (ups .entry)) (now (slots .entry)) e m r ⌝ }
+{
+    let mut next = m;
+    let mut q = slots.len();
+    while q > 0 {
+        q -= 1;
+        if joins(ups, slots, next, e, q) {
+            next = bits::with(next, q);
+        }
+    }
+    next
+}
+
+// The same from the lowest slot up, and from the highest down only if that found any.
+fn widened_both_ways(ups: &[u64], slots: &[u64], m: u64, e: usize) -> u64
+    requires { ⌜ length (now slots) ≡ groupLimit ⌝ }
+    ensures { λ r. ⌜ Widened (now (ups .entry)) (now (slots .entry)) e m r ⌝ }
+{
+    let up = widened(ups, slots, m, e);
+    if up == m {
+        return up;
+    }
+    widened_down(ups, slots, up, e)
 }
 
 // The slots of holder e, if it is a group, and of the groups below it: the mask is widened until nothing is new.
@@ -125,7 +179,7 @@ pub fn groups_below(ups: &[u64], slots: &[u64], e: usize) -> u64
     let mut next = widened(ups, slots, 0, e);
     while next != m {
         m = next;
-        next = widened(ups, slots, m, e);
+        next = widened_both_ways(ups, slots, m, e);
     }
     m
 }
@@ -142,13 +196,42 @@ pub fn holders_below(set: &mut [u64], ups: &[u64], m: u64, e: usize)
     }
 }
 
-// Whether a tie from holder `child` up to holder `group` closes a circle: `group` is `child`, or below it.
+// The slots that a walk has left: those of either mask that are not done.
+fn still_left(left: u64, up: u64, done: u64) -> u64
+    ensures { λ r. ⌜ ((q : ℕ) → q < groupLimit → bit r q ≡ ((bit left q || bit up q) && not (bit done q))) ⌝ }
+{
+    (left | up) & !done
+}
+
+// Whether a chain of ties leads from holder k up to holder e: each group above k is looked at once, until e is found or none is left.
+fn leads_up(ups: &[u64], slots: &[u64], k: usize, e: usize) -> bool
+    requires { ⌜ length (now slots) ≡ groupLimit ⌝ }
+    ensures { λ r. ⌜ LeadsTo (now (ups .entry)) (now (slots .entry)) k e r ⌝ }
+{
+    let mut done: u64 = 0;
+    let mut left = ties_up(ups, k);
+    while left != 0 {
+        let q = bits::lowest(left);
+        let h = holder_at(slots, q);
+        if h == e {
+            return true;
+        }
+        let up = ties_up(ups, h);
+        done = bits::with(done, q);
+        left = still_left(left, up, done);
+    }
+    false
+}
+
+// Whether a tie from holder `child` up to holder `group` closes a circle: `child` is `group`, or above it.
 pub fn closes_circle(ups: &[u64], slots: &[u64], child: usize, group: usize) -> bool
     requires { ⌜ length (now slots) ≡ groupLimit ⌝ }
     ensures { λ r. ⌜ ClosesCircle (now (ups .entry)) (now (slots .entry)) child group r ⌝ }
 {
-    let m = groups_below(ups, slots, child);
-    is_under(ups, m, child, group)
+    if child == group {
+        return true;
+    }
+    leads_up(ups, slots, group, child)
 }
 
 // Holder h gets a tie up to the group of slot q.

@@ -1,13 +1,14 @@
 -- `sets::rewrite_below` meets its contract: one set, or the groups and then the other holders. Assumes nothing.
-use mathlib.Core.Path.{subst}
-use Rattle.ties.specs.TieArrays.{Marks}
+use mathlib.Core.Path.{sym, _∙_}
+use borrow.Author.Tests.{not-true}
+use Rattle.ties.proofs.Widening.{none-below}
 use Rattle.sets.proofs.Refreshing.{rewritten-alone, rewritten}
 use borrow.Author.Needs.{needs}
 use Rattle.sets.proofs.rewrite_below.Statement.{statement}
 use Rattle.sets.proofs.rewrite_below.Tie as tie
 
-groups-below-requires : tie.Need-groups-below-requires
-groups-below-requires c κs = search needs
+is-group-requires : tie.Need-is-group-requires
+is-group-requires c κs = search needs
 
 ties-up-requires : tie.Need-ties-up-requires
 ties-up-requires c κs = search needs
@@ -24,12 +25,15 @@ same-length-2 c = search needs
 returns : tie.Need-returns
 returns c =
     let start = c .before .before .before .before .before .before .before .before .before .before .before .before .before .before .before in
-    let below = c .before .before .before .before .before .before .before .before .before .groups-below in
+    let group = c .before .before .before .before .before .before .before .before .before .is-group in
     let stored = c .before .before .before .before .store-marked in
     let up = c .before .before .before .before .before .before .before .ties-up in
     rewritten-alone (start .args .ups .now) (start .args .own .now) (start .args .slots .now) (start .args .edited) (up .result) (start .args .table .now) (stored .last .0)
-    (start .args .marks .now) (stored .last .1 .0) (subst (Marks (start .args .ups .now) (start .args .slots .now) (start .args .edited)) (c .before .before .before .before .before .before .before .before .if1 .taken) (below .ensures))
+    (start .args .marks .now) (stored .last .1 .0) (none-below (start .args .ups .now) (start .args .slots .now) (start .args .edited) (sym (group .ensures) ∙ not-true (group .result) (c .before .before .before .before .before .before .before .before .if1 .taken)))
     (start .pre .0 .table-long) (up .ensures) (stored .ensures .0) (stored .ensures .1)
+
+groups-below-requires : tie.Need-groups-below-requires
+groups-below-requires c κs = search needs
 
 slice-aggregate-holders-below : tie.Need-slice-aggregate-holders-below
 slice-aggregate-holders-below c = search needs
@@ -60,8 +64,8 @@ same-length-4 c = search needs
 
 returns-2 : tie.Need-returns-2
 returns-2 c =
-    let start = c .before .before .before .before .before .before .before .before .before .before .before .before .before .before .before .before .before .before .before .before .before .before .before .before .before .before .before .before in
-    let below = c .before .before .before .before .before .before .before .before .before .before .before .before .before .before .before .before .before .before .before .before .before .before .groups-below in
+    let start = c .before .before .before .before .before .before .before .before .before .before .before .before .before .before .before .before .before .before .before .before .before .before .before .before .before .before .before .before .before in
+    let below = c .before .before .before .before .before .before .before .before .before .before .before .before .before .before .before .before .before .before .before .before .before .groups-below in
     let holders = c .before .before .before .before .before .before .before .before .before .before .before .before .before .before .before .before .before .before .before .holders-below in
     let dropped = c .before .before .before .before .before .before .before .before .before .before .before .before .before .before .before .before .drop-groups in
     let settled = c .before .before .before .before .before .before .before .before .before .before .before .before .settle-groups in
@@ -74,12 +78,13 @@ pub rewrite-below-spec : {M : Type 1} → statement M
 rewrite-below-spec =
     tie.close
     (tie.spec
-    groups-below-requires
+    is-group-requires
     ties-up-requires
     store-marked-requires
     same-length
     same-length-2
     returns
+    groups-below-requires
     slice-aggregate-holders-below
     holders-below-requires
     slice-aggregate-drop-groups
