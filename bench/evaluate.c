@@ -7,7 +7,7 @@
 #include <time.h>
 
 extern uint8_t zhul_time_judge(const uint8_t *policy, size_t policy_length, const uint64_t *attributes, uint8_t *code);
-extern bool zhul_time_open(const uint64_t *attributes, const uint64_t *table, size_t user, size_t object, uint32_t mask, uint64_t *session);
+extern bool zhul_time_open(const uint64_t *attributes, const uint64_t *table, size_t user, size_t object, uint32_t mask, size_t count, uint64_t *session);
 extern uint8_t zhul_time_evaluate(const uint8_t *code, const uint64_t *attributes, const uint64_t *pairs, const uint64_t *session,
                                   const uint8_t *entries, size_t entries_length);
 
@@ -54,7 +54,7 @@ static void valley(void) {
     for (int k = 0; k < 6; k++) table[4 * k] = sets[k];
 }
 
-static uint8_t open_session(void) { return zhul_time_open(attributes, table, 4, 5, 3, session); }
+static uint8_t open_session(void) { return zhul_time_open(attributes, table, 4, 5, 3, 5, session); }
 static uint8_t judge(void) { return zhul_time_judge((const uint8_t *)policy, strlen(policy), attributes, code); }
 static uint8_t evaluate(void) { return zhul_time_evaluate(code, attributes, pairs, session, entries, sizeof entries); }
 

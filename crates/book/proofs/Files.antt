@@ -1,17 +1,17 @@
 -- A file as its lines one after another: the first line, the length of a line, and a turn of reading on. Assumes nothing.
 use Prim.Native.Nat.{ℕ, suc, _+_, _-_, _≤_, _<_}
-use mathlib.Core.Path.{_≡_, refl, sym, ap, subst, _∙_}
+use mathlib.Core.Path.{_≡_, refl, sym, ap, ap₂, subst, _∙_}
 use mathlib.Core.Bool.{Bool, true, false, not}
-use mathlib.Core.List.{List, [], _∷_, _++_, append-assoc, append-nil}
-use mathlib.Core.Option.{Option, none, some, Option·some-injective}
+use mathlib.Core.List.{List, [], _∷_, _++_, append-assoc}
+use mathlib.Core.Option.{Option, none, some}
 use native.Mathlib.Omega.{arith}
-use lib.Dec.{eqb, ltb}
+use lib.Dec.{eqb}
 use lib.ListN.{length, take, drop, length-append, length-drop, take-append-drop}
-use lib.Seq.{take-at, drop-at, drop-drop, take-all, length-take-le}
+use lib.Seq.{take-at, drop-drop, take-all, length-take-le}
 use borrow.Author.Tests.{eqb-true, eq-eqb, ne-eqb, lt-ltb, le-ltb, not-true, not-false}
 use Rattle.model.specs.Notation.{if_then_else_, _>>=_, isNone}
 use Rattle.model.specs.Limits.{fileBytes}
-use Rattle.model.specs.Bytes.{Bytes, bytes, newline, cut, begun, linesOf, behind, same}
+use Rattle.model.specs.Bytes.{Bytes, newline, cut, begun, linesOf, behind, same}
 use Rattle.model.specs.Keys.{Key}
 use Rattle.model.specs.Lines.{Line, readLine}
 use Rattle.model.specs.State.{State, empty}
@@ -20,7 +20,7 @@ use Rattle.model.specs.Load.{Loaded, refusedAt, stepped, keyOf, readOn, otherLi
 use Rattle.model.specs.Standing.{Standing}
 use Rattle.model.proofs.Words.{none-is-some, same-eq}
 use Rattle.model.proofs.Options.{is-there, bind-some, fields}
-use Rattle.model.proofs.Cuts.{behind-parts, behind-joined, cut-parts}
+use Rattle.model.proofs.Cuts.{lacks, behind-parts, behind-joined, cut-joined, cut-parts}
 use Rattle.model.proofs.Loads.{firstLine}
 use Rattle.model.proofs.Ledger.{accepted-line}
 use Rattle.model.proofs.Standing.{empty-standing, after-standing}
@@ -114,21 +114,40 @@ uncut-lines x (y ∷ ys) e =
     first-of : (b : Bool) → b ≡ false → (if b then (x ∷ []) ∷ linesOf (y ∷ ys) else begun x (linesOf (y ∷ ys))) ≡ begun x (linesOf (y ∷ ys))
     first-of b f = rw f
 
+-- byte 10 behind bytes without it
+ended-first : (l : Bytes) (i : ℕ) → length l ≡ i → lacks newline l ≡ true → FirstAt newline (l ++ newline ∷ []) i
+ended-first l i size free =
+    let long : length (l ++ newline ∷ []) ≡ i + 1 = length-append l (newline ∷ []) ∙ omega arith in
+    record {
+      within = omega arith;
+      found = λ h.
+          cut-joined newline l [] free
+          ∙ ap₂ (λ (a b : Bytes). some (a, b)) (sym (take-at l (newline ∷ []) i size)) (sym (done (l ++ newline ∷ []) (i + 1) (omega arith)));
+      absent = λ h. absurd (omega arith);
+    }
+
 module _ (s : Bytes) (i : ℕ) (first : FirstAt 10 s i) where
-  pub line-ended : i < length s → FirstLine s (i + 1)
+  pub line-ended : i < length s → FirstLine s i (i + 1)
   line-ended h =
       let found = first .found h in
       let (free, whole) = cut-parts newline s found in
-      let size : length (take i s ++ newline ∷ []) ≡ i + 1 = length-append (take i s) (newline ∷ []) ∙ omega (arith, length-take-le i s (omega arith)) in
+      let fore : length (take i s) ≡ i = length-take-le i s (omega arith) in
+      let size : length (take i s ++ newline ∷ []) ≡ i + 1 = length-append (take i s) (newline ∷ []) ∙ omega arith in
       let split : s ≡ (take i s ++ newline ∷ []) ++ drop (i + 1) s = whole ∙ sym (append-assoc (take i s) (newline ∷ []) (drop (i + 1) s)) in
       let front : take (i + 1) s ≡ take i s ++ newline ∷ [] = ap (take (i + 1)) split ∙ take-at (take i s ++ newline ∷ []) (drop (i + 1) s) (i + 1) size in
       record {
         within = omega arith;
+        ended = subst (λ (l : Bytes). FirstAt newline l i) (sym front) (ended-first (take i s) i fore free);
         lines = λ l. (omega arith, cut-lines s (take i s) (drop (i + 1) s) found ∙ ap (λ (m : Bytes). m ∷ linesOf (drop (i + 1) s)) (sym front));
       }
 
-  pub line-unended : length s ≤ i → FirstLine s i
-  line-unended h = record { within = first .within; lines = λ l. (omega arith, go s (first .absent h) (omega (arith, first .within)) l) }
+  pub line-unended : length s ≤ i → FirstLine s i i
+  line-unended h =
+      record {
+        within = first .within;
+        ended = subst (λ (l : Bytes). FirstAt newline l i) (sym (take-all i s h)) first;
+        lines = λ l. (omega arith, go s (first .absent h) (omega (arith, first .within)) l);
+      }
     where
       go : (t : Bytes) → cut newline t ≡ none → length t ≡ i → 0 < length t → linesOf t ≡ take i t ∷ linesOf (drop i t)
       go [] e z l = absurd (omega arith)
@@ -166,7 +185,7 @@ module _ {answer : Loaded} {book : List ℕ} {code : Bytes} {previous n : ℕ} {
         holds = λ z. subst (λ (a : Loaded). Holds book code (a .state)) (sym last) (on .held);
       }
 
-  module _ (r : ℕ) (first : FirstLine rest r) (some-left : 0 < length rest) (book′ : List ℕ) (code′ : Bytes) (number key : ℕ)
+  module _ {end : ℕ} (r : ℕ) (first : FirstLine rest end r) (some-left : 0 < length rest) (book′ : List ℕ) (code′ : Bytes) (number key : ℕ)
       (read : LineRead book code (take r rest) previous book′ code′ number key) where
     told : (number ≡ lineRefusal (on .state) (on .key) (take r rest))
         × (number ≡ 0 → Holds book′ code′ (stepped (on .state) (readLine (take r rest))) × (key ≡ coded keyCode (keyOf (take r rest))))
@@ -202,15 +221,20 @@ module _ {answer : Loaded} {book : List ℕ} {code : Bytes} {previous n : ℕ} {
         }
 
 -- the same at a place of the bytes, with the parts that the code lends
-module _ (answer : Loaded) (book : List ℕ) (code : Bytes) (previous n at r : ℕ) (rest : Bytes) (first : FirstLine (take (length rest - at) (drop at rest)) r)
+module _ (answer : Loaded) (book : List ℕ) (code : Bytes) (previous n at : ℕ) {end : ℕ} (r : ℕ) (rest : Bytes) (first : FirstLine (take (length rest - at) (drop at rest)) end r)
     (inside : at < length rest) where
-  from-here : FirstLine (drop at rest) r
-  from-here = subst (λ (s : Bytes). FirstLine s r) (tail-part at rest) first
+  from-here : FirstLine (drop at rest) end r
+  from-here = subst (λ (s : Bytes). FirstLine s end r) (tail-part at rest) first
 
   pub turn-within : (0 < r) × (at + r ≤ length rest)
   turn-within =
       let l = length-drop at rest in
       (from-here .lines (omega arith) .0, omega (arith, from-here .within))
+
+  pub turn-ended : FirstAt newline (take (at + r - at) (drop at rest)) end
+  turn-ended =
+      let e : r ≡ at + r - at = omega arith in
+      subst (λ (k : ℕ). FirstAt newline (take k (drop at rest)) end) e (from-here .ended)
 
   module _ (on : Onward answer book code previous n (drop at rest)) (book′ : List ℕ) (code′ : Bytes) (number key line : ℕ)
       (read : LineRead book code (take (at + r - at) (drop at rest)) previous book′ code′ number key) (counted : line ≡ n + 1) where

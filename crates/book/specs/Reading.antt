@@ -7,7 +7,7 @@ use mathlib.Core.Option.{Option, none, some}
 use lib.Dec.{eqb, leb}
 use lib.ListN.{length, take, drop, set}
 use Rattle.model.specs.Limits.{operationLimit, ruleLimit}
-use Rattle.model.specs.Bytes.{Bytes, linesOf}
+use Rattle.model.specs.Bytes.{Bytes, newline, linesOf}
 use Rattle.model.specs.Tokens.{Token, tokensOf}
 use Rattle.model.specs.Keys.{Key}
 use Rattle.model.specs.Lines.{Line, attr, op, atom, holder, parent, member, value, rule, readTwo, readHolder, readFields, readLine}
@@ -18,6 +18,7 @@ use Rattle.model.specs.Refusals.{Test, _if_, first, lineRefusal}
 use Rattle.model.specs.Load.{Loaded, stepped, keyOf, readOn}
 use Rattle.model.specs.Standing.{WellDeclared, Standing}
 use Rattle.codes.specs.Codes.{coded, keyCode}
+use Rattle.text.specs.Parts.{FirstAt}
 use Rattle.rows.specs.Rows.{AttributeRows}
 use Rattle.tokens.specs.RuleCode.{Coded}
 use Rattle.policy.specs.Judgements.{judged}
@@ -107,9 +108,10 @@ LineRead book code line previous book′ code′ number key =
 
 -- ---- files
 
--- r bytes at the front of s are its first line, with its byte 10 where it has one
-pub record FirstLine (s : Bytes) (r : ℕ) : Type 0 where
+-- r bytes at the front of s are its first line, with its byte 10 where it has one, at `end`
+pub record FirstLine (s : Bytes) (end r : ℕ) : Type 0 where
   pub within : r ≤ length s
+  pub ended : FirstAt newline (take r s) end
   pub lines : 0 < length s → (0 < r) × (linesOf s ≡ take r s ∷ linesOf (drop r s))
 
 -- the number and the line of an answer; where the number is 0, the book holds its state

@@ -30,15 +30,24 @@ fn begins(file: &[u8]) -> bool
     text::same(&file[..FIRST], b"rights=1\n")
 }
 
-// The length of the first line, with its byte 10 where it has one.
-fn line_length(s: &[u8]) -> usize
-    ensures { λ r. ⌜ FirstLine (now (s .entry)) r ⌝ }
+// A line: the place of its byte 10, or of its end where it has none, and its length with that byte.
+struct Span {
+    end: usize,
+    length: usize,
+}
+
+// The first line.
+fn first_line(s: &[u8]) -> Span
+    ensures { λ r. ⌜ FirstLine (now (s .entry)) (r .end) (r .length) ⌝ }
 {
-    let i = text::index_of(s, b'\n');
-    if i < s.len() {
-        return i + 1;
+    let end = text::index_of(s, b'\n');
+    if end < s.len() {
+        return Span {
+            end,
+            length: end + 1,
+        };
     }
-    i
+    Span { end, length: end }
 }
 
 // The lines behind the first, until one is refused.
@@ -50,8 +59,9 @@ fn others(book: &mut [u64], code: &mut [u8], rest: &[u8]) -> Loaded
     let mut n: u32 = 1;
     let mut previous: u8 = 0;
     while at < rest.len() {
-        let next = at + line_length(&rest[at..]);
-        let answer = crate::line::read(book, code, &rest[at..next], previous);
+        let first = first_line(&rest[at..]);
+        let next = at + first.length;
+        let answer = crate::line::read(book, code, &rest[at..next], first.end, previous);
         n += 1;
         if answer.number != 0 {
             return Loaded {

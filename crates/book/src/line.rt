@@ -3,9 +3,11 @@ ghost use mathlib.Core.Path.{_≡_};
 ghost use Prim.Native.Nat.{_≤_, _<_};
 ghost use lib.ListN.{length};
 ghost use Rattle.model.specs.Limits.{lineBytes};
+ghost use Rattle.model.specs.Bytes.{newline};
 ghost use Rattle.model.specs.Keys.{Key};
 ghost use Rattle.model.specs.Lines.{readAttr, readOp, readPair, readValue};
 ghost use Rattle.codes.specs.Codes.{keyCode};
+ghost use Rattle.text.specs.Parts.{FirstAt};
 ghost use Rattle.book.specs.Sections.{bookWords, ruleBytes};
 ghost use Rattle.book.specs.TieSteps.{tieBy};
 ghost use Rattle.book.specs.Reading.{KeyRead, TieAdded, TwoRead, HolderRead, KeyFields, FieldsOf, LineRead};
@@ -165,12 +167,12 @@ fn step(book: &mut [u64], code: &mut [u8], key: u8, f: &[u8]) -> u8
     two(book, key, f)
 }
 
-// A line of a file, given with its byte 10, behind one whose key has the code `previous`: 0 for none.
-pub fn read(book: &mut [u64], code: &mut [u8], line: &[u8], previous: u8) -> Answer
-    requires { ⌜ (length (now book) ≡ bookWords) × (length (now code) ≡ ruleBytes) ⌝ }
+// A line of a file, given with its byte 10, which stands first at `end`, behind one whose key has the code `previous`: 0 for none.
+pub fn read(book: &mut [u64], code: &mut [u8], line: &[u8], end: usize, previous: u8) -> Answer
+    requires { ⌜ (length (now book) ≡ bookWords) × (length (now code) ≡ ruleBytes) × FirstAt newline (now line) end ⌝ }
     ensures { λ r. ⌜ LineRead (now (book .entry)) (now (code .entry)) (now (line .entry)) previous (now (book .exit)) (now (code .exit)) (r .number) (r .key) ⌝ }
 {
-    let framed = fields::frame(line);
+    let framed = fields::frame_at(line, end);
     let key = framed.key;
     if key == 0 {
         return Answer { number: 4, key: 0 };
@@ -179,7 +181,7 @@ pub fn read(book: &mut [u64], code: &mut [u8], line: &[u8], previous: u8) -> Ans
         return Answer { number: 5, key };
     }
     let start = framed.start;
-    let end = framed.end;
-    let number = step(book, code, key, &line[start..end]);
+    let stop = framed.end;
+    let number = step(book, code, key, &line[start..stop]);
     Answer { number, key }
 }

@@ -6,7 +6,7 @@ use mathlib.Core.Bool.{Bool, true, false}
 use mathlib.Core.List.{List, [], _∷_}
 use mathlib.Core.Option.{Option, none, some}
 use lib.Dec.{eqb}
-use lib.ListN.{length, getD, take, drop}
+use lib.ListN.{length, getD, take, drop, replicate}
 use Rattle.model.specs.Notation.{if_then_else_, _is_, isNone}
 use Rattle.model.specs.Bytes.{Bytes}
 use Rattle.model.specs.State.{State}
@@ -17,66 +17,81 @@ use Rattle.model.specs.Refusals.{_if_, first, badBlock, wrongNumber, notHeld, r
 use Rattle.model.proofs.Table.{table-length}
 use Rattle.model.specs.Decision as model
 use Rattle.model.specs.Decision.{verdicts, judged}
-use Rattle.rows.specs.Rows.{AttributeRows}
-use Rattle.session.specs.Opened.{SessionOf, Opened}
-use Rattle.session.specs.Words.{OpenedWords, unheldWords}
-use Rattle.session.proofs.Opens.{opens}
+use Rattle.session.specs.Opened.{SessionOf}
+use Rattle.session.specs.Words.{OpenedFirst, unheldWords}
+use Rattle.session.proofs.Opens.{zeros-hold, opens}
 use Rattle.session.proofs.Activated.{unheld-so}
 use Rattle.book.specs.Sections as section
 use Rattle.book.specs.Sections.{part}
 use Rattle.book.specs.Held.{Holds}
 use Rattle.engine.specs.declared.Decision.{Decision}
-use Rattle.engine.specs.Requests.{pairRows, WrongNumber, RulesOf, RequestOf}
+use Rattle.engine.specs.Requests.{pairRows, WrongNumber, RequestOf}
 use Rattle.engine.specs.Decisions.{decisionOf, Decided, Answered}
 use Rattle.engine.proofs.Blocks.{headed, not-read, is-read, head-of}
 use Rattle.engine.proofs.Books.{numbers-of, request-of}
 
 -- ---- a request with no wrong number
 
-module _ {S : State} {b : Block} {operations : List ℕ} {code : Bytes} {attributes pairs table : List ℕ} {block entries : Bytes} {count : ℕ}
-    (of : RequestOf S b operations code attributes pairs table block entries count)
-    (session : List ℕ) (user object mask : ℕ) (user-is : user ≡ getD block 1 0) (object-is : object ≡ getD block 2 0) (mask-is : mask ≡ valueAt block 4)
-    (opened : OpenedWords attributes table user object mask session) where
-  mask-so : mask ≡ b .mask
-  mask-so = mask-is ∙ sym (head-of block b (of .read) .mask)
-
+module _ {S : State} {b : Block} {counts operations : List ℕ} {code : Bytes} {attributes pairs table : List ℕ} {block entries : Bytes}
+    (of : RequestOf S b counts operations code attributes pairs table block entries)
+    (user mask : ℕ) (user-is : user ≡ getD block 1 0) (mask-is : mask ≡ valueAt block 4) where
   user-so : user ≡ b .user
   user-so = user-is ∙ sym (head-of block b (of .read) .user)
 
-  object-so : object ≡ b .object
-  object-so = object-is ∙ sym (head-of block b (of .read) .object)
+  mask-so : mask ≡ b .mask
+  mask-so = mask-is ∙ sym (head-of block b (of .read) .mask)
 
-  opened-words : OpenedWords attributes table (b .user) (b .object) (b .mask) session
-  opened-words =
-      subst (λ (m : ℕ). OpenedWords attributes table (b .user) (b .object) m session) mask-so
-      (subst (λ (o : ℕ). OpenedWords attributes table (b .user) o mask session) object-so
-      (subst (λ (u : ℕ). OpenedWords attributes table u object mask session) user-so opened))
-
-  session-of : SessionOf S b attributes pairs session entries
-  session-of = record {
-    declarations = of .declarations;
-    attribute-rows = of .attribute-rows;
-    pair-rows = of .pair-rows;
-    opened = opens S b attributes table session (of .attribute-rows) (of .sets) opened-words;
-    entries-of = of .entries-of;
-  }
-
-  held-so : (r : Bool) → r ≡ unheldWords attributes session mask → notHeld S b ≡ r
-  held-so r e = sym (unheld-so S b attributes pairs session entries session-of) ∙ ap (unheldWords attributes session) (sym mask-so) ∙ sym e
+  held-so : (r : Bool) → r ≡ unheldWords attributes table user mask → notHeld S b ≡ r
+  held-so r e =
+      sym (unheld-so S b attributes pairs table (of .declarations) (of .attribute-rows) (of .pair-rows) (of .sets .user-set))
+      ∙ sym (ap₂ (unheldWords attributes table) user-so mask-so)
+      ∙ sym e
 
   abbrev Answer : model.Decision → Type 0
   Answer d = d ≡ (if notHeld S b then model.refused 17 else model.decided (verdicts S b))
 
-  pub not-held : (r : Bool) → r ≡ unheldWords attributes session mask → r ≡ true → Answer (model.refused 17)
+  pub not-held : (r : Bool) → r ≡ unheldWords attributes table user mask → r ≡ true → Answer (model.refused 17)
   not-held r e on = sym (ap (λ (t : Bool). if t then model.refused 17 else model.decided (verdicts S b)) (held-so r e ∙ on))
 
-  pub by-rules : (r : Bool) → r ≡ unheldWords attributes session mask → r ≡ false → (operation : ℕ) → operation ≡ getD block 3 0
-      → (d : Decision) → Decided operations code attributes pairs session entries operation count d → Answer (decisionOf d)
-  by-rules r e off operation f d g =
-      g S b
-      (record { operation-is = head-of block b (of .read) .operation ∙ sym f; rule-rows = of .rule-rows; session-of = session-of })
-      (of .rule-count)
-      ∙ sym (ap (λ (t : Bool). if t then model.refused 17 else model.decided (verdicts S b)) (held-so r e ∙ off))
+  -- the session that is opened, where zeros stood
+  module _ (object : ℕ) (object-is : object ≡ getD block 2 0) (declared : ℕ) (declared-is : getD counts 0 0 ≤ 32 → declared ≡ getD counts 0 0)
+      (session : List ℕ) (opened : OpenedFirst attributes table user object mask declared (replicate 128 0) session) where
+    object-so : object ≡ b .object
+    object-so = object-is ∙ sym (head-of block b (of .read) .object)
+
+    declared-so : length (S .declared .attributes) ≡ declared
+    declared-so =
+        let attributes : getD counts 0 0 ≡ length (S .declared .attributes) = of .counts-are .attributes in
+        sym attributes ∙ sym (declared-is (omega (arith, of .attribute-rows .within)))
+
+    opened-words : OpenedFirst attributes table (b .user) (b .object) (b .mask) declared (replicate 128 0) session
+    opened-words =
+        subst (λ (m : ℕ). OpenedFirst attributes table (b .user) (b .object) m declared (replicate 128 0) session) mask-so
+        (subst (λ (o : ℕ). OpenedFirst attributes table (b .user) o mask declared (replicate 128 0) session) object-so
+        (subst (λ (u : ℕ). OpenedFirst attributes table u object mask declared (replicate 128 0) session) user-so opened))
+
+    session-of : SessionOf S b attributes pairs session entries
+    session-of = record {
+      declarations = of .declarations;
+      attribute-rows = of .attribute-rows;
+      pair-rows = of .pair-rows;
+      opened = opens S b attributes table (replicate 128 0) session declared (of .attribute-rows) (of .sets) declared-so (zeros-hold 128) opened-words;
+      entries-of = of .entries-of;
+    }
+
+    rules-so : (rules : ℕ) → (getD counts 5 0 ≤ 32 → rules ≡ getD counts 5 0) → length (S .declared .rules) ≡ rules
+    rules-so rules e =
+        let all : getD counts 5 0 ≡ length (S .declared .rules) = of .counts-are .rules in
+        sym all ∙ sym (e (omega (arith, of .declarations .rules .few)))
+
+    pub by-rules : (r : Bool) → r ≡ unheldWords attributes table user mask → r ≡ false
+        → (rules : ℕ) → (getD counts 5 0 ≤ 32 → rules ≡ getD counts 5 0) → (operation : ℕ) → operation ≡ getD block 3 0
+        → (d : Decision) → Decided operations code attributes pairs session entries operation rules d → Answer (decisionOf d)
+    by-rules r e off rules w operation f d g =
+        g S b
+        (record { operation-is = head-of block b (of .read) .operation ∙ sym f; rule-rows = of .rule-rows; session-of = session-of })
+        (rules-so rules w)
+        ∙ sym (ap (λ (t : Bool). if t then model.refused 17 else model.decided (verdicts S b)) (held-so r e ∙ off))
 
 -- ---- a request
 
@@ -128,11 +143,10 @@ module _ {S : State} {book : List ℕ} {code : Bytes} (standing : Standing S) (h
   pub refuses-numbers : w ≡ true → model.refused 16 ≡ model.decide S block
   refuses-numbers e = wrong S block b read (sym e ∙ told-so)
 
-  pub answers : w ≡ false → (t : List ℕ) → t ≡ table (S .declared) (S .ties)
-      → (n : ℕ) → (getD (part section.counts book) 5 0 ≤ 32 → n ≡ getD (part section.counts book) 5 0)
-      → (d : Decision) → Answered (part section.rules book) code (part section.attributes book) (part pairRows book) t block (take (length block - 10) (drop 10 block)) n d
+  pub answers : w ≡ false → (t : List ℕ) → t ≡ table (S .declared) (S .ties) → (d : Decision)
+      → Answered (part section.counts book) (part section.rules book) code (part section.attributes book) (part pairRows book) t block (take (length block - 10) (drop 10 block)) d
       → decisionOf d ≡ model.decide S block
-  answers e t f n count d g = g S b (request-of standing holds block b read bytes t f n count) ∙ right S block b read (sym e ∙ told-so)
+  answers e t f d g = g S b (request-of standing holds block b read bytes t f) ∙ right S block b read (sym e ∙ told-so)
 
 pub stands-long : (S : State) {t : List ℕ} → t ≡ table (S .declared) (S .ties) → length t ≡ 1024
 stands-long S e = ap length e ∙ table-length (S .declared) (S .ties)

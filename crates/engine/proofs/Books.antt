@@ -110,20 +110,18 @@ module _ {S : State} {book : List ℕ} {code : Bytes} (standing : Standing S) (h
     entries-of = entries-behind block b read bytes;
   }
 
-  pub request-of : (t : List ℕ) → t ≡ table (S .declared) (S .ties) → (n : ℕ) → (getD (part section.counts book) 5 0 ≤ 32 → n ≡ getD (part section.counts book) 5 0)
-      → RequestOf S b (part section.rules book) code (part section.attributes book) (part pairRows book) t block (take (length block - 10) (drop 10 block)) n
-  request-of t e n count =
+  pub request-of : (t : List ℕ) → t ≡ table (S .declared) (S .ties)
+      → RequestOf S b (part section.counts book) (part section.rules book) code (part section.attributes book) (part pairRows book) t block (take (length block - 10) (drop 10 block))
+  request-of t e =
       let head = head-of block b read in
       let well = standing .declarations in
-      let rules : getD (part section.counts book) 5 0 ≡ length (S .declared .rules) = holds .counts .rules in
-      let few : getD (part section.counts book) 5 0 ≤ 32 = omega (arith, well .rules .few) in
       record {
         read = read;
+        counts-are = holds .counts;
         declarations = well;
         attribute-rows = holds .attributes;
         pair-rows = pair-rows book (S .declared) well (holds .pairs);
         rule-rows = holds .rules;
-        rule-count = sym rules ∙ sym (count few);
         sets = sets-of standing t e b (omega (arith, head .user, bytes 1)) (omega (arith, head .object, bytes 2));
         entries-of = entries-behind block b read bytes;
       }

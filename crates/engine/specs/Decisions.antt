@@ -35,9 +35,9 @@ Decided operations code attributes pairs session entries operation count r =
     → decisionOf r ≡ model.decided (model.verdicts S b)
 
 -- r is what a request with no wrong number is answered
-abbrev pub Answered : List ℕ → Bytes → List ℕ → List ℕ → List ℕ → Bytes → Bytes → ℕ → Decision → Type 0
-Answered operations code attributes pairs table block entries count r =
-    (S : State) (b : Block) → RequestOf S b operations code attributes pairs table block entries count
+abbrev pub Answered : List ℕ → List ℕ → Bytes → List ℕ → List ℕ → List ℕ → Bytes → Bytes → Decision → Type 0
+Answered counts operations code attributes pairs table block entries r =
+    (S : State) (b : Block) → RequestOf S b counts operations code attributes pairs table block entries
     → decisionOf r ≡ (if notHeld S b then model.refused 17 else model.decided (model.verdicts S b))
 
 -- r is what a request is answered: by the host's number on a table of another length, and as the document says on a book and a table that stand

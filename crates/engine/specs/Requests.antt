@@ -81,12 +81,12 @@ RuleValued operations code attributes pairs session entries operation k r =
     → truthOf r ≡ ruleValue S b k
 
 -- what is lent for a request, of a state and a block
-pub record RequestOf (S : State) (b : Block) (operations : List ℕ) (code : Bytes) (attributes pairs table : List ℕ) (block entries : Bytes) (count : ℕ) : Type 0 where
+pub record RequestOf (S : State) (b : Block) (counts operations : List ℕ) (code : Bytes) (attributes pairs table : List ℕ) (block entries : Bytes) : Type 0 where
   pub read : readBlock block ≡ some b
+  pub counts-are : CountsOf counts (S .declared)
   pub declarations : WellDeclared (S .declared)
   pub attribute-rows : AttributeRows attributes (S .declared)
   pub pair-rows : PairRows pairs (S .declared)
   pub rule-rows : RuleRows operations code (S .declared)
-  pub rule-count : length (S .declared .rules) ≡ count
   pub sets : SetsOf S b table
   pub entries-of : EntriesOf b entries

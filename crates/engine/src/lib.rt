@@ -199,20 +199,19 @@ fn decided(
     Decision::Deny
 }
 
-// How many rules there are; no more than have room, on any words.
-fn rule_count(counts: &[u64]) -> usize
-    requires { ⌜ length (now counts) ≡ 8 ⌝ }
-    ensures { λ r. ⌜ (r ≤ 32) × (getD (now (counts .entry)) 5 0 ≤ 32 → r ≡ getD (now (counts .entry)) 5 0) ⌝ }
+// A number of rules or attributes; no more than have room, on any words.
+fn in_room(n: u64) -> usize
+    ensures { λ r. ⌜ (r ≤ 32) × (n ≤ 32 → r ≡ n) ⌝ }
 {
-    let n = counts[5];
     if n <= 32 {
         return n as usize;
     }
     32
 }
 
-// A request with no wrong number: 17, or what its rules come to. They read the session that is opened for it.
+// A request with no wrong number: 17, or what its rules come to. They read the session that is opened for it, of the declared attributes.
 fn answered(
+    counts: &[u64],
     operations: &[u64],
     code: &[u8],
     attributes: &[u64],
@@ -220,19 +219,28 @@ fn answered(
     table: &[u64],
     block: &[u8],
     entries: &[u8],
-    count: usize,
 ) -> Decision
-    requires { ⌜ Sizes (now operations) (now code) (now attributes) (now pairs) × (10 ≤ length (now block)) × (count ≤ 32) ⌝ }
-    ensures { λ r. ⌜ Answered (now (operations .entry)) (now (code .entry)) (now (attributes .entry)) (now (pairs .entry)) (now (table .entry)) (now (block .entry)) (now (entries .entry)) count r ⌝ }
+    requires { ⌜ (length (now counts) ≡ 8) × Sizes (now operations) (now code) (now attributes) (now pairs) × (10 ≤ length (now block)) ⌝ }
+    ensures { λ r. ⌜ Answered (now (counts .entry)) (now (operations .entry)) (now (code .entry)) (now (attributes .entry)) (now (pairs .entry)) (now (table .entry)) (now (block .entry)) (now (entries .entry)) r ⌝ }
 {
     let user = wide(block[1]);
-    let object = wide(block[2]);
     let mask = values::four(block, 4) as u32;
-    let mut session: [u64; 128] = [0; 128];
-    session::open(attributes, table, user, object, mask, &mut session);
-    if session::unheld(attributes, &session, mask) {
+    if session::unheld(attributes, table, user, mask) {
         return Decision::Refused(17);
     }
+    let object = wide(block[2]);
+    let declared = in_room(counts[0]);
+    let mut session: [u64; 128] = [0; 128];
+    session::open(
+        attributes,
+        table,
+        user,
+        object,
+        mask,
+        declared,
+        &mut session,
+    );
+    let rules = in_room(counts[5]);
     decided(
         operations,
         code,
@@ -241,7 +249,7 @@ fn answered(
         &session,
         entries,
         block[3],
-        count,
+        rules,
     )
 }
 
@@ -263,11 +271,11 @@ pub fn decide(block: &[u8], book: &[u64; 5240], rules: &[u8; 24576], table: &[u6
     if wrong_number(counts, sorts, attributes, block, entries) {
         return Decision::Refused(16);
     }
-    let count = rule_count(counts);
     let pairs = &words[792..1816];
     let operations = &words[5208..5240];
     let code = &rules[..];
     answered(
+        counts,
         operations,
         code,
         attributes,
@@ -275,6 +283,5 @@ pub fn decide(block: &[u8], book: &[u64; 5240], rules: &[u8; 24576], table: &[u6
         table,
         block,
         entries,
-        count,
     )
 }

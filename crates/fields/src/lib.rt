@@ -1,7 +1,9 @@
 // A line's bytes taken apart into numbers: its key, and the fields of each form. Nothing here knows what is declared.
 ghost use mathlib.Core.Path.{_≡_};
 ghost use mathlib.Core.Bool.{_&&_};
+ghost use Rattle.model.specs.Bytes.{newline};
 ghost use Rattle.model.specs.Names.{readName};
+ghost use Rattle.text.specs.Parts.{FirstAt};
 ghost use Rattle.fields.specs.Forms.{codedName, wordsIn, noAttr, AttrTold, noPair, PairTold, noTwo, TwoTold, noValue, ValueTold, noRule, RuleTold};
 ghost use Rattle.fields.specs.Frames.{noFrame, FrameTold, Signed};
 
@@ -71,11 +73,11 @@ fn no_frame() -> Framed
     }
 }
 
-// A line is given with its byte 10.
-pub fn frame(line: &[u8]) -> Framed
+// A line is given with its byte 10, which stands first at `end`, or nowhere.
+pub fn frame_at(line: &[u8], end: usize) -> Framed
+    requires { ⌜ FirstAt newline (now line) end ⌝ }
     ensures { λ r. ⌜ FrameTold (now (line .entry)) r ⌝ }
 {
-    let end = text::index_of(line, b'\n');
     if line.len() <= end {
         return no_frame();
     }
@@ -100,6 +102,14 @@ pub fn frame(line: &[u8]) -> Framed
         start: e + 1,
         end,
     }
+}
+
+// The same, where the place of byte 10 is not known.
+pub fn frame(line: &[u8]) -> Framed
+    ensures { λ r. ⌜ FrameTold (now (line .entry)) r ⌝ }
+{
+    let end = text::index_of(line, b'\n');
+    frame_at(line, end)
 }
 
 // The sign of an edit: 1 for `+`, 2 for `-`, 0 for neither.

@@ -6,18 +6,19 @@ use mathlib.Core.Bool.{Bool, true, false, _&&_, true≢false, and-comm}
 use mathlib.Core.List.{List, [], _∷_}
 use mathlib.Core.Option.{Option, none, some, Option·some-injective}
 use lib.Dec.{eqb, leb}
-use lib.ListN.{length, getD, drop}
+use lib.ListN.{length, getD}
 use borrow.Author.Tests.{eq-eqb, eqb-true, le-leb}
-use Rattle.model.specs.Notation.{_>>=_, if_then_else_, _is_, map, filter, each, all, nth, place}
+use Rattle.model.specs.Notation.{_>>=_, if_then_else_, _is_, map, each, nth, place}
 use Rattle.model.specs.Limits.{largestInt}
 use Rattle.model.specs.Bytes.{Bytes}
 use Rattle.model.specs.Attributes.{Source, AtomType, fromBlock, sameType}
-use Rattle.model.specs.Atoms.{Atom, typeOf, isAtom}
+use Rattle.model.specs.Atoms.{typeOf, isAtom}
 use Rattle.model.specs.Declarations.{Declarations, Attribute, Pair, isNamed, attributeNumber}
 use Rattle.model.specs.Table.{effectiveSet}
 use Rattle.model.specs.State.{State}
-use Rattle.model.specs.Block.{Block, entriesOf, activated}
+use Rattle.model.specs.Block.{Block, activated}
 use Rattle.model.specs.Session.{pairsOf, held, given, entryValue, entered, userValues, readBy}
+use Rattle.model.specs.Standing.{WellDeclared}
 use Rattle.model.proofs.Words.{none-is-some}
 use Rattle.model.proofs.Lists.{place-nth, nth-lt, same-truth}
 use Rattle.bits.specs.Bits.{holds}
@@ -25,11 +26,10 @@ use Rattle.codes.specs.Codes.{sourceCode, typeCode}
 use Rattle.text.specs.declared.Words.{Words}
 use Rattle.text.specs.Values.{words, atomWords}
 use Rattle.model.proofs.Declared.{PairDeclared, pair-declared}
-use Rattle.rows.specs.Rows.{pairOf, numberOr}
+use Rattle.rows.specs.Rows.{pairOf, numberOr, PairRows}
 use Rattle.rows.proofs.Attributes.{named-eq, eq-named, number-small, number-injective}
 use Rattle.values.specs.declared.Operand.{Operand}
-use Rattle.values.specs.Operands.{Lent, lent, chosen, pairWords, rowType, attributeOperand, operand, noValues, valuesOf, Stands}
-use Rattle.values.proofs.Chosen.{filter-drop}
+use Rattle.values.specs.Operands.{Lent, lent, chosen, pairWords, rowType, attributeOperand, operand, Stands}
 use Rattle.values.proofs.Attributes.{no-number, in-words, in-entries}
 use Rattle.values.proofs.Stands.{session-values, block-values, none-stand}
 use Rattle.session.specs.Opened.{readsPair, mayRead, SessionOf}
@@ -91,6 +91,58 @@ entry-atom AtomType.int v h = le-leb v largestInt h
 entry-atom AtomType.str v h = le-leb v largestInt h
 entry-atom AtomType.bool v h = refl
 
+-- a pair is of the attribute of that source and name
+abbrev named : Source → Bytes → Pair → Bool
+named s n x = isNamed (x .source) (x .name) s n
+
+-- the pairs of an attribute that is declared
+module _ {D : Declarations} (declarations : WellDeclared D) (s : Source) (n : Bytes) (k : ℕ) (number : attributeNumber D s n ≡ some k) where
+  named-number : (x : Pair) (p : PairDeclared D x) → eqb k (p .number) ≡ named s n x
+  named-number x p =
+      same-truth (eqb k (p .number)) (named s n x)
+      (λ e.
+      let (q, r) = number-injective D (x .source) s (x .name) n k (p .number-is ∙ ap some (sym (eqb-true k (p .number) e))) number in
+      eq-named (x .source) (x .name) s n q r)
+      (λ e.
+      let (q, r) = named-eq (x .source) (x .name) s n e in
+      eq-eqb k (p .number) (Option·some-injective k (p .number) (sym number ∙ sym (ap₂ (attributeNumber D) q r) ∙ p .number-is)))
+
+  pair-of : (i : ℕ) (x : Pair) → nth (D .pairs) i ≡ some x → pairOf D k i ≡ named s n x
+  unfolding pairOf
+  pair-of i x e =
+      let p = pair-declared declarations i x e in
+      ap (λ (o : Option Pair). o is λ q. attributeNumber D (q .source) (q .name) is eqb k) e
+      ∙ ap (λ (o : Option ℕ). o is eqb k) (p .number-is)
+      ∙ named-number x p
+
+  no-pair-of : (i : ℕ) → length (D .pairs) ≤ i → pairOf D k i ≡ false
+  unfolding pairOf
+  no-pair-of i h = ap (λ (o : Option Pair). o is λ q. attributeNumber D (q .source) (q .name) is eqb k) (behind (D .pairs) i h)
+    where
+      behind : {A : Type 0} (xs : List A) (i : ℕ) → length xs ≤ i → nth xs i ≡ none
+      behind [] i h = refl
+      behind (x ∷ xs) zero h = absurd (omega arith)
+      behind (x ∷ xs) (suc i) h = behind xs i (omega arith)
+
+  -- words that hold those of its pairs that are in a set
+  module _ (pairs : List ℕ) (pair-rows : PairRows pairs D) (eff here : ℕ → Bool) (so : (p : ℕ) → p < 256 → here p ≡ (pairOf D k p && eff p)) where
+    pair-at : (i : ℕ) (x : Pair) → nth (D .pairs) i ≡ some x → At eff (named s n) here (pairWords pairs) 256 i x
+    pair-at i x e =
+        let p = pair-declared declarations i x e in
+        let row = pair-rows .row i (p .number) x e (p .number-is) in
+        let l : i < 256 = omega (arith, nth-lt (D .pairs) i e, pair-rows .within) in
+        record {
+          present = so i l ∙ ap (λ (t : Bool). t && eff i) (pair-of i x e) ∙ and-comm (named s n x) (eff i);
+          valued = λ q. words-eq (getD pairs (4 * i + 1) 0) (getD pairs (4 * i + 2) 0) (getD pairs (4 * i + 3) 0) (atomWords (x .atom))
+              (row .first) (row .second) (row .third);
+        }
+
+    no-pair : (i : ℕ) → length (D .pairs) ≤ i → i < 256 → here i ≡ false
+    no-pair i h l = so i l ∙ ap (λ (t : Bool). t && eff i) (no-pair-of i h)
+
+    pub held-pairs : chosen here (pairWords pairs) 256 0 ≡ map atomWords (heldFrom eff (named s n) 0 (D .pairs))
+    held-pairs = held-all eff (named s n) here (pairWords pairs) 256 (D .pairs) (pair-rows .within) pair-at no-pair
+
 module _ (S : State) (b : Block) (attributes pairs session : List ℕ) (entries : Bytes) (of : SessionOf S b attributes pairs session entries) (code : Bytes) where
   abbrev D : Declarations
   D = S .declared
@@ -103,9 +155,6 @@ module _ (S : State) (b : Block) (attributes pairs session : List ℕ) (entries 
       (at : nth (D .attributes) k ≡ some a) (has : isNamed (a .source) (a .name) s n ≡ true) where
     small : k < 32
     small = number-small D attributes (of .attribute-rows) s n k number
-
-    abbrev named : Pair → Bool
-    named x = isNamed (x .source) (x .name) s n
 
     typed-row : typeCode (a .type) ≡ rowType attributes k
     unfolding rowType
@@ -121,38 +170,10 @@ module _ (S : State) (b : Block) (attributes pairs session : List ℕ) (entries 
         let at-most : getD attributes (8 * k) 0 ≤ 3 = omega (arith, source-row) in
         in-words attributes k small zero-not at-most (typeCode (a .type)) typed-row
 
-    -- a pair is of the attribute where it has its source and name
-    named-number : (x : Pair) (p : PairDeclared D x) → eqb k (p .number) ≡ named x
-    named-number x p =
-        same-truth (eqb k (p .number)) (named x)
-        (λ e.
-        let (q, r) = number-injective D (x .source) s (x .name) n k (p .number-is ∙ ap some (sym (eqb-true k (p .number) e))) number in
-        eq-named (x .source) (x .name) s n q r)
-        (λ e.
-        let (q, r) = named-eq (x .source) (x .name) s n e in
-        eq-eqb k (p .number) (Option·some-injective k (p .number) (sym number ∙ sym (ap₂ (attributeNumber D) q r) ∙ p .number-is)))
-
-    same-type : (x : Pair) (p : PairDeclared D x) → named x ≡ true → typeOf (x .atom) ≡ a .type
+    same-type : (x : Pair) (p : PairDeclared D x) → named s n x ≡ true → typeOf (x .atom) ≡ a .type
     same-type x p e =
-        let m : k ≡ p .number = eqb-true k (p .number) (named-number x p ∙ e) in
+        let m : k ≡ p .number = eqb-true k (p .number) (named-number (of .declarations) s n k number x p ∙ e) in
         p .typed ∙ ap (λ (c : Attribute). c .type) (Option·some-injective (p .attribute) a (sym (p .attribute-is) ∙ ap (nth (D .attributes)) (sym m) ∙ at))
-
-    pair-of : (i : ℕ) (x : Pair) → nth (D .pairs) i ≡ some x → pairOf D k i ≡ named x
-    unfolding pairOf
-    pair-of i x e =
-        let p = pair-declared (of .declarations) i x e in
-        ap (λ (o : Option Pair). o is λ q. attributeNumber D (q .source) (q .name) is eqb k) e
-        ∙ ap (λ (o : Option ℕ). o is eqb k) (p .number-is)
-        ∙ named-number x p
-
-    no-pair-of : (i : ℕ) → length (D .pairs) ≤ i → pairOf D k i ≡ false
-    unfolding pairOf
-    no-pair-of i h = ap (λ (o : Option Pair). o is λ q. attributeNumber D (q .source) (q .name) is eqb k) (behind (D .pairs) i h)
-      where
-        behind : {A : Type 0} (xs : List A) (i : ℕ) → length xs ≤ i → nth xs i ≡ none
-        behind [] i h = refl
-        behind (x ∷ xs) zero h = absurd (omega arith)
-        behind (x ∷ xs) (suc i) h = behind xs i (omega arith)
 
     -- the bits of the attribute's words
     bits-so : (p : ℕ) → p < 256 → holds session k p ≡ (pairOf D k p && readsPair S b k p s)
@@ -163,29 +184,15 @@ module _ (S : State) (b : Block) (attributes pairs session : List ℕ) (entries 
         ∙ ap (λ (t : Source). pairOf D k p && readsPair S b k p t) (named-eq (a .source) (a .name) s n has .0)
 
     module _ (eff : ℕ → Bool) (reads : (p : ℕ) → readsPair S b k p s ≡ eff p) where
-      pair-at : (i : ℕ) (x : Pair) → nth (D .pairs) i ≡ some x → At eff named (holds session k) (pairWords pairs) 256 i x
-      pair-at i x e =
-          let p = pair-declared (of .declarations) i x e in
-          let row = of .pair-rows .row i (p .number) x e (p .number-is) in
-          let l : i < 256 = omega (arith, nth-lt (D .pairs) i e, of .pair-rows .within) in
-          record {
-            present = bits-so i l ∙ ap₂ (λ (u v : Bool). u && v) (pair-of i x e) (reads i) ∙ and-comm (named x) (eff i);
-            valued = λ q. words-eq (getD pairs (4 * i + 1) 0) (getD pairs (4 * i + 2) 0) (getD pairs (4 * i + 3) 0) (atomWords (x .atom))
-                (row .first) (row .second) (row .third);
-          }
-
-      no-pair : (i : ℕ) → length (D .pairs) ≤ i → i < 256 → holds session k i ≡ false
-      no-pair i h l = bits-so i l ∙ ap (λ (t : Bool). t && readsPair S b k i s) (no-pair-of i h)
-
-      held-stand : fromBlock s ≡ false → Stands L (attributeOperand attributes k) (heldFrom eff named 0 (D .pairs))
+      held-stand : fromBlock s ≡ false → Stands L (attributeOperand attributes k) (heldFrom eff (named s n) 0 (D .pairs))
       held-stand from =
-          subst (λ (o : Operand). Stands L o (heldFrom eff named 0 (D .pairs))) (words-operand from)
+          subst (λ (o : Operand). Stands L o (heldFrom eff (named s n) 0 (D .pairs))) (words-operand from)
           (record {
             coded = session-values L (typeCode (a .type)) k small
-                ∙ held-all eff named (holds session k) (pairWords pairs) 256 (D .pairs) (of .pair-rows .within) pair-at no-pair;
-            typed = held-each eff named (λ x. eqb (typeCode (typeOf x)) (typeCode (a .type))) 0 (D .pairs)
+                ∙ held-pairs (of .declarations) s n k number pairs (of .pair-rows) eff (holds session k) (λ p h. bits-so p h ∙ ap (λ (t : Bool). pairOf D k p && t) (reads p));
+            typed = held-each eff (named s n) (λ x. eqb (typeCode (typeOf x)) (typeCode (a .type))) 0 (D .pairs)
                 (λ i x e q. eq-eqb (typeCode (typeOf (x .atom))) (typeCode (a .type)) (ap typeCode (same-type x (pair-declared (of .declarations) i x e) q)));
-            written = held-each eff named isAtom 0 (D .pairs) (λ i x e q. of .declarations .pairs .each i x e .written);
+            written = held-each eff (named s n) isAtom 0 (D .pairs) (λ i x e q. of .declarations .pairs .each i x e .written);
           })
 
     holder-stand : fromBlock s ≡ false → (holder : ℕ) → ((p : ℕ) → readsPair S b k p s ≡ effectiveSet D (S .ties) holder p)
@@ -193,7 +200,7 @@ module _ (S : State) (b : Block) (attributes pairs session : List ℕ) (entries 
     unfolding held pairsOf
     holder-stand from holder reads = held-stand (effectiveSet D (S .ties) holder) reads from
 
-    nothing-held : (i : ℕ) (xs : List Pair) → heldFrom (λ p. false) named i xs ≡ []
+    nothing-held : (i : ℕ) (xs : List Pair) → heldFrom (λ p. false) (named s n) i xs ≡ []
     nothing-held i [] = refl
     nothing-held i (x ∷ xs) = nothing-held (suc i) xs
 
@@ -245,16 +252,6 @@ module _ (S : State) (b : Block) (attributes pairs session : List ℕ) (entries 
       go Source.admin a number at has = holder-stand Source.admin n k a number at has refl 0 (λ p. refl)
       go Source.env a number at has = block-stand Source.env n k a number at has refl
       go Source.connect a number at has = block-stand Source.connect n k a number at has refl
-
-  -- the pairs in the words of a user, object or admin attribute
-  pub session-coded : (s : Source) (n : Bytes) (k : ℕ) → attributeNumber D s n ≡ some k → fromBlock s ≡ false
-      → chosen (holds session k) (pairWords pairs) 256 0 ≡ map atomWords (readBy S b s n)
-  unfolding attributeNumber
-  session-coded s n k number from =
-      let (a, at, has) = place-nth (λ c. isNamed (c .source) (c .name) s n) (D .attributes) k number in
-      sym (session-values L (typeCode (a .type)) k (small s n k a number at has))
-      ∙ ap (valuesOf L) (words-operand s n k a number at has from)
-      ∙ reads-number s n k number .coded
 
   -- a name that is not declared reads nothing
   module _ (s : Source) (n : Bytes) (number : attributeNumber D s n ≡ none) where

@@ -1,14 +1,14 @@
 -- A session that is opened from a table of effective sets is what the rules may read. Assumes nothing.
-use Prim.Native.Nat.{ℕ, suc, _+_, _*_, _/_, _%_, _^_, _≤_, _<_}
+use Prim.Native.Nat.{ℕ, zero, suc, _+_, _*_, _/_, _%_, _≤_, _<_}
 use native.Mathlib.Omega.{arith}
 use native.Mathlib.Decide.{decLt}
 use mathlib.Core.Path.{_≡_, refl, sym, ap, ap₂, _∙_}
 use mathlib.Core.Bool.{Bool, true, false, _&&_, and-comm}
 use mathlib.Core.List.{List}
 use mathlib.Core.Option.{Option, none, some}
-use lib.Dec.{eqb}
-use lib.ListN.{length, getD}
-use borrow.Author.Tests.{eq-eqb, lt-ltb, le-ltb}
+use lib.Dec.{eqb, ltb}
+use lib.ListN.{length, getD, replicate}
+use borrow.Author.Tests.{lt-ltb, le-ltb}
 use Rattle.model.specs.Notation.{if_then_else_, _is_, nth}
 use Rattle.model.specs.Attributes.{Source}
 use Rattle.model.specs.Declarations.{Attribute}
@@ -18,10 +18,11 @@ use Rattle.model.specs.Block.{Block, activated}
 use Rattle.model.proofs.Words.{none-is-some}
 use Rattle.model.proofs.Lists.{lt-nth}
 use Rattle.bits.specs.Bits.{odd, bit, holds}
+use Rattle.bits.proofs.Bits.{bit-none}
 use Rattle.codes.specs.Codes.{sourceCode}
 use Rattle.rows.specs.Rows.{AttributeRows, masked, pairOf}
 use Rattle.session.specs.Opened.{readsPair, mayRead, Opened}
-use Rattle.session.specs.Words.{holderFor, inTable, openedPair, OpenedWords, SetOf, SetsOf}
+use Rattle.session.specs.Words.{holderFor, inTable, openedPair, OpenedFirst, SetOf, SetsOf}
 
 -- nobody has a set
 no-set : (table : List ℕ) (p : ℕ) → inTable table (length table) p ≡ false
@@ -29,7 +30,7 @@ unfolding inTable
 no-set table p = let h : length table / 4 ≤ length table = omega arith in ap (λ (t : Bool). t && holds table (length table) p) (le-ltb (length table) (length table / 4) h)
 
 -- a holder's set
-its-set : (S : State) (table : List ℕ) (k p : ℕ) → SetOf S table k → p < 256 → inTable table k p ≡ effectiveSet (S .declared) (S .ties) k p
+pub its-set : (S : State) (table : List ℕ) (k p : ℕ) → SetOf S table k → p < 256 → inTable table k p ≡ effectiveSet (S .declared) (S .ties) k p
 unfolding inTable
 its-set S table k p stored h = ap (λ (t : Bool). t && holds table k p) (lt-ltb k (length table / 4) (stored .within)) ∙ stored .pairs p h
 
@@ -75,6 +76,32 @@ module _ (S : State) (b : Block) (rows table : List ℕ) (ar : AttributeRows row
       go (some a) e = ap read (ar .row k a e .source) ∙ by-source (a .source)
       go none e = ap read (ar .other k (no-attribute (S .declared .attributes) k e) small) ∙ no-set table p
 
-pub opens : (S : State) (b : Block) (rows table session : List ℕ) → AttributeRows rows (S .declared) → SetsOf S b table
-    → OpenedWords rows table (b .user) (b .object) (b .mask) session → Opened S b session
-opens S b rows table session ar sets f k p small h = f k p small h ∙ opened-pair S b rows table ar sets k p small h
+  -- what is no attribute reads nothing
+  not-declared : length (S .declared .attributes) ≤ k → mayRead S b k p ≡ false
+  unfolding openedPair holderFor
+  not-declared l = sym opened-pair ∙ ap (λ (t : Bool). t && masked rows k p) (ap read (ar .other k l small) ∙ no-set table p)
+
+-- zeros are the words of no pair
+pub zeros-hold : (n k p : ℕ) → holds (replicate n 0) k p ≡ false
+unfolding holds
+zeros-hold n k p = ap (λ (w : ℕ). bit w (p % 64)) (zero-at n (4 * k + p / 64)) ∙ bit-none (p % 64)
+  where
+    zero-at : (n i : ℕ) → getD {A = ℕ} (replicate n 0) i 0 ≡ 0
+    zero-at zero i = refl
+    zero-at (suc n) zero = refl
+    zero-at (suc n) (suc i) = zero-at n i
+
+-- so it is enough to open the declared attributes, in words of no pair
+pub opens : (S : State) (b : Block) (rows table before session : List ℕ) (count : ℕ) → AttributeRows rows (S .declared) → SetsOf S b table
+    → length (S .declared .attributes) ≡ count → ((k p : ℕ) → holds before k p ≡ false)
+    → OpenedFirst rows table (b .user) (b .object) (b .mask) count before session → Opened S b session
+opens S b rows table before session count ar sets all empty f k p small h = f k p h ∙ go (decLt k count)
+  where
+    go : Dec (k < count) → (if ltb k count then openedPair rows table (b .user) (b .object) (b .mask) k p else holds before k p) ≡ mayRead S b k p
+    go (yes l) =
+        ap (λ (t : Bool). if t then openedPair rows table (b .user) (b .object) (b .mask) k p else holds before k p) (lt-ltb k count l)
+        ∙ opened-pair S b rows table ar sets k p small h
+    go (no l) =
+        ap (λ (t : Bool). if t then openedPair rows table (b .user) (b .object) (b .mask) k p else holds before k p) (le-ltb k count (omega arith))
+        ∙ empty k p
+        ∙ sym (not-declared S b rows table ar sets k p small h (omega arith))

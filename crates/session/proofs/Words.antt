@@ -1,24 +1,22 @@
 -- The words of a session. Assumes nothing.
-use Prim.Native.Nat.{ℕ, suc, _+_, _-_, _*_, _/_, _%_, _≤_, _<_}
+use Prim.Native.Nat.{ℕ, _+_, _*_, _/_, _%_, _≤_, _<_}
 use native.Mathlib.Omega.{arith}
 use native.Mathlib.Decide.{ℕ-discrete, decLt}
 use mathlib.Core.Path.{_≡_, refl, sym, ap, ap₂, _∙_}
-use mathlib.Core.Bool.{Bool, true, false, not, _&&_}
+use mathlib.Core.Bool.{Bool, true, false, not, _&&_, Bool·beq}
 use mathlib.Core.List.{List, [], _∷_}
 use lib.Bits.{bitAnd}
 use lib.Dec.{eqb, ltb}
-use lib.ListN.{length, getD, take, drop, set, length-set, length-take, length-drop}
+use lib.ListN.{length, getD, set, length-set}
 use lib.Seq.{getD-set-same, getD-set-other}
 use borrow.Author.Tests.{eq-eqb, ne-eqb, lt-ltb, le-ltb}
-use Rattle.model.specs.Notation.{if_then_else_, any, below}
-use Rattle.model.proofs.Lists.{in-any, below-in}
-use Rattle.bits.specs.Bits.{bit, member, holds, anyBelow}
-use Rattle.bits.specs.Lowest.{FirstFrom}
+use Rattle.model.specs.Notation.{if_then_else_}
+use Rattle.bits.specs.Bits.{bit, member, holds, anyBelow, differ}
 use Rattle.bits.proofs.Bits.{bit-and}
-use Rattle.bits.proofs.Sets.{four, member-part, member-none}
-use Rattle.bits.proofs.Counts.{any-at}
+use Rattle.bits.proofs.Sets.{four, member-none}
+use Rattle.bits.proofs.Counts.{any-ext}
 use Rattle.rows.specs.Rows.{masked}
-use Rattle.session.specs.Words.{holderFor, inTable, openedPair, OpenedWords, WordsWritten, heldWords, unheldAt, unheldWords}
+use Rattle.session.specs.Words.{holderFor, inTable, openedPair, OpenedFirst, WordsWritten, heldWords}
 
 -- the holder whose set is read, by the source
 module _ (rows : List ℕ) (nobody user object mask k : ℕ) where
@@ -135,62 +133,51 @@ module _ (s : List ℕ) (k : ℕ) (w : List ℕ) (long : length s ≡ 128) (smal
           (elsewhere (4 * j + p / 64) (λ z. n (omega arith)) (λ z. n (omega arith)) (λ z. n (omega arith)) (λ z. n (omega arith)))
           ∙ sym (ap (λ (t : Bool). if t then bit (getD w (p / 64) 0) (p % 64) else bit (getD s (4 * j + p / 64) 0) (p % 64)) (ne-eqb j k n))
 
--- the attributes opened so far
-abbrev pub OpenedBelow : List ℕ → List ℕ → ℕ → ℕ → ℕ → List ℕ → ℕ → Type 0
-OpenedBelow rows table user object mask session n = (k p : ℕ) → k < n → p < 256 → holds session k p ≡ openedPair rows table user object mask k p
+-- no attribute is opened, and one more
+pub none-yet : (rows table : List ℕ) (user object mask : ℕ) (session : List ℕ) → OpenedFirst rows table user object mask 0 session session
+none-yet rows table user object mask session k p h =
+    sym (ap (λ (t : Bool). if t then openedPair rows table user object mask k p else holds session k p) (le-ltb k 0 (omega arith)))
 
-module _ (rows table : List ℕ) (user object mask k : ℕ) (before after words : List ℕ) (holder : ℕ)
+module _ (rows table : List ℕ) (user object mask k : ℕ) (start before after words : List ℕ) (holder : ℕ)
     (held : holder ≡ holderFor rows (length table) user object mask k)
     (word : (p : ℕ) → p < 256 → member words p ≡ (inTable table holder p && masked rows k p))
     (put : WordsWritten before k (member words) after) where
-  pub one-more : OpenedBelow rows table user object mask before k → OpenedBelow rows table user object mask after (k + 1)
+  pub one-more : OpenedFirst rows table user object mask k start before → OpenedFirst rows table user object mask (k + 1) start after
   unfolding openedPair
-  one-more f j p l h = put j p h ∙ go (ℕ-discrete j k)
+  one-more f j p h = put j p h ∙ go (ℕ-discrete j k)
     where
-      go : Dec (j ≡ k) → (if eqb j k then member words p else holds before j p) ≡ openedPair rows table user object mask j p
+      opened : Bool → Bool
+      opened t = if t then openedPair rows table user object mask j p else holds start j p
+
+      elsewhere-so : (j ≡ k → ⊥) → Dec (j < k) → ltb j k ≡ ltb j (k + 1)
+      elsewhere-so n (yes l) = lt-ltb j k l ∙ sym (lt-ltb j (k + 1) (omega arith))
+      elsewhere-so n (no l) = le-ltb j k (omega arith) ∙ sym (le-ltb j (k + 1) (omega arith))
+
+      go : Dec (j ≡ k) → (if eqb j k then member words p else holds before j p) ≡ opened (ltb j (k + 1))
       go (yes e) =
           ap (λ (t : Bool). if t then member words p else holds before j p) (eq-eqb j k e)
           ∙ word p h
           ∙ ap (λ (i : ℕ). inTable table i p && masked rows k p) held
           ∙ ap (λ (i : ℕ). openedPair rows table user object mask i p) (sym e)
-      go (no n) = ap (λ (t : Bool). if t then member words p else holds before j p) (ne-eqb j k n) ∙ f j p (omega arith) h
+          ∙ sym (ap opened (lt-ltb j (k + 1) (omega arith)))
+      go (no n) =
+          ap (λ (t : Bool). if t then member words p else holds before j p) (ne-eqb j k n) ∙ f j p h ∙ ap opened (elsewhere-so n (decLt j k))
 
 -- ---- held attributes
 
-module _ (rows session : List ℕ) (k : ℕ) where
-  pub not-user : (getD rows (8 * k) 0 ≡ 1 → ⊥) → false ≡ heldWords rows session k
+module _ (rows table : List ℕ) (user k : ℕ) where
+  pub not-user : (getD rows (8 * k) 0 ≡ 1 → ⊥) → false ≡ heldWords rows table user k
   unfolding heldWords
-  not-user n = sym (ap (λ (t : Bool). t && anyBelow 256 (holds session k)) (ne-eqb (getD rows (8 * k) 0) 1 n))
+  not-user n = sym (ap (λ (t : Bool). t && anyBelow 256 (λ p. inTable table user p && masked rows k p)) (ne-eqb (getD rows (8 * k) 0) 1 n))
 
-  pub some-pair : getD rows (8 * k) 0 ≡ 1 → k < 32 → length session ≡ 128 → (p : ℕ) → FirstFrom (take (4 * k + 4 - 4 * k) (drop (4 * k) session)) 0 p
-      → ltb p 256 ≡ heldWords rows session k
-  unfolding heldWords anyBelow
-  some-pair e h long p first = go (decLt p 256) ∙ sym (ap (λ (t : Bool). t && anyBelow 256 (holds session k)) (eq-eqb (getD rows (8 * k) 0) 1 e))
+  pub some-pair : getD rows (8 * k) 0 ≡ 1 → (words : List ℕ) → ((p : ℕ) → p < 256 → member words p ≡ (inTable table user p && masked rows k p))
+      → differ 256 words (0 ∷ 0 ∷ 0 ∷ 0 ∷ []) ≡ heldWords rows table user k
+  unfolding heldWords differ
+  some-pair e words word =
+      any-ext 256 (λ p. not (Bool·beq (member words p) (member (0 ∷ 0 ∷ 0 ∷ 0 ∷ []) p))) (λ p. inTable table user p && masked rows k p)
+      (λ p h. ap₂ (λ (t u : Bool). not (Bool·beq t u)) (word p h) (member-none p h) ∙ unlike-false (inTable table user p && masked rows k p))
+      ∙ sym (ap (λ (t : Bool). t && anyBelow 256 (λ p. inTable table user p && masked rows k p)) (eq-eqb (getD rows (8 * k) 0) 1 e))
     where
-      four-long : length (take (4 * k + 4 - 4 * k) (drop (4 * k) session)) ≡ 4
-      four-long = simp (length-take, length-drop) (omega arith)
-
-      go : Dec (p < 256) → ltb p 256 ≡ any (holds session k) (below 256)
-      go (yes l) =
-          let (a, b) = first .held (omega (arith, four-long)) in
-          lt-ltb p 256 l ∙ sym (in-any (holds session k) (below-in 256 p l) (sym (member-part session k p l) ∙ b))
-      go (no l) =
-          le-ltb p 256 (omega arith)
-          ∙ sym (any-at 256 (holds session k) (λ j m. sym (member-part session k j m) ∙ first .lower j (omega arith) (omega arith)))
-
-module _ (rows session : List ℕ) (mask k : ℕ) (b : Bool) (e : b ≡ bit mask k) where
-  pub not-activated : b ≡ false → false ≡ unheldAt rows session mask k
-  unfolding unheldAt
-  not-activated f = sym (ap (λ (t : Bool). t && not (heldWords rows session k)) (sym e ∙ f))
-
-  pub is-activated : b ≡ true → (r : Bool) → r ≡ heldWords rows session k → not r ≡ unheldAt rows session mask k
-  unfolding unheldAt
-  is-activated f r g = ap not g ∙ sym (ap (λ (t : Bool). t && not (heldWords rows session k)) (sym e ∙ f))
-
-module _ (rows session : List ℕ) (mask : ℕ) where
-  pub one-unheld : (k : ℕ) → k < 32 → unheldAt rows session mask k ≡ true → true ≡ unheldWords rows session mask
-  unfolding anyBelow
-  one-unheld k h e = sym (in-any (unheldAt rows session mask) (below-in 32 k h) e)
-
-  pub none-unheld : ((k : ℕ) → k < 32 → unheldAt rows session mask k ≡ false) → false ≡ unheldWords rows session mask
-  none-unheld f = sym (any-at 32 (unheldAt rows session mask) f)
+      unlike-false : (t : Bool) → not (Bool·beq t false) ≡ t
+      unlike-false true = refl
+      unlike-false false = refl

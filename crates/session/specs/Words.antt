@@ -6,7 +6,7 @@ use mathlib.Core.List.{List}
 use lib.Dec.{eqb, ltb}
 use lib.ListN.{length, getD}
 use Rattle.model.specs.Notation.{if_then_else_}
-use Rattle.model.specs.Limits.{attributeLimit, pairLimit, maskBits}
+use Rattle.model.specs.Limits.{pairLimit, maskBits}
 use Rattle.model.specs.Table.{effectiveSet}
 use Rattle.model.specs.State.{State}
 use Rattle.model.specs.Block.{Block}
@@ -28,9 +28,10 @@ inTable table h p = ltb h (length table / 4) && holds table h p
 unfoldable pub openedPair : List ℕ → List ℕ → ℕ → ℕ → ℕ → ℕ → ℕ → Bool
 openedPair rows table user object mask k p = inTable table (holderFor rows (length table) user object mask k) p && masked rows k p
 
-abbrev pub OpenedWords : List ℕ → List ℕ → ℕ → ℕ → ℕ → List ℕ → Type 0
-OpenedWords rows table user object mask session =
-    (k p : ℕ) → k < attributeLimit → p < pairLimit → holds session k p ≡ openedPair rows table user object mask k p
+-- the words of the first `count` attributes are opened, those of the others as before
+abbrev pub OpenedFirst : List ℕ → List ℕ → ℕ → ℕ → ℕ → ℕ → List ℕ → List ℕ → Type 0
+OpenedFirst rows table user object mask count before after =
+    (k p : ℕ) → p < pairLimit → holds after k p ≡ (if ltb k count then openedPair rows table user object mask k p else holds before k p)
 
 -- the words of attribute k are w, those of the others as before
 abbrev pub WordsWritten : List ℕ → ℕ → (ℕ → Bool) → List ℕ → Type 0
@@ -41,15 +42,12 @@ pub record SetOf (S : State) (table : List ℕ) (k : ℕ) : Type 0 where
   pub within : k < length table / 4
   pub pairs : (p : ℕ) → p < pairLimit → holds table k p ≡ effectiveSet (S .declared) (S .ties) k p
 
--- attribute k is a user attribute with some pair in the session
-unfoldable pub heldWords : List ℕ → List ℕ → ℕ → Bool
-heldWords rows session k = eqb (getD rows (8 * k) 0) 1 && anyBelow pairLimit (holds session k)
+-- attribute k is a user attribute of which the user's set has some pair
+unfoldable pub heldWords : List ℕ → List ℕ → ℕ → ℕ → Bool
+heldWords rows table user k = eqb (getD rows (8 * k) 0) 1 && anyBelow pairLimit (λ p. inTable table user p && masked rows k p)
 
-unfoldable pub unheldAt : List ℕ → List ℕ → ℕ → ℕ → Bool
-unheldAt rows session mask k = bit mask k && not (heldWords rows session k)
-
-abbrev pub unheldWords : List ℕ → List ℕ → ℕ → Bool
-unheldWords rows session mask = anyBelow maskBits (unheldAt rows session mask)
+abbrev pub unheldWords : List ℕ → List ℕ → ℕ → ℕ → Bool
+unheldWords rows table user mask = anyBelow maskBits (λ k. bit mask k && not (heldWords rows table user k))
 
 -- the sets that a request reads
 pub record SetsOf (S : State) (b : Block) (table : List ℕ) : Type 0 where

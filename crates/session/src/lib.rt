@@ -1,12 +1,11 @@
 // A session: for each attribute four words, the pairs of it that the rules of a request may read. Opened once for a request.
 ghost use mathlib.Core.Path.{_≡_};
-ghost use Prim.Native.Nat.{ℕ, _<_};
+ghost use Prim.Native.Nat.{_<_, _≤_};
 ghost use lib.ListN.{length};
-ghost use Rattle.model.specs.Limits.{pairLimit};
 ghost use Rattle.bits.specs.Bits.{member, Numbers};
 ghost use Rattle.rows.specs.Rows.{masked};
 ghost use mathlib.Core.Bool.{_&&_};
-ghost use Rattle.session.specs.Words.{holderFor, inTable, OpenedWords, WordsWritten, heldWords, unheldAt, unheldWords};
+ghost use Rattle.session.specs.Words.{holderFor, inTable, OpenedFirst, WordsWritten, heldWords, unheldWords};
 use codes::ADMIN;
 use codes::OBJECT;
 use codes::USER;
@@ -66,61 +65,52 @@ fn write(session: &mut [u64], k: usize, words: [u64; 4])
     session[4 * k + 3] = words[3];
 }
 
-// Opens the session of a user, an object and an activation mask.
+// Opens the session of a user, an object and an activation mask: the words of the first `count` attributes, which are those declared.
 pub fn open(
     attributes: &[u64],
     table: &[u64],
     user: usize,
     object: usize,
     mask: u32,
+    count: usize,
     session: &mut [u64; 128],
 )
-    requires { ⌜ length (now attributes) ≡ 256 ⌝ }
-    ensures { λ _. ⌜ OpenedWords (now (attributes .entry)) (now (table .entry)) user object mask (now (session .exit)) ⌝ }
+    requires { ⌜ (length (now attributes) ≡ 256) × (count ≤ 32) ⌝ }
+    ensures { λ _. ⌜ OpenedFirst (now (attributes .entry)) (now (table .entry)) user object mask count (now (session .entry)) (now (session .exit)) ⌝ }
 {
     let nobody = table.len();
-    for k in 0..32usize {
+    for k in 0..count {
         let holder = holder_for(attributes, nobody, user, object, mask, k);
         let words = words_of(attributes, table, holder, k);
         write(session, k, words);
     }
 }
 
-// Whether attribute k is a user attribute that the session has a pair of.
-fn is_held(attributes: &[u64], session: &[u64; 128], k: usize) -> bool
+// Whether attribute k is a user attribute of which the user has a pair.
+fn is_held(attributes: &[u64], table: &[u64], user: usize, k: usize) -> bool
     requires { ⌜ (length (now attributes) ≡ 256) × (k < 32) ⌝ }
-    ensures { λ r. ⌜ r ≡ heldWords (now (attributes .entry)) (now (session .entry)) k ⌝ }
+    ensures { λ r. ⌜ r ≡ heldWords (now (attributes .entry)) (now (table .entry)) user k ⌝ }
 {
     if attributes[8 * k] != USER as u64 {
         return false;
     }
-    let all = &session[..];
-    let start = 4 * k;
-    let end = 4 * k + 4;
-    let p = bits::first_from(&all[start..end], 0);
-    p < 256
+    let words = words_of(attributes, table, user, k);
+    let none = [0u64; 4];
+    bits::differs(&words, &none)
 }
 
-// Whether attribute k is activated, and is none that the user holds.
-fn unheld_at(attributes: &[u64], session: &[u64; 128], mask: u32, k: usize) -> bool
-    requires { ⌜ (length (now attributes) ≡ 256) × (k < 32) ⌝ }
-    ensures { λ r. ⌜ r ≡ unheldAt (now (attributes .entry)) (now (session .entry)) mask k ⌝ }
-{
-    if !bits::has(mask as u64, k) {
-        return false;
-    }
-    !is_held(attributes, session, k)
-}
-
-// "17: activated bit that is no user attribute held by that user."
-pub fn unheld(attributes: &[u64], session: &[u64; 128], mask: u32) -> bool
+// "17: activated bit that is no user attribute held by that user." The table tells it: no session has to be opened for it.
+pub fn unheld(attributes: &[u64], table: &[u64], user: usize, mask: u32) -> bool
     requires { ⌜ length (now attributes) ≡ 256 ⌝ }
-    ensures { λ r. ⌜ r ≡ unheldWords (now (attributes .entry)) (now (session .entry)) mask ⌝ }
+    ensures { λ r. ⌜ r ≡ unheldWords (now (attributes .entry)) (now (table .entry)) user mask ⌝ }
 {
-    for k in 0..32usize {
-        if unheld_at(attributes, session, mask, k) {
+    let mut left = mask as u64;
+    while left != 0 {
+        let k = bits::lowest(left);
+        if !is_held(attributes, table, user, k) {
             return true;
         }
+        left = bits::without(left, k);
     }
     false
 }

@@ -14,7 +14,7 @@ pub extern "C" fn zhul_time_judge(
     policy::judge(policy, attributes, code)
 }
 
-// Opens a session and tests refusal 17.
+// Tests refusal 17, and opens a session of the first `count` attributes.
 #[no_mangle]
 pub extern "C" fn zhul_time_open(
     attributes: &[u64; 256],
@@ -22,10 +22,17 @@ pub extern "C" fn zhul_time_open(
     user: usize,
     object: usize,
     mask: u32,
+    count: usize,
     session: &mut [u64; 128],
 ) -> bool {
-    session::open(attributes, table, user, object, mask, session);
-    session::unheld(attributes, session, mask)
+    if 32 < count {
+        return true;
+    }
+    if session::unheld(attributes, table, user, mask) {
+        return true;
+    }
+    session::open(attributes, table, user, object, mask, count, session);
+    false
 }
 
 // Evaluates rule code on an opened session.

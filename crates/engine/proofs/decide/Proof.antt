@@ -1,4 +1,4 @@
-use mathlib.Core.Path.{refl, sym, ap, _∙_}
+use mathlib.Core.Path.{refl, sym, _∙_}
 use native.Mathlib.Omega.{arith}
 use borrow.Author.Tests.{not-true, not-false}
 use Rattle.engine.proofs.Blocks.{block-room}
@@ -6,12 +6,6 @@ use Rattle.engine.proofs.Answers.{no-block, refuses-numbers, answers, s
 use borrow.Author.Needs.{needs}
 use Rattle.engine.proofs.decide.Statement.{statement}
 use Rattle.engine.proofs.decide.Tie as tie
-use Rattle.engine.proofs.decide.Reads as reads
-use Rattle.engine.proofs.decide.Lts as lts
-use Rattle.engine.proofs.answered.Reads as answered-reads
-use Rattle.engine.proofs.is_block.Reads as is-block-reads
-use Rattle.engine.proofs.rule_count.Reads as rule-count-reads
-use Rattle.engine.proofs.wrong_number.Reads as wrong-number-reads
 
 returns : tie.Need-returns
 returns c = record { other-table = λ d. refl; decision = λ S standing holds e. absurd (c .if1 .taken (stands-long S e)) }
@@ -68,9 +62,6 @@ returns-3 c = record {
       (λ i. c .before .before .before .before .before .before .before .before .before .before .before .shared-slice-known .given i .fits) (sym (c .before .before .before .before .before .before .before .before .is-block .ensures) ∙ not-false _ (c .before .before .before .before .before .before .before .if2 .left)) (c .before .wrong-number .result) (c .before .wrong-number .ensures) (c .if3 .taken);
 }
 
-rule-count-requires : tie.Need-rule-count-requires
-rule-count-requires c κs = search needs
-
 sub-pairs : tie.Need-sub-pairs
 sub-pairs c = search needs
 
@@ -90,14 +81,14 @@ part-operations-end : tie.Need-part-operations-end
 part-operations-end c = search needs
 
 answered-requires : tie.Need-answered-requires
-answered-requires c κs = (record { operations-long = omega arith; code-long = omega arith; attributes-long = omega arith; pairs-long = omega arith }, block-room (c .before .before .before .before .before .before .before .before .before .before .before .before .before .before .before .before .args .block .now) (sym (c .before .before .before .before .before .before .before .before .before .before .before .before .is-block .ensures) ∙ not-false _ (c .before .before .before .before .before .before .before .before .before .before .before .if2 .left)), omega (arith, c .before .before .before .rule-count .ensures .0))
+answered-requires c κs = (omega arith, record { operations-long = omega arith; code-long = omega arith; attributes-long = omega arith; pairs-long = omega arith }, block-room (c .before .before .before .before .before .before .before .before .before .before .before .before .before .before .before .args .block .now) (sym (c .before .before .before .before .before .before .before .before .before .before .before .is-block .ensures) ∙ not-false _ (c .before .before .before .before .before .before .before .before .before .before .if2 .left)))
 
 returns-4 : tie.Need-returns-4
 returns-4 c = record {
-  other-table = λ d. absurd (d (c .before .before .before .before .before .before .before .before .before .before .before .before .before .before .if1 .left));
-  decision = λ S standing holds e. answers standing holds (c .before .before .before .before .before .before .before .before .before .before .before .before .before .before .before .before .before .args .block .now)
-      (λ i. c .before .before .before .before .before .before .before .before .before .before .before .before .before .before .before .before .shared-slice-known .given i .fits) (sym (c .before .before .before .before .before .before .before .before .before .before .before .before .before .is-block .ensures) ∙ not-false _ (c .before .before .before .before .before .before .before .before .before .before .before .before .if2 .left)) (c .before .before .before .before .before .before .wrong-number .result) (c .before .before .before .before .before .before .wrong-number .ensures) (c .before .before .before .before .before .if3 .left)
-      (c .before .before .before .before .before .before .before .before .before .before .before .before .before .before .before .before .before .args .table .now) e (c .before .before .before .before .rule-count .result) (c .before .before .before .before .rule-count .ensures .1) (c .answered .result) (c .answered .ensures);
+  other-table = λ d. absurd (d (c .before .before .before .before .before .before .before .before .before .before .before .before .before .if1 .left));
+  decision = λ S standing holds e. answers standing holds (c .before .before .before .before .before .before .before .before .before .before .before .before .before .before .before .before .args .block .now)
+      (λ i. c .before .before .before .before .before .before .before .before .before .before .before .before .before .before .before .shared-slice-known .given i .fits) (sym (c .before .before .before .before .before .before .before .before .before .before .before .before .is-block .ensures) ∙ not-false _ (c .before .before .before .before .before .before .before .before .before .before .before .if2 .left)) (c .before .before .before .before .before .wrong-number .result) (c .before .before .before .before .before .wrong-number .ensures) (c .before .before .before .before .if3 .left)
+      (c .before .before .before .before .before .before .before .before .before .before .before .before .before .before .before .before .args .table .now) e (c .answered .result) (c .answered .ensures);
 }
 
 pub decide-spec : {M : Type 1} → statement M
@@ -121,7 +112,6 @@ decide-spec =
     part-entries-end
     wrong-number-requires
     returns-3
-    rule-count-requires
     sub-pairs
     part-pairs-start
     part-pairs-end

@@ -11,7 +11,7 @@ use Rattle.model.specs.Load.{readOn}
 use Rattle.text.proofs.Places.{done}
 use Rattle.book.specs.Sections.{bookWords, ruleBytes}
 use Rattle.book.specs.Held.{Holds}
-use Rattle.book.proofs.Files.{Onward, onward-starts, onward-ends, turn-within, turn-refused, turn-next}
+use Rattle.book.proofs.Files.{Onward, onward-starts, onward-ends, turn-within, turn-ended, turn-refused, turn-next}
 use Rattle.book.proofs.file.others.Statement.{statement}
 use Rattle.book.proofs.file.others.Tie as tie
 
@@ -28,99 +28,107 @@ loop-holds c =
     let start = c .before .before .before in
     (start .pre .0, start .pre .1, omega arith, omega arith, onward-starts (start .args .book .now) (start .args .code .now) (start .args .rest .now))
 
-sub-line-length : tie.Need-sub-line-length Inv-loop μ-loop
-sub-line-length c = omega arith
+sub-first-line : tie.Need-sub-first-line Inv-loop μ-loop
+sub-first-line c = omega arith
 
-part-line-length-start : tie.Need-part-line-length-start Inv-loop μ-loop
-part-line-length-start c = omega arith
+part-first-line-start : tie.Need-part-first-line-start Inv-loop μ-loop
+part-first-line-start c = omega arith
 
-part-line-length-end : tie.Need-part-line-length-end Inv-loop μ-loop
-part-line-length-end c = omega arith
+part-first-line-end : tie.Need-part-first-line-end Inv-loop μ-loop
+part-first-line-end c = omega arith
 
-line-length-requires : tie.Need-line-length-requires Inv-loop μ-loop
-line-length-requires c κs = search needs
+first-line-requires : tie.Need-first-line-requires Inv-loop μ-loop
+first-line-requires c κs = search needs
 
 add-next : tie.Need-add-next Inv-loop μ-loop
 add-next c =
-    let start = c .before .before .before .before .before .before .before in
+    let start = c .before .before .before .before .before .before .before .before in
     let rest = start .args .rest .now in
-    let turn = c .before .before .before in
-    let said = c .line-length in
-    let within = turn-within (readOn empty none 1 (linesOf rest)) (turn .loop .book) (turn .loop .code) (turn .loop .previous) (turn .loop .n) (turn .loop .at) (said .result) rest (said .ensures) (omega (arith, c .before .before .loop-test .taken)) in
+    let turn = c .before .before .before .before in
+    let said = c .before .first-line in
+    let within = turn-within (readOn empty none 1 (linesOf rest)) (turn .loop .book) (turn .loop .code) (turn .loop .previous) (turn .loop .n) (turn .loop .at) (said .result .length) rest (said .ensures) (omega (arith, c .before .before .before .loop-test .taken)) in
     omega (arith, within .0, within .1)
 
 sub-read : tie.Need-sub-read Inv-loop μ-loop
 sub-read c =
-    let start = c .before .before .before .before .before .before .before .before .before in
+    let start = c .before .before .before .before .before .before .before .before .before .before in
     let rest = start .args .rest .now in
-    let turn = c .before .before .before .before .before in
-    let said = c .before .before .line-length in
-    let within = turn-within (readOn empty none 1 (linesOf rest)) (turn .loop .book) (turn .loop .code) (turn .loop .previous) (turn .loop .n) (turn .loop .at) (said .result) rest (said .ensures) (omega (arith, c .before .before .before .before .loop-test .taken)) in
+    let turn = c .before .before .before .before .before .before in
+    let said = c .before .before .before .first-line in
+    let within = turn-within (readOn empty none 1 (linesOf rest)) (turn .loop .book) (turn .loop .code) (turn .loop .previous) (turn .loop .n) (turn .loop .at) (said .result .length) rest (said .ensures) (omega (arith, c .before .before .before .before .before .loop-test .taken)) in
     omega (arith, within .0, within .1)
 
 part-read-start : tie.Need-part-read-start Inv-loop μ-loop
 part-read-start c =
-    let start = c .before .before .before .before .before .before .before .before .before in
+    let start = c .before .before .before .before .before .before .before .before .before .before in
     let rest = start .args .rest .now in
-    let turn = c .before .before .before .before .before in
-    let said = c .before .before .line-length in
-    let within = turn-within (readOn empty none 1 (linesOf rest)) (turn .loop .book) (turn .loop .code) (turn .loop .previous) (turn .loop .n) (turn .loop .at) (said .result) rest (said .ensures) (omega (arith, c .before .before .before .before .loop-test .taken)) in
+    let turn = c .before .before .before .before .before .before in
+    let said = c .before .before .before .first-line in
+    let within = turn-within (readOn empty none 1 (linesOf rest)) (turn .loop .book) (turn .loop .code) (turn .loop .previous) (turn .loop .n) (turn .loop .at) (said .result .length) rest (said .ensures) (omega (arith, c .before .before .before .before .before .loop-test .taken)) in
     omega (arith, within .0, within .1)
 
 part-read-end : tie.Need-part-read-end Inv-loop μ-loop
 part-read-end c =
-    let start = c .before .before .before .before .before .before .before .before .before in
+    let start = c .before .before .before .before .before .before .before .before .before .before in
     let rest = start .args .rest .now in
-    let turn = c .before .before .before .before .before in
-    let said = c .before .before .line-length in
-    let within = turn-within (readOn empty none 1 (linesOf rest)) (turn .loop .book) (turn .loop .code) (turn .loop .previous) (turn .loop .n) (turn .loop .at) (said .result) rest (said .ensures) (omega (arith, c .before .before .before .before .loop-test .taken)) in
+    let turn = c .before .before .before .before .before .before in
+    let said = c .before .before .before .first-line in
+    let within = turn-within (readOn empty none 1 (linesOf rest)) (turn .loop .book) (turn .loop .code) (turn .loop .previous) (turn .loop .n) (turn .loop .at) (said .result .length) rest (said .ensures) (omega (arith, c .before .before .before .before .before .loop-test .taken)) in
     omega (arith, within .0, within .1)
 
 read-requires : tie.Need-read-requires Inv-loop μ-loop
-read-requires c κs = (c .before .before .before .before .before .before .loop .inv .0, c .before .before .before .before .before .before .loop .inv .1)
+read-requires c κs =
+    let start = c .before .before .before .before .before .before .before .before .before .before .before in
+    let rest = start .args .rest .now in
+    let turn = c .before .before .before .before .before .before .before in
+    let said = c .before .before .before .before .first-line in (
+      turn .loop .inv .0,
+      turn .loop .inv .1,
+      turn-ended (readOn empty none 1 (linesOf rest)) (turn .loop .book) (turn .loop .code) (turn .loop .previous) (turn .loop .n) (turn .loop .at) (said .result .length) rest (said .ensures) (omega (arith, c .before .before .before .before .before .before .loop-test .taken)),
+    )
 
 add-n : tie.Need-add-n Inv-loop μ-loop
-add-n c = omega (arith, c .before .before .before .before .before .before .before .before .before .before .before .loop .inv .3, c .before .before .before .before .before .before .before .before .before .before .loop-test .taken, c .before .before .before .before .before .before .before .before .before .before .before .before .before .before .before .pre .2)
+add-n c = omega (arith, c .before .before .before .before .before .before .before .before .before .before .before .before .loop .inv .3, c .before .before .before .before .before .before .before .before .before .before .before .loop-test .taken, c .before .before .before .before .before .before .before .before .before .before .before .before .before .before .before .before .pre .2)
 
 same-length : tie.Need-same-length Inv-loop μ-loop
-same-length c = omega (arith, c .before .before .before .before .before .before .read .kept, c .before .before .before .before .before .before .before .before .before .before .before .before .before .loop .inv .0, c .before .before .before .before .before .before .before .before .before .before .before .before .before .before .before .before .before .pre .0)
+same-length c = omega (arith, c .before .before .before .before .before .before .read .kept, c .before .before .before .before .before .before .before .before .before .before .before .before .before .before .loop .inv .0, c .before .before .before .before .before .before .before .before .before .before .before .before .before .before .before .before .before .before .pre .0)
 
 same-length-2 : tie.Need-same-length-2 Inv-loop μ-loop
-same-length-2 c = omega (arith, c .before .before .before .before .before .before .read .kept, c .before .before .before .before .before .before .before .before .before .before .before .before .before .loop .inv .1, c .before .before .before .before .before .before .before .before .before .before .before .before .before .before .before .before .before .pre .1)
+same-length-2 c = omega (arith, c .before .before .before .before .before .before .read .kept, c .before .before .before .before .before .before .before .before .before .before .before .before .before .before .loop .inv .1, c .before .before .before .before .before .before .before .before .before .before .before .before .before .before .before .before .before .before .pre .1)
 
 returns : tie.Need-returns Inv-loop μ-loop
 returns c empty-held =
-    let start = c .before .before .before .before .before .before .before .before .before .before .before .before .before .before .before .before .before in
+    let start = c .before .before .before .before .before .before .before .before .before .before .before .before .before .before .before .before .before .before in
     let rest = start .args .rest .now in
-    let turn = c .before .before .before .before .before .before .before .before .before .before .before .before .before in
-    let said = c .before .before .before .before .before .before .before .before .before .before .line-length in
+    let turn = c .before .before .before .before .before .before .before .before .before .before .before .before .before .before in
+    let said = c .before .before .before .before .before .before .before .before .before .before .before .first-line in
     let done = c .before .before .before .before .before .before .read in
-    turn-refused (readOn empty none 1 (linesOf rest)) (turn .loop .book) (turn .loop .code) (turn .loop .previous) (turn .loop .n) (turn .loop .at) (said .result) rest (said .ensures) (omega (arith, c .before .before .before .before .before .before .before .before .before .before .before .before .loop-test .taken))
+    turn-refused (readOn empty none 1 (linesOf rest)) (turn .loop .book) (turn .loop .code) (turn .loop .previous) (turn .loop .n) (turn .loop .at) (said .result .length) rest (said .ensures) (omega (arith, c .before .before .before .before .before .before .before .before .before .before .before .before .before .loop-test .taken))
     (turn .loop .inv .4 empty-held) (done .last .0) (done .last .1 .0) (done .result .number) (done .result .key) (turn .loop .n + 1) (done .ensures) refl (c .if1 .taken)
 
 loop-less : tie.Need-loop-less Inv-loop μ-loop
 loop-less c =
-    let start = c .before .before .before .before .before .before .before .before .before .before .before .before .before .before .before .before .before in
+    let start = c .before .before .before .before .before .before .before .before .before .before .before .before .before .before .before .before .before .before in
     let rest = start .args .rest .now in
-    let turn = c .before .before .before .before .before .before .before .before .before .before .before .before .before in
-    let said = c .before .before .before .before .before .before .before .before .before .before .line-length in
-    let within = turn-within (readOn empty none 1 (linesOf rest)) (turn .loop .book) (turn .loop .code) (turn .loop .previous) (turn .loop .n) (turn .loop .at) (said .result) rest (said .ensures) (omega (arith, c .before .before .before .before .before .before .before .before .before .before .before .before .loop-test .taken)) in
+    let turn = c .before .before .before .before .before .before .before .before .before .before .before .before .before .before in
+    let said = c .before .before .before .before .before .before .before .before .before .before .before .first-line in
+    let within = turn-within (readOn empty none 1 (linesOf rest)) (turn .loop .book) (turn .loop .code) (turn .loop .previous) (turn .loop .n) (turn .loop .at) (said .result .length) rest (said .ensures) (omega (arith, c .before .before .before .before .before .before .before .before .before .before .before .before .before .loop-test .taken)) in
     omega (arith, within .0, within .1)
 
 loop-again : tie.Need-loop-again Inv-loop μ-loop
 loop-again c =
-    let start = c .before .before .before .before .before .before .before .before .before .before .before .before .before .before .before .before .before in
+    let start = c .before .before .before .before .before .before .before .before .before .before .before .before .before .before .before .before .before .before in
     let rest = start .args .rest .now in
-    let turn = c .before .before .before .before .before .before .before .before .before .before .before .before .before in
-    let said = c .before .before .before .before .before .before .before .before .before .before .line-length in
-    let within = turn-within (readOn empty none 1 (linesOf rest)) (turn .loop .book) (turn .loop .code) (turn .loop .previous) (turn .loop .n) (turn .loop .at) (said .result) rest (said .ensures) (omega (arith, c .before .before .before .before .before .before .before .before .before .before .before .before .loop-test .taken)) in
+    let turn = c .before .before .before .before .before .before .before .before .before .before .before .before .before .before in
+    let said = c .before .before .before .before .before .before .before .before .before .before .before .first-line in
+    let within = turn-within (readOn empty none 1 (linesOf rest)) (turn .loop .book) (turn .loop .code) (turn .loop .previous) (turn .loop .n) (turn .loop .at) (said .result .length) rest (said .ensures) (omega (arith, c .before .before .before .before .before .before .before .before .before .before .before .before .before .loop-test .taken)) in
     let done = c .before .before .before .before .before .before .read in (
       omega (arith, done .kept, turn .loop .inv .0),
       omega (arith, done .kept, turn .loop .inv .1),
       within .1,
       omega (arith, within .0, turn .loop .inv .3),
       λ empty-held.
-          turn-next (readOn empty none 1 (linesOf rest)) (turn .loop .book) (turn .loop .code) (turn .loop .previous) (turn .loop .n) (turn .loop .at) (said .result) rest (said .ensures) (omega (arith, c .before .before .before .before .before .before .before .before .before .before .before .before .loop-test .taken))
+          turn-next (readOn empty none 1 (linesOf rest)) (turn .loop .book) (turn .loop .code) (turn .loop .previous) (turn .loop .n) (turn .loop .at) (said .result .length) rest (said .ensures) (omega (arith, c .before .before .before .before .before .before .before .before .before .before .before .before .before .loop-test .taken))
           (turn .loop .inv .4 empty-held) (done .last .0) (done .last .1 .0) (done .result .number) (done .result .key) (turn .loop .n + 1) (done .ensures) refl (c .if1 .left),
     )
 
@@ -144,10 +152,10 @@ others-spec =
     Inv-loop
     μ-loop
     loop-holds
-    sub-line-length
-    part-line-length-start
-    part-line-length-end
-    line-length-requires
+    sub-first-line
+    part-first-line-start
+    part-first-line-end
+    first-line-requires
     add-next
     sub-read
     part-read-start

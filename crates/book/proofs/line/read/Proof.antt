@@ -4,20 +4,20 @@ use borrow.Author.Needs.{needs}
 use Rattle.book.proofs.line.read.Statement.{statement}
 use Rattle.book.proofs.line.read.Tie as tie
 
-frame-requires : tie.Need-frame-requires
-frame-requires c κs = search needs
+frame-at-requires : tie.Need-frame-at-requires
+frame-at-requires c κs = c .before .before .before .pre .2
 
 returns : tie.Need-returns
 returns c =
     let start = c .before .before .before .before .before in
-    let read = c .before .frame in
+    let read = c .before .frame-at in
     line-unframed (start .args .book .now) (start .args .code .now) (start .args .line .now) (start .args .previous) (read .result) (read .ensures)
     (start .args .book .now) (start .args .code .now) 0 (c .if1 .taken)
 
 returns-2 : tie.Need-returns-2
 returns-2 c =
     let start = c .before .before .before .before .before .before in
-    let read = c .before .before .frame in
+    let read = c .before .before .frame-at in
     line-early (start .args .book .now) (start .args .code .now) (start .args .line .now) (start .args .previous) (read .result) (read .ensures) (c .before .if1 .left)
     (start .args .book .now) (start .args .code .now) (read .result .key) (c .if2 .taken)
 
@@ -33,7 +33,7 @@ part-step-end c = search needs
 step-requires : tie.Need-step-requires
 step-requires c κs =
     let start = c .before .before .before .before .before .before .before .before .before in
-    let read = c .before .before .before .before .before .frame in
+    let read = c .before .before .before .before .before .frame-at in
     (start .pre .0, start .pre .1, line-fields (start .args .book .now) (start .args .code .now) (start .args .line .now) (start .args .previous) (read .result) (read .ensures) (c .before .before .before .before .if1 .left))
 
 same-length : tie.Need-same-length
@@ -45,7 +45,7 @@ same-length-2 c = search needs
 returns-3 : tie.Need-returns-3
 returns-3 c =
     let start = c .before .before .before .before .before .before .before .before .before .before .before .before .before .before in
-    let read = c .before .before .before .before .before .before .before .before .before .before .frame in
+    let read = c .before .before .before .before .before .before .before .before .before .before .frame-at in
     let done = c .before .before .before .before .step in
     line-stepped (start .args .book .now) (start .args .code .now) (start .args .line .now) (start .args .previous) (read .result) (read .ensures) (c .before .before .before .before .before .before .before .before .before .if1 .left)
     (c .before .before .before .before .before .before .before .before .if2 .left) (done .last .0) (done .last .1 .0) (done .result) (done .ensures)
@@ -54,7 +54,7 @@ pub read-spec : {M : Type 1} → statement M
 read-spec =
     tie.close
     (tie.spec
-    frame-requires
+    frame-at-requires
     returns
     returns-2
     sub-step

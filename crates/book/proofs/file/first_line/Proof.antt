@@ -1,15 +1,15 @@
--- `file::line_length` meets its contract: up to the first byte 10, or to the end. Assumes nothing.
+-- `file::first_line` meets its contract: up to the first byte 10, or to the end. Assumes nothing.
 use native.Mathlib.Omega.{arith}
 use Rattle.book.proofs.Files.{line-ended, line-unended}
 use borrow.Author.Needs.{needs}
-use Rattle.book.proofs.file.line_length.Statement.{statement}
-use Rattle.book.proofs.file.line_length.Tie as tie
+use Rattle.book.proofs.file.first_line.Statement.{statement}
+use Rattle.book.proofs.file.first_line.Tie as tie
 
 index-of-requires : tie.Need-index-of-requires
 index-of-requires c κs = search needs
 
-add-result : tie.Need-add-result
-add-result c = search needs
+add-t5 : tie.Need-add-t5
+add-t5 c = search needs
 
 returns : tie.Need-returns
 returns c = line-ended (c .before .before .before .args .s .now) (c .before .index-of .result) (c .before .index-of .ensures) (omega (arith, c .if1 .taken))
@@ -17,5 +17,5 @@ returns c = line-ended (c .before .before .before .args .s .now) (c .before .ind
 returns-2 : tie.Need-returns-2
 returns-2 c = line-unended (c .before .before .before .args .s .now) (c .before .index-of .result) (c .before .index-of .ensures) (omega (arith, c .if1 .left))
 
-pub line-length-spec : {M : Type 1} → statement M
-line-length-spec = tie.close (tie.spec index-of-requires add-result returns returns-2)
+pub first-line-spec : {M : Type 1} → statement M
+first-line-spec = tie.close (tie.spec index-of-requires add-t5 returns returns-2)
