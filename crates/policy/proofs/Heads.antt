@@ -5,10 +5,11 @@ use mathlib.Core.Bool.{Bool, true, false, _&&_}
 use mathlib.Core.List.{List, [], _∷_}
 use mathlib.Core.Option.{Option, none, some, Option·some-injective}
 use native.Mathlib.Omega.{arith}
-use lib.Dec.{leb}
+use native.Mathlib.Decide.{decLt}
+use lib.Dec.{eqb, leb}
 use lib.ListN.{length, getD}
-use borrow.Author.Tests.{le-leb, leb-true}
-use Rattle.model.specs.Notation.{_>>=_, _or-else_, onlyIf}
+use borrow.Author.Tests.{le-leb, leb-true, eqb-true, eqb-false}
+use Rattle.model.specs.Notation.{_>>=_, _or-else_, onlyIf, if_then_else_}
 use Rattle.model.specs.Bytes.{Bytes}
 use Rattle.model.specs.Truth as truth
 use Rattle.model.specs.Atoms.{Atom}
@@ -22,7 +23,7 @@ use Rattle.model.proofs.Options.{bind-some, parts, both}
 use Rattle.model.proofs.Complete.{above}
 use Rattle.codes.specs.Codes.{operatorCode}
 use Rattle.codes.proofs.TokenKinds.{truth-range}
-use Rattle.tokens.proofs.RuleCode.{truth-here, name-here}
+use Rattle.tokens.proofs.RuleCode.{truth-here}
 use Rattle.truth.specs.declared.Truth.{Truth}
 use Rattle.truth.specs.declared.Truth.the-variants.{False, Undef, True}
 use Rattle.values.specs.Compared.{Compared, Lone}
@@ -32,8 +33,8 @@ use Rattle.policy.specs.declared.Reading.the-variants.{Read, Malformed}
 use Rattle.policy.specs.declared.Head.{Head}
 use Rattle.policy.specs.declared.Head.the-variants.{Leaf, Open, Neither}
 use Rattle.policy.specs.declared.Var.{Var}
-use Rattle.policy.specs.Starts.{Start, whole, opened, neither, simpleStart, negatedStart, readOr, plainStart, termStart, aloneStart, closedBy}
-use Rattle.policy.specs.Readers.{Lending, lending, lentWith, Asked, From, Answers, Ahead, Terms, Policies, Closes, Starts, Further, Heads, NegatedHead, Spoken, VarReads, VarAnswers, Vars, Alone, VarHeads, leafPart}
+use Rattle.policy.specs.Starts.{Start, whole, opened, neither, simpleStart, negatedStart, readOr, plainStart, signedStart, termStart, aloneStart, closedBy}
+use Rattle.policy.specs.Readers.{Lending, lending, lentWith, Asked, From, Answers, Ahead, Terms, Policies, Closes, Starts, Further, Heads, NegatedHead, Spoken, VarReads, VarAnswers, Vars, Alone, SecondVars, SignedHead, VarHeads, leafPart}
 use Rattle.policy.proofs.Fronts.{inside, told, is-mark, isnt-mark, mark-on, mark-off, operator-on, operator-off}
 use Rattle.policy.proofs.Parts.{negated-starts, not-further}
 use Rattle.policy.proofs.Shorter.{mark-fewer}
@@ -87,7 +88,7 @@ alone-start (model.Token.mark m ∷ ts) y e = go (isMark Mark.lbrace m) refl e
 -- ---- simple terms
 
 module _ (code : Bytes) (L : Lending) (at k : ℕ) (e : k ≡ getD code at 0) where
-  pub here : 0 < k → at < length code
+  here : 0 < k → at < length code
   here h = inside code at (omega arith)
 
   pub simple-open : k ≡ 5 → Heads (λ ts. simpleStart ts) code L at (Open false (at + 1))
@@ -107,29 +108,21 @@ module _ (code : Bytes) (L : Lending) (at k : ℕ) (e : k ≡ getD code at 0) wh
         (record { behind = told (subst (From code A at) s f) .behind; term-count = refl; deepest = refl; largest-set = refl; truth = λ u read r. p t (e ∙ c) });
   })
 
-  other-starts : (k ≡ 5 → ⊥) → (13 ≤ k → k ≤ 15 → ⊥) → (k ≡ 4 → ⊥) → (A : Asked) (ts : List model.Token) → From code A at ts → Starts code L A Neither (simpleStart ts)
-  other-starts a b d A [] f = tt
-  other-starts a b d A (model.Token.name x n ∷ ts) f = d (e ∙ told f .kind-is)
-  other-starts a b d A (model.Token.int n ∷ ts) f = tt
-  other-starts a b d A (model.Token.str n ∷ ts) f = tt
-  other-starts a b d A (model.Token.truth w ∷ ts) f = b (omega (arith, e, told f .kind-is, truth-range w)) (omega (arith, e, told f .kind-is, truth-range w))
-  other-starts a b d A (model.Token.operator o ∷ ts) f = tt
-  other-starts a b d A (model.Token.mark m ∷ ts) f =
-      subst (λ (k : Bool). Starts code L A Neither (elim k as (λ _. Start) [ true ↦ opened false ts | false ↦ neither ]))
-      (sym (isnt-mark Mark.lparen m (λ q. a (e ∙ told f .kind-is ∙ q)))) tt
+  -- where no var begins either
+  module _ (v : Var) (X : Vars code (L .attributes) at v) (z : v .ok ≡ false) where
+    other-starts : (k ≡ 5 → ⊥) → (13 ≤ k → k ≤ 15 → ⊥) → (A : Asked) (ts : List model.Token) → From code A at ts → Starts code L A Neither (simpleStart ts)
+    other-starts a b A [] f = tt
+    other-starts a b A (model.Token.name x n ∷ ts) f = false-is-true (sym z ∙ X .answers L refl A (model.Token.name x n ∷ ts) f .0)
+    other-starts a b A (model.Token.int n ∷ ts) f = tt
+    other-starts a b A (model.Token.str n ∷ ts) f = tt
+    other-starts a b A (model.Token.truth w ∷ ts) f = b (omega (arith, e, told f .kind-is, truth-range w)) (omega (arith, e, told f .kind-is, truth-range w))
+    other-starts a b A (model.Token.operator o ∷ ts) f = tt
+    other-starts a b A (model.Token.mark m ∷ ts) f =
+        subst (λ (k : Bool). Starts code L A Neither (elim k as (λ _. Start) [ true ↦ opened false ts | false ↦ neither ]))
+        (sym (isnt-mark Mark.lparen m (λ q. a (e ∙ told f .kind-is ∙ q)))) tt
 
-  pub simple-neither : (k ≡ 5 → ⊥) → (13 ≤ k → k ≤ 15 → ⊥) → (k ≡ 4 → ⊥) → Heads (λ ts. simpleStart ts) code L at Neither
-  simple-neither a b d = record { further = tt; starts = λ A ts f. other-starts a b d A ts f }
-
-  -- an attribute
-  pub simple-name : k ≡ 4 → (v : Var) (h : Head) → Vars code (L .attributes) at v → Alone code (L .pairs) (L .session) (L .entries) v h → Heads (λ ts. simpleStart ts) code L at h
-  simple-name z v h X O = record {
-    further = O .further at (X .further);
-    starts = λ A ts f.
-        let (s, n, us, g, c) = name-here (f .coded) (sym e ∙ z) in
-        let a : VarAnswers code L A v (some (attribute s n, us)) = subst (λ w. VarAnswers code L A v (readVar w)) g (X .answers L refl A ts f) in
-        subst (λ w. Starts code L A h (simpleStart w)) (sym g) (O .starts (L .attributes) A (attribute s n) us (a .1));
-  }
+    pub simple-neither : (k ≡ 5 → ⊥) → (13 ≤ k → k ≤ 15 → ⊥) → Heads (λ ts. simpleStart ts) code L at Neither
+    simple-neither a b = record { further = tt; starts = λ A ts f. other-starts a b A ts f }
 
 -- ---- what begins with a var
 
@@ -143,11 +136,11 @@ behindVar v r = r >>= λ (o, rest). behindOperator v o (readVar rest)
 abbrev fromVar : Option (grammar.Var × List model.Token) → grammar.Reading
 fromVar r = r >>= λ (v, rest). behindVar v (readOperator rest)
 
-module _ (code : Bytes) (L : Lending) (v : Var) (k : ℕ) (e : k ≡ getD code (v .next) 0) where
+module _ (code : Bytes) (L : Lending) (v : Var) where
   -- a head that fits what is read behind the var fits what begins with it
   var-heads : (h : Head) → ((at : ℕ) → at ≤ v .next → Further code at h)
       → ((A : Asked) (w : grammar.Var) (rest : List model.Token) → VarReads code L A v w rest → Starts code L A h (readOr (aloneStart w rest) (behindVar w (readOperator rest))))
-      → VarHeads code L v h
+      → VarHeads code L false v h
   unfolding plainStart readComparison
   var-heads h a f at X ok = record { further = a at (X .further); starts = λ A ts g. go A ts (readVar ts) refl (X .answers L refl A ts g) }
     where
@@ -157,17 +150,25 @@ module _ (code : Bytes) (L : Lending) (v : Var) (k : ℕ) (e : k ≡ getD code (
       go A ts (some y) q b =
           subst (λ (x : Start). Starts code L A h (readOr x (behindVar (y .0) (readOperator (y .1))))) (sym (alone-start ts y q)) (f A (y .0) (y .1) (b .1))
 
-  pub not-compared : (h : Head) → (16 ≤ k → k ≤ 23 → ⊥) → Alone code (L .pairs) (L .session) (L .entries) v h → VarHeads code L v h
+  not-compared : (h : Head) → (16 ≤ getD code (v .next) 0 → getD code (v .next) 0 ≤ 23 → ⊥) → Alone code (L .pairs) (L .session) (L .entries) v h → VarHeads code L false v h
   not-compared h n O = var-heads h (O .further) λ A w rest r.
       subst (λ o. Starts code L A h (readOr (aloneStart w rest) (behindVar w o)))
       (sym (operator-off code A (v .next) rest (r .behind) (λ x y. n (omega arith) (omega arith)))) (O .starts (L .attributes) A w rest r)
 
-  module _ (lo : 16 ≤ k) where
-    pub operator-within : v .next < length code
-    operator-within = inside code (v .next) (omega arith)
+  -- after NOT a var stands alone
+  not-alone : (h r : Head) → Alone code (L .pairs) (L .session) (L .entries) v h → NegatedHead h r → VarHeads code L true v r
+  not-alone h r O n at X ok = record {
+    further = not-further code at h r n (O .further at (X .further));
+    starts = λ A ts g. negated-starts code L A h r (simpleStart ts) n (go A ts (readVar ts) refl (X .answers L refl A ts g));
+  }
+    where
+      go : (A : Asked) (ts : List model.Token) (q : Option (grammar.Var × List model.Token)) → readVar ts ≡ q → VarAnswers code L A v q → Starts code L A h (simpleStart ts)
+      go A ts none q b = false-is-true (sym b ∙ ok)
+      go A ts (some y) q b = subst (Starts code L A h) (sym (alone-start ts y q)) (O .starts (L .attributes) A (y .0) (y .1) (b .1))
 
-    module _ (w : Var) (W : Vars code (L .attributes) (v .next + 1) w) where
-      pub no-second : (h : Head) → w .ok ≡ false → Alone code (L .pairs) (L .session) (L .entries) v h → VarHeads code L v h
+  module _ (w : Var) where
+    module _ (lo : 16 ≤ getD code (v .next) 0) (W : Vars code (L .attributes) (v .next + 1) w) where
+      no-second : (h : Head) → w .ok ≡ false → Alone code (L .pairs) (L .session) (L .entries) v h → VarHeads code L false v h
       no-second h z O = var-heads h (O .further) λ A x rest r.
           let (o, left, c, s, g) = operator-on code A (v .next) rest (r .behind) (omega arith) in
           subst (λ us. Starts code L A h (readOr (aloneStart x rest) (behindVar x (readOperator us)))) (sym s)
@@ -178,16 +179,16 @@ module _ (code : Bytes) (L : Lending) (v : Var) (k : ℕ) (e : k ≡ getD code (
           last A x rest r o none b = O .starts (L .attributes) A x rest r
           last A x rest r o (some y) b = false-is-true (sym z ∙ b .0)
 
-      pub compared : w .ok ≡ true → (t : Truth) → Compared (lentWith code L) k (v .operand) (w .operand) t
-          → (n : ℕ) → n ≡ max (v .atoms) (w .atoms) → (x : Part) → x ≡ leafPart t (w .next) n → VarHeads code L v (Leaf x)
-      compared ok t C n m x q =
-          subst (λ (y : Part). VarHeads code L v (Leaf y)) (sym q)
+      with-second : w .ok ≡ true → (t : Truth) → Compared (lentWith code L) (getD code (v .next) 0) (v .operand) (w .operand) t
+          → (n : ℕ) → n ≡ max (v .atoms) (w .atoms) → (x : Part) → x ≡ leafPart t (w .next) n → VarHeads code L false v (Leaf x)
+      with-second ok t C n m x q =
+          subst (λ (y : Part). VarHeads code L false v (Leaf y)) (sym q)
           (var-heads (Leaf (leafPart t (w .next) n)) (λ at l. let g = W .further in omega arith) λ A y rest r.
           let (o, left, c, s, g) = operator-on code A (v .next) rest (r .behind) (omega arith) in
           subst (λ us. Starts code L A (Leaf (leafPart t (w .next) n)) (readOr (aloneStart y rest) (behindVar y (readOperator us)))) (sym s)
-          (last A y rest r o (e ∙ c) (readVar left) (W .answers L refl A left g)))
+          (last A y rest r o c (readVar left) (W .answers L refl A left g)))
         where
-          last : (A : Asked) (y : grammar.Var) (rest : List model.Token) → VarReads code L A v y rest → (o : Operator) → k ≡ operatorCode o
+          last : (A : Asked) (y : grammar.Var) (rest : List model.Token) → VarReads code L A v y rest → (o : Operator) → getD code (v .next) 0 ≡ operatorCode o
               → (q : Option (grammar.Var × List model.Token)) → VarAnswers code L A w q
               → Starts code L A (Leaf (leafPart t (w .next) n)) (readOr (aloneStart y rest) (behindOperator y o q))
           last A y rest r o c none b = false-is-true (sym b ∙ ok)
@@ -199,6 +200,35 @@ module _ (code : Bytes) (L : Lending) (v : Var) (k : ℕ) (e : k ≡ getD code (
             truth = λ u read f. C .by-operator o _ _ c (r .stands u read f) (b .1 .stands u read f);
           }
 
+    -- the ways of what begins with a var
+    module _ (negated : Bool) (second : SecondVars code (L .attributes) negated (v .next) w) where
+      pub not-second : w .ok ≡ false → (h r : Head) → Alone code (L .pairs) (L .session) (L .entries) v h → SignedHead negated h r → VarHeads code L negated v r
+      not-second z h r O = go negated refl
+        where
+          plain : negated ≡ false → Dec (getD code (v .next) 0 < 16) → Dec (23 < getD code (v .next) 0) → VarHeads code L false v h
+          plain f (yes a) d = not-compared h (λ x y. omega arith) O
+          plain f (no a) (yes b) = not-compared h (λ x y. omega arith) O
+          plain f (no a) (no b) = no-second (omega arith) (second .none-second z f (omega arith) (omega arith)) h z O
+
+          go : (b : Bool) → negated ≡ b → SignedHead b h r → VarHeads code L b v r
+          go true f s = not-alone h r O s
+          go false f s = subst (VarHeads code L false v) (sym s) (plain f (decLt (getD code (v .next) 0) 16) (decLt 23 (getD code (v .next) 0)))
+
+      pub compared : w .ok ≡ true → (k : ℕ) → k ≡ getD code (v .next) 0 → (t : Truth) → Compared (lentWith code L) k (v .operand) (w .operand) t
+          → (n : ℕ) → n ≡ max (v .atoms) (w .atoms) → (x : Part) → x ≡ leafPart t (w .next) n → VarHeads code L negated v (Leaf x)
+      compared ok k e t C n m x q =
+          let (f, lo, W) = second .is-second ok in
+          subst (λ (b : Bool). VarHeads code L b v (Leaf x)) (sym f)
+          (with-second lo W ok t (subst (λ (j : ℕ). Compared (lentWith code L) j (v .operand) (w .operand) t) e C) n m x q)
+
+-- the var behind an operator, by what was found of it
+module _ (code : Bytes) (rows : List ℕ) (at : ℕ) where
+  pub no-second-var : (negated : Bool) (w : Var) → w .ok ≡ false → (negated ≡ false → 16 ≤ getD code at 0 → getD code at 0 ≤ 23 → ⊥) → SecondVars code rows negated at w
+  no-second-var negated w z n = record { is-second = λ t. false-is-true (sym z ∙ t); none-second = λ t f a b. absurd (n f a b) }
+
+  pub second-var : (negated : Bool) (w : Var) → negated ≡ false → 16 ≤ getD code at 0 → Vars code rows (at + 1) w → SecondVars code rows negated at w
+  second-var negated w f a W = record { is-second = λ t. (f, a, W); none-second = λ t g b c. W }
+
 -- ---- terms
 
 further-later : (code : Bytes) (at n : ℕ) (h : Head) → at ≤ n → Further code n h → Further code at h
@@ -206,34 +236,41 @@ further-later code at n (Leaf x) l a = omega arith
 further-later code at n (Open b m) l a = omega arith
 further-later code at n Neither l a = tt
 
-module _ (code : Bytes) (L : Lending) (at k : ℕ) (e : k ≡ getD code at 0) where
-  pub term-not : (h r : Head) → k ≡ 12 → Heads (λ ts. simpleStart ts) code L (at + 1) h → NegatedHead h r → Heads (λ ts. termStart ts) code L at r
-  unfolding termStart
-  term-not h r z H n = record {
-    further = not-further code at h r n (further-later code at (at + 1) h (omega arith) (H .further));
-    starts = λ A ts f.
-        let m = mark-on Mark.NOT code A at ts f (sym e ∙ z) in
-        subst (λ us. Starts code L A r (termStart us)) (sym (m .split)) (negated-starts code L A h r (simpleStart (m .rest)) n (H .starts A (m .rest) (m .behind)));
+module _ (code : Bytes) (L : Lending) (at : ℕ) where
+  -- without a var, after NOT or not
+  pub signed-simple : (negated : Bool) (v : Var) → Vars code (L .attributes) at v → v .ok ≡ false → (h r : Head) → Heads (λ ts. simpleStart ts) code L at h
+      → SignedHead negated h r → Heads (signedStart negated) code L at r
+  unfolding plainStart readComparison
+  signed-simple true v X o h r H n = record {
+    further = not-further code at h r n (H .further);
+    starts = λ A ts f. negated-starts code L A h r (simpleStart ts) n (H .starts A ts f);
   }
+  signed-simple false v X o h r H n =
+      subst (Heads (λ ts. plainStart ts) code L at) (sym n)
+      (record { further = H .further; starts = λ A ts f. go A ts (H .starts A ts f) (readVar ts) (X .answers L refl A ts f) })
+    where
+      go : (A : Asked) (ts : List model.Token) → Starts code L A h (simpleStart ts) → (q : Option (grammar.Var × List model.Token)) → VarAnswers code L A v q
+          → Starts code L A h (readOr (simpleStart ts) (fromVar q))
+      go A ts s none a = s
+      go A ts s (some y) a = false-is-true (sym o ∙ a .0)
 
-  module _ (z : k ≡ 12 → ⊥) (h : Head) where
-    pub term-plain : Heads (λ ts. plainStart ts) code L at h → Heads (λ ts. termStart ts) code L at h
-    unfolding termStart
-    term-plain H = record {
-      further = H .further;
-      starts = λ A ts f.
-          subst (λ w. Starts code L A h (elim w as (λ _. Start) [ some rest ↦ negatedStart (simpleStart rest) | none ↦ plainStart ts ]))
-          (sym (mark-off Mark.NOT code A at ts f (λ q. z (e ∙ q)))) (H .starts A ts f);
-    }
-
-    pub term-simple : (v : Var) → Vars code (L .attributes) at v → v .ok ≡ false → Heads (λ ts. simpleStart ts) code L at h → Heads (λ ts. termStart ts) code L at h
-    unfolding plainStart readComparison
-    term-simple v X o H = term-plain (record { further = H .further; starts = λ A ts f. go A ts (H .starts A ts f) (readVar ts) (X .answers L refl A ts f) })
-      where
-        go : (A : Asked) (ts : List model.Token) → Starts code L A h (simpleStart ts) → (r : Option (grammar.Var × List model.Token)) → VarAnswers code L A v r
-            → Starts code L A h (readOr (simpleStart ts) (fromVar r))
-        go A ts s none a = s
-        go A ts s (some y) a = false-is-true (sym o ∙ a .0)
+  -- a term: what stands behind its NOT, if it has one
+  pub term-signed : (negated : Bool) → negated ≡ eqb (getD code at 0) 12 → (n : ℕ) → n ≡ (if negated then at + 1 else at) → (h : Head)
+      → Heads (signedStart negated) code L n h → Heads (λ ts. termStart ts) code L at h
+  unfolding termStart
+  term-signed true e n f h H = record {
+    further = further-later code at n h (omega arith) (H .further);
+    starts = λ A ts g.
+        let m = mark-on Mark.NOT code A at ts g (eqb-true (getD code at 0) 12 (sym e)) in
+        subst (λ us. Starts code L A h (termStart us)) (sym (m .split)) (H .starts A (m .rest) (subst (λ (k : ℕ). From code A k (m .rest)) (sym f) (m .behind)));
+  }
+  term-signed false e n f h H = record {
+    further = further-later code at n h (omega arith) (H .further);
+    starts = λ A ts g.
+        subst (λ w. Starts code L A h (elim w as (λ _. Start) [ some rest ↦ negatedStart (simpleStart rest) | none ↦ plainStart ts ]))
+        (sym (mark-off Mark.NOT code A at ts g (eqb-false (getD code at 0) 12 (sym e))))
+        (H .starts A ts (subst (λ (k : ℕ). From code A k ts) (sym f) g));
+  }
 
 -- what is read from a start: `inner` reads the policy in parentheses
 abbrev finished : (List model.Token → grammar.Reading) → Start → grammar.Reading

@@ -5,7 +5,7 @@ use mathlib.Core.Bool.{Bool, true, false}
 use mathlib.Core.List.{List, [], _∷_}
 use mathlib.Core.Option.{Option, none, some}
 use lib.Dec.{eqb}
-use lib.ListN.{length}
+use lib.ListN.{length, getD}
 use Rattle.model.specs.Notation.{any, all, map}
 use Rattle.model.specs.Bytes.{Bytes}
 use Rattle.model.specs.Attributes.{Source}
@@ -31,7 +31,7 @@ use Rattle.policy.specs.declared.Head.{Head}
 use Rattle.policy.specs.declared.Head.the-variants.{Leaf, Open, Neither}
 use Rattle.policy.specs.declared.Var.{Var}
 use Rattle.policy.specs.declared.Constants.{Constants}
-use Rattle.policy.specs.Starts.{Start, whole, opened, neither, plainStart, aloneStart, closedBy, joinedTo}
+use Rattle.policy.specs.Starts.{Start, whole, opened, neither, simpleStart, signedStart, aloneStart, closedBy, joinedTo}
 
 -- ---- what is lent and what is asked
 
@@ -189,9 +189,17 @@ pub record Alone (code : Bytes) (pairs session : List ℕ) (entries : Bytes) (v 
   pub starts : (rows : List ℕ) (A : Asked) (w : grammar.Var) (rest : List Token)
       → VarReads code (lending rows pairs session entries) A v w rest → Starts code (lending rows pairs session entries) A h (aloneStart w rest)
 
--- what begins with a var, wherever it was read
-abbrev pub VarHeads : Bytes → Lending → Var → Head → Type 0
-VarHeads code L v h = (at : ℕ) → Vars code (L .attributes) at v → v .ok ≡ true → Heads (λ ts. plainStart ts) code L at h
+-- the var behind an operator, where one stands at a place and no NOT before the first var
+pub record SecondVars (code : Bytes) (rows : List ℕ) (negated : Bool) (at : ℕ) (w : Var) : Type 0 where
+  pub is-second : w .ok ≡ true → (negated ≡ false) × (16 ≤ getD code at 0) × Vars code rows (at + 1) w
+  pub none-second : w .ok ≡ false → negated ≡ false → 16 ≤ getD code at 0 → getD code at 0 ≤ 23 → Vars code rows (at + 1) w
+
+-- what begins with a var, and what does not, wherever it was read
+abbrev pub VarHeads : Bytes → Lending → Bool → Var → Head → Type 0
+VarHeads code L negated v h = (at : ℕ) → Vars code (L .attributes) at v → v .ok ≡ true → Heads (signedStart negated) code L at h
+
+abbrev pub NoVarHeads : Bytes → ℕ → Head → Type 0
+NoVarHeads code at h = (L : Lending) (v : Var) → Vars code (L .attributes) at v → v .ok ≡ false → Heads (λ ts. simpleStart ts) code L at h
 
 -- ---- parts made of parts
 
@@ -212,6 +220,10 @@ NegatedHead (Open b n) Neither = ⊥
 NegatedHead Neither (Leaf y) = ⊥
 NegatedHead Neither (Open c m) = ⊥
 NegatedHead Neither Neither = Unit {0}
+
+abbrev pub SignedHead : Bool → Head → Head → Type 0
+SignedHead true h r = NegatedHead h r
+SignedHead false h r = r ≡ h
 
 abbrev pub leafPart : Truth → ℕ → ℕ → Part
 leafPart t n l = record { next = n; value = t; terms = 1; depth = 0; largest = l }

@@ -35,6 +35,11 @@ readOr x (some (p, ts)) = whole p ts
 unfoldable pub plainStart : List Token → Start
 plainStart ts = readOr (simpleStart ts) (readComparison ts)
 
+-- after NOT or not
+abbrev pub signedStart : Bool → List Token → Start
+signedStart true ts = negatedStart (simpleStart ts)
+signedStart false ts = plainStart ts
+
 unfoldable pub termStart : List Token → Start
 termStart ts = elim (behindMark Mark.NOT ts) [ some rest ↦ negatedStart (simpleStart rest) | none ↦ plainStart ts ]
 

@@ -3,11 +3,12 @@
 ghost use mathlib.Core.Path.{_≡_};
 ghost use mathlib.Core.Bool.{_&&_, _||_, false};
 ghost use Prim.Native.Nat.{_+_, _*_, _<_, _≤_, min, max};
-ghost use lib.Dec.{leb, ltb};
+ghost use lib.Dec.{eqb, leb, ltb};
 ghost use lib.ListN.{length, getD};
-ghost use Rattle.policy.specs.Starts.{simpleStart, termStart};
+ghost use Rattle.model.specs.Notation.{if_then_else_};
+ghost use Rattle.policy.specs.Starts.{termStart};
 ghost use Rattle.policy.specs.Readers.{lending, Policies, Conjunctions, Terms, Heads, NegatedHead, Closes, ClosedPart, Joins, JoinedPart};
-ghost use Rattle.policy.specs.Readers.{Vars, SetVars, ItemsFrom, ConstantEnds, Alone, VarHeads, Spoken, leafPart};
+ghost use Rattle.policy.specs.Readers.{Vars, SetVars, ItemsFrom, ConstantEnds, Alone, SecondVars, SignedHead, VarHeads, NoVarHeads, Spoken, leafPart};
 ghost use Rattle.policy.specs.Judgements.{Ends, Refuses, Judges, Evaluated};
 use codes::AND;
 use codes::AT_LEAST;
@@ -374,28 +375,41 @@ fn alone(code: &[u8], pairs: &[u64], session: &[u64; 128], entries: &[u8], v: Va
     Head::Leaf(leaf(values::lone(code, pairs, session, entries, o), v.next, 0))
 }
 
-// TRUE, FALSE, UNDEF, an attribute or a parenthesis, by the kind of its first token.
-fn simple_head(
-    code: &[u8],
-    attributes: &[u64],
-    pairs: &[u64],
-    session: &[u64; 128],
-    entries: &[u8],
-    kind: u8,
-    at: usize,
-) -> Head
-    requires { ⌜ (length (now attributes) ≡ 256) × (length (now pairs) ≡ 1024) × (kind ≡ getD (now code) at 0) ⌝ }
-    ensures { λ h. ⌜ Heads simpleStart (now (code .entry)) (lending (now (attributes .entry)) (now (pairs .entry)) (now (session .entry)) (now (entries .entry))) at h ⌝ }
+// TRUE, FALSE, UNDEF or a parenthesis, by the kind of its first token.
+fn simple_head(code: &[u8], kind: u8, at: usize) -> Head
+    requires { ⌜ kind ≡ getD (now code) at 0 ⌝ }
+    ensures { λ h. ⌜ NoVarHeads (now (code .entry)) at h ⌝ }
 {
     match kind {
         LPAREN => Head::Open(false, at + 1),
         FALSE..=TRUE => Head::Leaf(leaf(truth_of(kind), at + 1, 0)),
-        NAME => {
-            let v = var_at(code, attributes, kind, at);
-            alone(code, pairs, session, entries, v)
-        }
         _ => Head::Neither,
     }
+}
+
+// After NOT or not.
+fn signed_head(negated: bool, h: Head) -> Head
+    ensures { λ r. ⌜ SignedHead negated h r ⌝ }
+{
+    if negated {
+        return not_head(h);
+    }
+    h
+}
+
+// The var behind the operator of a comparison, if there is an operator; no comparison stands after NOT.
+fn second_var(code: &[u8], attributes: &[u64], negated: bool, at: usize) -> Var
+    requires { ⌜ length (now attributes) ≡ 256 ⌝ }
+    ensures { λ w. ⌜ SecondVars (now (code .entry)) (now (attributes .entry)) negated at w ⌝ }
+{
+    if negated {
+        return no_var(at);
+    }
+    if !is_operator(kind_at(code, at)) {
+        return no_var(at);
+    }
+    let n = at + 1;
+    var_at(code, attributes, kind_at(code, n), n)
 }
 
 // What begins with a var: a comparison where an operator and a var follow, else the var alone.
@@ -405,27 +419,41 @@ fn var_head(
     pairs: &[u64],
     session: &[u64; 128],
     entries: &[u8],
+    negated: bool,
     v: Var,
 ) -> Head
     requires { ⌜ (length (now attributes) ≡ 256) × (length (now pairs) ≡ 1024) ⌝ }
-    ensures { λ h. ⌜ VarHeads (now (code .entry)) (lending (now (attributes .entry)) (now (pairs .entry)) (now (session .entry)) (now (entries .entry))) v h ⌝ }
+    ensures { λ h. ⌜ VarHeads (now (code .entry)) (lending (now (attributes .entry)) (now (pairs .entry)) (now (session .entry)) (now (entries .entry))) negated v h ⌝ }
 {
-    let o = kind_at(code, v.next);
-    if !is_operator(o) {
-        return alone(code, pairs, session, entries, v);
-    }
-    let n = v.next + 1;
-    let w = var_at(code, attributes, kind_at(code, n), n);
+    let w = second_var(code, attributes, negated, v.next);
     if !w.ok {
-        return alone(code, pairs, session, entries, v);
+        return signed_head(negated, alone(code, pairs, session, entries, v));
     }
+    let o = kind_at(code, v.next);
     let left = v.operand;
     let right = w.operand;
     let value = values::compare(code, pairs, session, entries, o, left, right);
     Head::Leaf(leaf(value, w.next, larger(v.atoms, w.atoms)))
 }
 
-// How a term begins: with NOT before a simple term, with a var, or as a simple term.
+fn is_not(code: &[u8], at: usize) -> bool
+    ensures { λ r. ⌜ r ≡ eqb (getD (now (code .entry)) at 0) 12 ⌝ }
+{
+    kind_at(code, at) == NOT
+}
+
+// The place behind NOT, if it stands there.
+fn behind_not(code: &[u8], negated: bool, at: usize) -> usize
+    requires { ⌜ negated ≡ eqb (getD (now code) at 0) 12 ⌝ }
+    ensures { λ r. ⌜ r ≡ (if negated then at + 1 else at) ⌝ }
+{
+    if negated {
+        return at + 1;
+    }
+    at
+}
+
+// How a term begins, after NOT or not: with a var, or as a simple term.
 fn term_head(
     code: &[u8],
     attributes: &[u64],
@@ -437,17 +465,14 @@ fn term_head(
     requires { ⌜ (length (now attributes) ≡ 256) × (length (now pairs) ≡ 1024) ⌝ }
     ensures { λ h. ⌜ Heads termStart (now (code .entry)) (lending (now (attributes .entry)) (now (pairs .entry)) (now (session .entry)) (now (entries .entry))) at h ⌝ }
 {
-    let k = kind_at(code, at);
-    if k == NOT {
-        let n = at + 1;
-        let after = kind_at(code, n);
-        return not_head(simple_head(code, attributes, pairs, session, entries, after, n));
-    }
-    let v = var_at(code, attributes, k, at);
+    let negated = is_not(code, at);
+    let n = behind_not(code, negated, at);
+    let kind = kind_at(code, n);
+    let v = var_at(code, attributes, kind, n);
     if v.ok {
-        return var_head(code, attributes, pairs, session, entries, v);
+        return var_head(code, attributes, pairs, session, entries, negated, v);
     }
-    simple_head(code, attributes, pairs, session, entries, k, at)
+    signed_head(negated, simple_head(code, kind, n))
 }
 
 // A policy: conjunctions joined by OR.

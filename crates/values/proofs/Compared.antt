@@ -2,7 +2,7 @@
 use Prim.Native.Nat.{ℕ, suc, _≤_, _<_}
 use mathlib.Core.Path.{_≡_, refl, sym, ap, ap₂, subst, _∙_}
 use mathlib.Core.Logic.{_⊎_, inl, inr}
-use mathlib.Core.Bool.{Bool, true, false, not, _&&_, and-false}
+use mathlib.Core.Bool.{Bool, true, false, not, _&&_, and-false, Bool·beq}
 use mathlib.Core.List.{List, [], _∷_, List·Memᴰ·head as here}
 use native.Mathlib.Omega.{arith}
 use native.Mathlib.Decide.{decLt}
@@ -15,49 +15,100 @@ use Rattle.model.specs.Truth as model
 use Rattle.model.specs.Truth.{truth, NOT}
 use Rattle.model.specs.Tokens.{Operator}
 use Rattle.model.specs.Comparison.{ordered, order, compareLike, compareSets, loneValue}
-use Rattle.model.proofs.Lists.{_∈_}
 use Rattle.codes.specs.Codes.{typeCode, operatorCode}
 use Rattle.truth.specs.declared.Truth.{Truth}
 use Rattle.truth.specs.declared.Truth.the-variants.{Undef}
 use Rattle.truth.specs.Truths.{truthOf}
 use Rattle.text.specs.declared.Words.{Words}
-use Rattle.text.specs.Values.{words, atomWords}
+use Rattle.text.specs.Values.{words, sameWords, atomWords}
 use Rattle.values.specs.declared.Operand.{Operand}
 use Rattle.values.specs.Operands.{Lent, valuesOf, Stands}
-use Rattle.values.specs.Compared.{amongValues, someFound, isBelow, equalityOf, orderOf, likeValues, compareValues, loneOf, Compared, Lone}
-use Rattle.values.proofs.Orders.{someBefore, below-so, not-above-so}
+use Rattle.values.specs.Compared.{amongValues, someFound, greatestOf, leastOf, isBelow, orNext, soughtFrom, amongOf, asked, foundOf, ofPresent}
+use Rattle.values.specs.Compared.{asksCommon, equalityOf, orEqual, orderOf, likeValues, compareValues, loneOf, Compared, Lone}
+use Rattle.values.proofs.Orders.{below-so, not-above-so}
 use Rattle.values.proofs.Atoms.{all-in, int-small, Typed, among-atoms, common-atoms, subset-atoms, before-atoms, after-atoms}
 
 -- the ways through the tests of an operator's number
 module _ (n k : ℕ) (l r : List Words) where
-  like-equality : 16 ≤ n → n ≤ 18 → likeValues n k l r ≡ equalityOf n (someFound true l r)
+  like-equality : 16 ≤ n → n ≤ 19 → likeValues n k l r ≡ equalityOf n (truth (someFound (asksCommon n) l r))
   unfolding likeValues
-  like-equality h m = simp (le-leb 16 n h, le-leb n 18 m)
-
-  like-subset : n ≡ 19 → likeValues n k l r ≡ NOT (truth (someFound false l r))
-  unfolding likeValues
-  like-subset e = rw e
+  like-equality h m = simp (le-leb 16 n h, le-leb n 19 m)
 
   like-order : 20 ≤ n → n ≤ 23 → likeValues n k l r ≡ (if eqb k 1 then truth (orderOf n l r) else model.UNDEF)
   unfolding likeValues
   like-order h m =
       let a : 16 ≤ n = omega arith in
-      let b : 18 < n = omega arith in
-      let c : n ≡ 19 → ⊥ = λ e. omega arith in
-      simp (le-leb 16 n a, lt-leb n 18 b, ne-eqb n 19 c, le-leb 20 n h, le-leb n 23 m)
+      let b : 19 < n = omega arith in
+      simp (le-leb 16 n a, lt-leb n 19 b, le-leb 20 n h, le-leb n 23 m)
 
   like-none : (n < 16) ⊎ (23 < n) → likeValues n k l r ≡ model.UNDEF
   unfolding likeValues
   like-none (inl h) =
       let a : n < 20 = omega arith in
-      let c : n ≡ 19 → ⊥ = λ e. omega arith in
-      simp (lt-leb 16 n h, lt-leb 20 n a, ne-eqb n 19 c)
+      simp (lt-leb 16 n h, lt-leb 20 n a)
   like-none (inr h) =
       let a : 16 ≤ n = omega arith in
-      let b : 18 < n = omega arith in
-      let c : n ≡ 19 → ⊥ = λ e. omega arith in
+      let b : 19 < n = omega arith in
       let d : 20 ≤ n = omega arith in
-      simp (le-leb 16 n a, lt-leb n 18 b, ne-eqb n 19 c, le-leb 20 n d, lt-leb n 23 h)
+      simp (le-leb 16 n a, lt-leb n 19 b, le-leb 20 n d, lt-leb n 23 h)
+
+-- what is said of two operands that have values, by the test for them
+undef-either : (b : Bool) → (if b then model.UNDEF else model.UNDEF) ≡ model.UNDEF
+undef-either true = refl
+undef-either false = refl
+
+absent-left : (r : List Words) (t : model.Truth) → ofPresent [] r t ≡ model.UNDEF
+unfolding ofPresent
+absent-left r t = refl
+
+absent-right : (l : List Words) (t : model.Truth) → ofPresent l [] t ≡ model.UNDEF
+unfolding ofPresent
+absent-right [] t = refl
+absent-right (w ∷ l) t = refl
+
+both-there : (v : Words) (l : List Words) (w : Words) (r : List Words) (t : model.Truth) → ofPresent (v ∷ l) (w ∷ r) t ≡ t
+unfolding ofPresent
+both-there v l w r t = refl
+
+turned : (l r : List Words) (t : model.Truth) → ofPresent r l t ≡ ofPresent l r t
+unfolding ofPresent
+turned [] [] t = refl
+turned [] (v ∷ r) t = refl
+turned (w ∷ l) [] t = refl
+turned (w ∷ l) (v ∷ r) t = refl
+
+never : (l r : List Words) → ofPresent l r model.UNDEF ≡ model.UNDEF
+unfolding ofPresent
+never l r = undef-either (not (isEmpty l) && not (isEmpty r))
+
+equality-inside : (n : ℕ) (l r : List Words) (t : model.Truth) → equalityOf n (ofPresent l r t) ≡ ofPresent l r (equalityOf n t)
+unfolding ofPresent
+equality-inside n l r t = go (not (isEmpty l) && not (isEmpty r))
+  where
+    go : (b : Bool) → equalityOf n (if b then t else model.UNDEF) ≡ (if b then equalityOf n t else model.UNDEF)
+    go true = refl
+    go false = undef-either (leb n 17)
+
+test-inside : (b : Bool) (l r : List Words) (t : model.Truth) → (if b then ofPresent l r t else model.UNDEF) ≡ ofPresent l r (if b then t else model.UNDEF)
+test-inside true l r t = refl
+test-inside false l r t = sym (never l r)
+
+-- by what was found out of each side
+module _ (l r : List Words) (t : model.Truth) (a : Bool) (ea : a ≡ not (isEmpty l)) where
+  pub without-left : a ≡ false → model.UNDEF ≡ ofPresent l r t
+  unfolding ofPresent
+  without-left fa = sym (ap (λ (x : Bool). if (x && not (isEmpty r)) then t else model.UNDEF) (sym ea ∙ fa))
+
+  module _ (ta : a ≡ true) (b : Bool) (eb : b ≡ not (isEmpty r)) where
+    tested-both : ofPresent l r t ≡ (if b then t else model.UNDEF)
+    unfolding ofPresent
+    tested-both = ap₂ (λ (x y : Bool). if (x && y) then t else model.UNDEF) (sym ea ∙ ta) (sym eb)
+
+    pub without-right : b ≡ false → model.UNDEF ≡ ofPresent l r t
+    without-right fb = sym (tested-both ∙ ap (λ (x : Bool). if x then t else model.UNDEF) fb)
+
+    pub with-both : b ≡ true → t ≡ ofPresent l r t
+    with-both tb = sym (tested-both ∙ ap (λ (x : Bool). if x then t else model.UNDEF) tb)
 
 -- the ways through the tests before it
 module _ (n k k′ : ℕ) (l r : List Words) where
@@ -65,32 +116,52 @@ module _ (n k k′ : ℕ) (l r : List Words) where
   unfolding compareValues
   unlike h = simp (ne-eqb k k′ h)
 
-  no-left : k ≡ k′ → isEmpty l ≡ true → compareValues n k k′ l r ≡ model.UNDEF
+  alike : k ≡ k′ → compareValues n k k′ l r ≡ ofPresent l r (likeValues n k l r)
   unfolding compareValues
-  no-left e h = simp (eq-eqb k k′ e, h)
-
-  no-right : k ≡ k′ → isEmpty l ≡ false → isEmpty r ≡ true → compareValues n k k′ l r ≡ model.UNDEF
-  unfolding compareValues
-  no-right e g h = simp (eq-eqb k k′ e, g, h)
-
-  alike : k ≡ k′ → isEmpty l ≡ false → isEmpty r ≡ false → compareValues n k k′ l r ≡ likeValues n k l r
-  unfolding compareValues
-  alike e g h = simp (eq-eqb k k′ e, g, h)
+  alike e = simp (eq-eqb k k′ e)
 
   -- whatever the types
-  empty-left : isEmpty l ≡ true → compareValues n k k′ l r ≡ model.UNDEF
-  empty-left h = go (eqb k k′) refl
-    where
-      go : (t : Bool) → eqb k k′ ≡ t → compareValues n k k′ l r ≡ model.UNDEF
-      go true e = no-left (eqb-true k k′ e) h
-      go false e = unlike (eqb-false k k′ e)
+  empty : ofPresent l r (likeValues n k l r) ≡ model.UNDEF → compareValues n k k′ l r ≡ model.UNDEF
+  unfolding compareValues
+  empty h = ap (λ (t : model.Truth). if eqb k k′ then t else model.UNDEF) h ∙ undef-either (eqb k k′)
 
-  empty-right : isEmpty l ≡ false → isEmpty r ≡ true → compareValues n k k′ l r ≡ model.UNDEF
-  empty-right g h = go (eqb k k′) refl
+-- searches: what they say of values that are there
+module _ (answer : Words → model.Truth) (p : Words → Bool) (so : (w : Words) → answer w ≡ truth (p w)) where
+  sought-all : (l : List Words) → soughtFrom answer true l ≡ truth (any p l)
+  unfolding soughtFrom
+  sought-all [] = refl
+  sought-all (w ∷ l) = ap₂ orNext (so w) (sought-all l) ∙ go (p w)
     where
-      go : (t : Bool) → eqb k k′ ≡ t → compareValues n k k′ l r ≡ model.UNDEF
-      go true e = no-right (eqb-true k k′ e) g h
-      go false e = unlike (eqb-false k k′ e)
+      go : (b : Bool) → orNext (truth b) (truth (any p l)) ≡ truth (elim b as (λ _. Bool) [ true ↦ true | false ↦ any p l ])
+      go true = refl
+      go false = refl
+
+  sought-so : (l : List Words) → soughtFrom answer false l ≡ (if not (isEmpty l) then truth (any p l) else model.UNDEF)
+  unfolding soughtFrom
+  sought-so [] = refl
+  sought-so (w ∷ l) = sought-all (w ∷ l)
+
+among-so : (values : List Words) (w : Words) → amongOf values w ≡ (if not (isEmpty values) then truth (amongValues values w) else model.UNDEF)
+unfolding amongOf
+among-so values w = sought-so (λ v. truth (sameWords w v)) (sameWords w) (λ v. refl) values
+
+asked-truth : (wanted b : Bool) → asked wanted (truth b) ≡ truth (Bool·beq b wanted)
+asked-truth true true = refl
+asked-truth true false = refl
+asked-truth false true = refl
+asked-truth false false = refl
+
+found-so : (wanted : Bool) (l r : List Words) → foundOf wanted l r ≡ ofPresent l r (truth (someFound wanted l r))
+unfolding foundOf ofPresent soughtFrom someFound
+found-so wanted [] r = refl
+found-so wanted (w ∷ l) [] = ap (λ (t : model.Truth). orNext (asked wanted t) (soughtFrom (λ v. asked wanted (amongOf [] v)) true l)) (among-so [] w) ∙ go wanted
+  where
+    go : (b : Bool) → orNext (asked b model.UNDEF) (soughtFrom (λ v. asked wanted (amongOf [] v)) true l) ≡ model.UNDEF
+    go true = refl
+    go false = refl
+found-so wanted (w ∷ l) (v ∷ r) =
+    sought-so (λ x. asked wanted (amongOf (v ∷ r) x)) (λ x. Bool·beq (amongValues (v ∷ r) x) wanted)
+    (λ x. ap (asked wanted) (among-so (v ∷ r) x) ∙ asked-truth wanted (amongValues (v ∷ r) x)) (w ∷ l)
 
 -- types are the same where their numbers are
 same-kind : (a b : Atom) → sameType (typeOf a) (typeOf b) ≡ eqb (typeCode (typeOf a)) (typeCode (typeOf b))
@@ -143,7 +214,7 @@ module _ (k : ℕ) (a : Atom) (l : List Atom) (b : Atom) (m : List Atom) (tl : T
       like-equality 18 k (map atomWords (a ∷ l)) (map atomWords (b ∷ m)) (omega arith) (omega arith)
       ∙ ap (λ (t : Bool). NOT (truth t)) (common-atoms k (a ∷ l) (b ∷ m) tl tm)
   like-atoms Operator.SUBSET =
-      like-subset 19 k (map atomWords (a ∷ l)) (map atomWords (b ∷ m)) refl
+      like-equality 19 k (map atomWords (a ∷ l)) (map atomWords (b ∷ m)) (omega arith) (omega arith)
       ∙ not-truth (someFound false (map atomWords (a ∷ l)) (map atomWords (b ∷ m))) ∙ ap truth (subset-atoms k (a ∷ l) (b ∷ m) tl tm)
   like-atoms Operator.less =
       like-order 20 k (map atomWords (a ∷ l)) (map atomWords (b ∷ m)) (omega arith) (omega arith)
@@ -167,8 +238,10 @@ module _ (k : ℕ) (a : Atom) (l : List Atom) (b : Atom) (m : List Atom) (tl : T
 compare-atoms : (o : Operator) (k k′ : ℕ) (l m : List Atom) → Typed k l → Typed k′ m
     → compareValues (operatorCode o) k k′ (map atomWords l) (map atomWords m) ≡ compareSets o l m
 unfolding compareSets
-compare-atoms o k k′ [] m tl tm = empty-left (operatorCode o) k k′ [] (map atomWords m) refl
-compare-atoms o k k′ (a ∷ l) [] tl tm = empty-right (operatorCode o) k k′ (map atomWords (a ∷ l)) [] refl refl
+compare-atoms o k k′ [] m tl tm =
+    empty (operatorCode o) k k′ [] (map atomWords m) (absent-left (map atomWords m) (likeValues (operatorCode o) k [] (map atomWords m)))
+compare-atoms o k k′ (a ∷ l) [] tl tm =
+    empty (operatorCode o) k k′ (map atomWords (a ∷ l)) [] (absent-right (map atomWords (a ∷ l)) (likeValues (operatorCode o) k (map atomWords (a ∷ l)) []))
 compare-atoms o k k′ (a ∷ l) (b ∷ m) tl tm = go (eqb k k′) refl
   where
     kinds : sameType (typeOf a) (typeOf b) ≡ eqb k k′
@@ -178,7 +251,8 @@ compare-atoms o k k′ (a ∷ l) (b ∷ m) tl tm = go (eqb k k′) refl
         ≡ (elim (sameType (typeOf a) (typeOf b)) as (λ _. model.Truth) [ true ↦ compareLike o a (a ∷ l) (b ∷ m) | false ↦ model.UNDEF ])
     go true e =
         let same : k ≡ k′ = eqb-true k k′ e in
-        alike (operatorCode o) k k′ (map atomWords (a ∷ l)) (map atomWords (b ∷ m)) same refl refl
+        alike (operatorCode o) k k′ (map atomWords (a ∷ l)) (map atomWords (b ∷ m)) same
+        ∙ both-there (atomWords a) (map atomWords l) (atomWords b) (map atomWords m) (likeValues (operatorCode o) k (map atomWords (a ∷ l)) (map atomWords (b ∷ m)))
         ∙ like-atoms k a l b m tl (record { kinds = λ x p. tm .kinds x p ∙ sym same; written = tm .written }) o
         ∙ ap (λ (t : Bool). elim t as (λ _. model.Truth) [ true ↦ compareLike o a (a ∷ l) (b ∷ m) | false ↦ model.UNDEF ]) (sym (kinds ∙ e))
     go false e =
@@ -219,47 +293,40 @@ module _ (L : Lent) (n : ℕ) (left right : Operand) (r : Truth) where
       }
     where
       none : ((o : Operator) → n ≡ operatorCode o → ⊥) → compareValues n (left .kind) (right .kind) (valuesOf L left) (valuesOf L right) ≡ model.UNDEF
-      none f = go (eqb (left .kind) (right .kind) && (not (isEmpty (valuesOf L left)) && not (isEmpty (valuesOf L right))))
-        where
-          go : (t : Bool) → (if t then likeValues n (left .kind) (valuesOf L left) (valuesOf L right) else model.UNDEF) ≡ model.UNDEF
-          go true = like-none n (left .kind) (valuesOf L left) (valuesOf L right) (no-number n f)
-          go false = refl
+      none f =
+          empty n (left .kind) (right .kind) (valuesOf L left) (valuesOf L right)
+          (ap (ofPresent (valuesOf L left) (valuesOf L right)) (like-none n (left .kind) (valuesOf L left) (valuesOf L right) (no-number n f))
+          ∙ never (valuesOf L left) (valuesOf L right))
 
 -- the ways of a comparison: what was found out of two operands, and the answer
 module _ (L : Lent) (n : ℕ) (left right : Operand) where
   pub types-differ : (left .kind ≡ right .kind → ⊥) → Compared L n left right Undef
   types-differ h = compared L n left right Undef (sym (unlike n (left .kind) (right .kind) (valuesOf L left) (valuesOf L right) h))
 
-  module _ (same : left .kind ≡ right .kind) (t : Bool) (et : t ≡ isEmpty (valuesOf L left)) where
-    pub left-absent : t ≡ true → Compared L n left right Undef
-    left-absent f = compared L n left right Undef (sym (no-left n (left .kind) (right .kind) (valuesOf L left) (valuesOf L right) same (sym et ∙ f)))
+  module _ (same : left .kind ≡ right .kind) where
+    like : (r : Truth) → truthOf r ≡ ofPresent (valuesOf L left) (valuesOf L right) (likeValues n (left .kind) (valuesOf L left) (valuesOf L right))
+        → Compared L n left right r
+    like r e = compared L n left right r (e ∙ sym (alike n (left .kind) (right .kind) (valuesOf L left) (valuesOf L right) same))
 
-    module _ (ft : t ≡ false) (u : Bool) (eu : u ≡ isEmpty (valuesOf L right)) where
-      pub right-absent : u ≡ true → Compared L n left right Undef
-      right-absent f =
-          compared L n left right Undef (sym (no-right n (left .kind) (right .kind) (valuesOf L left) (valuesOf L right) same (sym et ∙ ft) (sym eu ∙ f)))
+    pub by-equality : 16 ≤ n → n ≤ 19 → (common : Bool) → common ≡ asksCommon n
+        → (found r : Truth) → truthOf found ≡ foundOf common (valuesOf L left) (valuesOf L right) → truthOf r ≡ equalityOf n (truthOf found)
+        → Compared L n left right r
+    by-equality h m common c found r e f =
+        like r
+        (f ∙ ap (equalityOf n) (e ∙ ap (λ (b : Bool). foundOf b (valuesOf L left) (valuesOf L right)) c ∙ found-so (asksCommon n) (valuesOf L left) (valuesOf L right))
+        ∙ equality-inside n (valuesOf L left) (valuesOf L right) (truth (someFound (asksCommon n) (valuesOf L left) (valuesOf L right)))
+        ∙ ap (ofPresent (valuesOf L left) (valuesOf L right)) (sym (like-equality n (left .kind) (valuesOf L left) (valuesOf L right) h m)))
 
-      module _ (fu : u ≡ false) where
-        like : (r : Truth) → truthOf r ≡ likeValues n (left .kind) (valuesOf L left) (valuesOf L right) → Compared L n left right r
-        like r e =
-            compared L n left right r
-            (e ∙ sym (alike n (left .kind) (right .kind) (valuesOf L left) (valuesOf L right) same (sym et ∙ ft) (sym eu ∙ fu)))
+    pub by-order : 20 ≤ n → n ≤ 23 → (r : Truth)
+        → truthOf r ≡ (if eqb (left .kind) 1 then ofPresent (valuesOf L left) (valuesOf L right) (truth (orderOf n (valuesOf L left) (valuesOf L right))) else model.UNDEF)
+        → Compared L n left right r
+    by-order h m r e =
+        like r
+        (e ∙ test-inside (eqb (left .kind) 1) (valuesOf L left) (valuesOf L right) (truth (orderOf n (valuesOf L left) (valuesOf L right)))
+        ∙ ap (ofPresent (valuesOf L left) (valuesOf L right)) (sym (like-order n (left .kind) (valuesOf L left) (valuesOf L right) h m)))
 
-        pub by-equality : 16 ≤ n → n ≤ 18 → (found : Bool) → found ≡ someFound true (valuesOf L left) (valuesOf L right)
-            → (r : Truth) → truthOf r ≡ equalityOf n found → Compared L n left right r
-        by-equality h m found e r f = like r (f ∙ ap (equalityOf n) e ∙ sym (like-equality n (left .kind) (valuesOf L left) (valuesOf L right) h m))
-
-        pub by-subset : n ≡ 19 → (found : Bool) → found ≡ someFound false (valuesOf L left) (valuesOf L right)
-            → (x r : Truth) → truthOf x ≡ truth found → truthOf r ≡ NOT (truthOf x) → Compared L n left right r
-        by-subset h found e x r f g =
-            like r (g ∙ ap NOT f ∙ ap (λ (b : Bool). NOT (truth b)) e ∙ sym (like-subset n (left .kind) (valuesOf L left) (valuesOf L right) h))
-
-        pub by-order : 20 ≤ n → n ≤ 23 → (r : Truth)
-            → truthOf r ≡ (if eqb (left .kind) 1 then truth (orderOf n (valuesOf L left) (valuesOf L right)) else model.UNDEF) → Compared L n left right r
-        by-order h m r e = like r (e ∙ sym (like-order n (left .kind) (valuesOf L left) (valuesOf L right) h m))
-
-        pub by-nothing : (n < 16) ⊎ (23 < n) → Compared L n left right Undef
-        by-nothing h = like Undef (sym (like-none n (left .kind) (valuesOf L left) (valuesOf L right) h))
+    pub by-nothing : (n < 16) ⊎ (23 < n) → Compared L n left right Undef
+    by-nothing h = like Undef (sym (ap (ofPresent (valuesOf L left) (valuesOf L right)) (like-none n (left .kind) (valuesOf L left) (valuesOf L right) h) ∙ never (valuesOf L left) (valuesOf L right)))
 
 -- a lone attribute
 lone-atoms : (k : ℕ) (l : List Atom) → Typed k l → loneOf k (map atomWords l) ≡ loneValue l
@@ -281,37 +348,39 @@ module _ (L : Lent) (o : Operand) where
   unfolding loneOf
   not-bool h = alone L o Undef (sym (rw (ne-eqb (o .kind) 3 h)))
 
-  module _ (e : o .kind ≡ 3) (t : Bool) (et : t ≡ isEmpty (valuesOf L o)) where
-    pub none-alone : t ≡ true → Lone L o Undef
-    unfolding loneOf
-    none-alone f = alone L o Undef (sym (rw (eq-eqb (o .kind) 3 e, sym et ∙ f)))
+  pub some-alone : o .kind ≡ 3 → (w : Words) → w ≡ words 1 0 0 → (r : Truth) → truthOf r ≡ amongOf (valuesOf L o) w → Lone L o r
+  unfolding loneOf
+  some-alone e w ew r er =
+      alone L o r (er ∙ ap (amongOf (valuesOf L o)) ew ∙ among-so (valuesOf L o) (words 1 0 0) ∙ sym (rw (eq-eqb (o .kind) 3 e)))
 
-    pub some-alone : t ≡ false → (w : Words) → w ≡ words 1 0 0 → (found : Bool) → found ≡ amongValues (valuesOf L o) w
-        → (r : Truth) → truthOf r ≡ truth found → Lone L o r
-    unfolding loneOf
-    some-alone f w ew found ef r er =
-        alone L o r (er ∙ ap truth (ef ∙ ap (amongValues (valuesOf L o)) ew) ∙ sym (rw (eq-eqb (o .kind) 3 e, sym et ∙ f)))
+-- an order: of the least and the greatest
+module _ (equal : Bool) (low high : List Words) where
+  pub at-most : equal ≡ true → leb (leastOf low) (greatestOf high) ≡ isBelow equal low high
+  unfolding isBelow
+  at-most e = sym (rw e)
 
--- the orders by their numbers
-module _ (n : ℕ) (k : ℕ) (l m : List Words) (e : k ≡ 1) (found : Bool) (r : Truth) (er : truthOf r ≡ truth found) where
-  abbrev Ordered : Type 0
-  Ordered = truthOf r ≡ (if eqb k 1 then truth (orderOf n l m) else model.UNDEF)
+  pub strictly : equal ≡ false → ltb (leastOf low) (greatestOf high) ≡ isBelow equal low high
+  unfolding isBelow
+  strictly e = sym (rw e)
 
-  ordered-by : found ≡ orderOf n l m → Ordered
-  ordered-by f = er ∙ ap truth f ∙ sym (rw (eq-eqb k 1 e))
+-- an order: of its two sides
+module _ (L : Lent) (n : ℕ) (left right : Operand) (low high : Operand) (el : low ≡ (if leb n 21 then left else right)) (eh : high ≡ (if leb n 21 then right else left)) where
+  sides : ofPresent (valuesOf L low) (valuesOf L high) (truth (isBelow (orEqual n) (valuesOf L low) (valuesOf L high)))
+      ≡ ofPresent (valuesOf L left) (valuesOf L right) (truth (orderOf n (valuesOf L left) (valuesOf L right)))
+  unfolding orderOf ofPresent
+  sides = ap₂ said el eh ∙ go (leb n 21)
+    where
+      said : Operand → Operand → model.Truth
+      said a b = ofPresent (valuesOf L a) (valuesOf L b) (truth (isBelow (orEqual n) (valuesOf L a) (valuesOf L b)))
 
-  pub order-less : n ≡ 20 → found ≡ isBelow false l m → Ordered
-  unfolding orderOf
-  order-less h f = ordered-by (f ∙ sym (rw h))
+      go : (t : Bool) → said (if t then left else right) (if t then right else left)
+          ≡ ofPresent (valuesOf L left) (valuesOf L right) (truth (if t then isBelow (orEqual n) (valuesOf L left) (valuesOf L right) else isBelow (orEqual n) (valuesOf L right) (valuesOf L left)))
+      go true = refl
+      go false = turned (valuesOf L left) (valuesOf L right) (truth (isBelow (orEqual n) (valuesOf L right) (valuesOf L left)))
 
-  pub order-at-most : n ≡ 21 → found ≡ isBelow true l m → Ordered
-  unfolding orderOf
-  order-at-most h f = ordered-by (f ∙ sym (rw h))
-
-  pub order-greater : n ≡ 22 → found ≡ isBelow false m l → Ordered
-  unfolding orderOf
-  order-greater h f = ordered-by (f ∙ sym (rw h))
-
-  pub order-other : (n ≡ 20 → ⊥) → (n ≡ 21 → ⊥) → (n ≡ 22 → ⊥) → found ≡ isBelow true m l → Ordered
-  unfolding orderOf
-  order-other p q s f = ordered-by (f ∙ sym (rw (ne-eqb n 20 p, ne-eqb n 21 q, ne-eqb n 22 s)))
+  pub by-sides : left .kind ≡ 1 → (equal : Bool) → equal ≡ orEqual n → (r : Truth)
+      → truthOf r ≡ ofPresent (valuesOf L low) (valuesOf L high) (truth (isBelow equal (valuesOf L low) (valuesOf L high)))
+      → truthOf r ≡ (if eqb (left .kind) 1 then ofPresent (valuesOf L left) (valuesOf L right) (truth (orderOf n (valuesOf L left) (valuesOf L right))) else model.UNDEF)
+  by-sides e equal f r g =
+      g ∙ ap (λ (b : Bool). ofPresent (valuesOf L low) (valuesOf L high) (truth (isBelow b (valuesOf L low) (valuesOf L high)))) f ∙ sides
+      ∙ sym (rw (eq-eqb (left .kind) 1 e))

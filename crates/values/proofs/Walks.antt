@@ -1,43 +1,55 @@
 -- Walks from one value to the next. Assumes nothing.
-use Prim.Native.Nat.{ℕ, _+_, _<_}
+use Prim.Native.Nat.{ℕ, _<_}
 use native.Mathlib.Omega.{arith}
 use mathlib.Core.Path.{_≡_, refl, sym, ap, _∙_}
-use mathlib.Core.Bool.{Bool, true, false, not, Bool·beq, true≢false}
-use mathlib.Core.List.{List, [], _∷_}
+use mathlib.Core.Bool.{Bool, true, false, not, _||_, or-true, or-false, true≢false}
+use mathlib.Core.List.{List}
 use lib.ListN.{length}
-use Rattle.model.specs.Notation.{any, isEmpty}
+use Rattle.model.specs.Notation.{isEmpty}
+use Rattle.model.specs.Truth as model
 use Rattle.text.specs.declared.Words.{Words}
 use Rattle.values.specs.declared.Found.{Found}
 use Rattle.values.specs.Operands.{Finds}
-use Rattle.values.specs.Compared.{further, extremeFrom}
-
-pub beq-true : (a b : Bool) → a ≡ true → b ≡ Bool·beq a b
-beq-true true true e = refl
-beq-true true false e = refl
-beq-true false b e = absurd (true≢false (sym e))
+use Rattle.values.specs.Compared.{further, extremeFrom, orNext, isFalse, atEnd, soughtFrom}
 
 module _ (from : ℕ → List Words) (i : ℕ) (r : Found) (finds : Finds from i r) where
   -- fewer values are left
   pub fewer : r .here ≡ true → length (from (r .next)) < length (from i)
   fewer t = omega (arith, ap length (finds .more t))
 
-  pub is-empty : not (r .here) ≡ isEmpty (from i)
-  is-empty = go (r .here) refl
-    where
-      go : (t : Bool) → r .here ≡ t → not t ≡ isEmpty (from i)
-      go true e = sym (ap isEmpty (finds .more e))
-      go false e = sym (ap isEmpty (finds .none e))
+  -- whether there was a value, here or before
+  module _ (some : Bool) where
+    pub some-none : r .here ≡ false → (some || not (isEmpty (from i))) ≡ some
+    some-none t = ap (λ (l : List Words). some || not (isEmpty l)) (finds .none t) ∙ or-false some
 
-  -- a test of the values
-  module _ (p : Words → Bool) where
-    pub passes-none : r .here ≡ false → any p (from i) ≡ false
-    passes-none t = ap (any p) (finds .none t)
+    pub some-more : r .here ≡ true → (some || not (isEmpty (from i))) ≡ true
+    some-more t = ap (λ (l : List Words). some || not (isEmpty l)) (finds .more t) ∙ or-true some
 
-    pub passes-here : r .here ≡ true → p (r .words) ≡ true → any p (from i) ≡ true
-    passes-here t e = ap (any p) (finds .more t) ∙ ap (λ (b : Bool). elim b as (λ _. Bool) [ true ↦ true | false ↦ any p (from (r .next)) ]) e
+  -- a search among the values
+  module _ (answer : Words → model.Truth) (some : Bool) where
+    pub sought-none : r .here ≡ false → soughtFrom answer some (from i) ≡ atEnd some
+    unfolding soughtFrom
+    sought-none t = ap (soughtFrom answer some) (finds .none t)
 
-    pub passes-on : r .here ≡ true → p (r .words) ≡ false → any p (from i) ≡ any p (from (r .next))
-    passes-on t e = ap (any p) (finds .more t) ∙ ap (λ (b : Bool). elim b as (λ _. Bool) [ true ↦ true | false ↦ any p (from (r .next)) ]) e
+    sought-more : r .here ≡ true → soughtFrom answer some (from i) ≡ orNext (answer (r .words)) (soughtFrom answer true (from (r .next)))
+    unfolding soughtFrom
+    sought-more t = ap (soughtFrom answer some) (finds .more t)
+
+    pub sought-here : r .here ≡ true → isFalse (answer (r .words)) ≡ false → soughtFrom answer some (from i) ≡ answer (r .words)
+    sought-here t e = sought-more t ∙ go (answer (r .words)) e
+      where
+        go : (u : model.Truth) → isFalse u ≡ false → orNext u (soughtFrom answer true (from (r .next))) ≡ u
+        go model.FALSE f = absurd (true≢false f)
+        go model.UNDEF f = refl
+        go model.TRUE f = refl
+
+    pub sought-on : r .here ≡ true → isFalse (answer (r .words)) ≡ true → soughtFrom answer some (from i) ≡ soughtFrom answer true (from (r .next))
+    sought-on t e = sought-more t ∙ go (answer (r .words)) e
+      where
+        go : (u : model.Truth) → isFalse u ≡ true → orNext u (soughtFrom answer true (from (r .next))) ≡ soughtFrom answer true (from (r .next))
+        go model.FALSE f = refl
+        go model.UNDEF f = absurd (true≢false (sym f))
+        go model.TRUE f = absurd (true≢false (sym f))
 
   -- the greatest or the least so far
   module _ (greatest : Bool) (best : ℕ) where

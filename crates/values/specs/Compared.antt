@@ -1,7 +1,7 @@
 -- What a comparison asks of the values of two operands.
 use Prim.Native.Nat.{ℕ}
 use mathlib.Core.Path.{_≡_}
-use mathlib.Core.Bool.{Bool, true, false, not, _&&_, Bool·beq}
+use mathlib.Core.Bool.{Bool, true, false, not, _&&_, _||_, Bool·beq}
 use mathlib.Core.List.{List, [], _∷_}
 use lib.Dec.{eqb, leb, ltb}
 use Rattle.model.specs.Notation.{any, isEmpty, if_then_else_}
@@ -51,29 +51,68 @@ leastOf values = extremeFrom false (worst false) values
 unfoldable pub isBelow : Bool → List Words → List Words → Bool
 isBelow equal low high = if equal then leb (leastOf low) (greatestOf high) else ltb (leastOf low) (greatestOf high)
 
--- the operators by their numbers: `=` and IN, or with `!=` their negation
-abbrev pub equalityOf : ℕ → Bool → model.Truth
-equalityOf n common = if eqb n 18 then NOT (truth common) else truth common
+-- ---- searches: UNDEF where there is no value
 
--- an order, by the least and the greatest
+-- an answer, or the next one where it is FALSE
+abbrev pub orNext : model.Truth → model.Truth → model.Truth
+orNext model.FALSE u = u
+orNext model.UNDEF u = model.UNDEF
+orNext model.TRUE u = model.TRUE
+
+abbrev pub isFalse : model.Truth → Bool
+isFalse model.FALSE = true
+isFalse model.UNDEF = false
+isFalse model.TRUE = false
+
+-- what a search says that met no other answer than FALSE: UNDEF where it met no value
+abbrev pub atEnd : Bool → model.Truth
+atEnd some = if some then model.FALSE else model.UNDEF
+
+-- the first answer of the values that is not FALSE; `some` says whether there was a value before them
+unfoldable pub soughtFrom : (Words → model.Truth) → Bool → List Words → model.Truth
+soughtFrom answer some [] = atEnd some
+soughtFrom answer some (w ∷ values) = orNext (answer w) (soughtFrom answer true values)
+
+-- whether a value is among others
+unfoldable pub amongOf : List Words → Words → model.Truth
+amongOf values w = soughtFrom (λ v. truth (sameWords w v)) false values
+
+abbrev pub asked : Bool → model.Truth → model.Truth
+asked wanted t = if wanted then t else NOT t
+
+-- whether some left value is among the right, or with `wanted` false, whether some is not
+unfoldable pub foundOf : Bool → List Words → List Words → model.Truth
+foundOf wanted left right = soughtFrom (λ w. asked wanted (amongOf right w)) false left
+
+-- what is said of two operands that have values
+unfoldable pub ofPresent : List Words → List Words → model.Truth → model.Truth
+ofPresent left right t = if (not (isEmpty left) && not (isEmpty right)) then t else model.UNDEF
+
+-- ---- the operators by their numbers
+
+-- `=` and IN ask for a common value, SUBSET that no left value is missing on the right, `!=` and SUBSET are negations
+abbrev pub asksCommon : ℕ → Bool
+asksCommon n = not (eqb n 19)
+
+abbrev pub equalityOf : ℕ → model.Truth → model.Truth
+equalityOf n t = if leb n 17 then t else NOT t
+
+-- an order, by the least and the greatest: `<` and `<=` have the low side on the left
+abbrev pub orEqual : ℕ → Bool
+orEqual n = eqb n 21 || eqb n 23
+
 unfoldable pub orderOf : ℕ → List Words → List Words → Bool
-orderOf n left right =
-    if eqb n 20 then isBelow false left right
-    else (if eqb n 21 then isBelow true left right
-    else (if eqb n 22 then isBelow false right left
-    else isBelow true right left))
+orderOf n left right = if leb n 21 then isBelow (orEqual n) left right else isBelow (orEqual n) right left
 
 -- the operator of a number, on present values of one type; UNDEF where the number is no operator's
 unfoldable pub likeValues : ℕ → ℕ → List Words → List Words → model.Truth
 likeValues n kind left right =
-    if (leb 16 n && leb n 18) then equalityOf n (someFound true left right)
-    else (if eqb n 19 then NOT (truth (someFound false left right))
+    if (leb 16 n && leb n 19) then equalityOf n (truth (someFound (asksCommon n) left right))
     else (if (leb 20 n && leb n 23) then (if eqb kind 1 then truth (orderOf n left right) else model.UNDEF)
-    else model.UNDEF))
+    else model.UNDEF)
 
 unfoldable pub compareValues : ℕ → ℕ → ℕ → List Words → List Words → model.Truth
-compareValues n kind kind′ left right =
-    if (eqb kind kind′ && (not (isEmpty left) && not (isEmpty right))) then likeValues n kind left right else model.UNDEF
+compareValues n kind kind′ left right = if eqb kind kind′ then ofPresent left right (likeValues n kind left right) else model.UNDEF
 
 unfoldable pub loneOf : ℕ → List Words → model.Truth
 loneOf kind values = if (eqb kind 3 && not (isEmpty values)) then truth (amongValues values (words 1 0 0)) else model.UNDEF

@@ -1,9 +1,9 @@
 // Operands: where the values are that stand beside an operator; and their comparison. Nothing is copied: an operand is a few numbers, and its
 // values are found one after another where they are lent.
 ghost use mathlib.Core.Path.{_≡_};
-ghost use mathlib.Core.Bool.{true, false, Bool·beq};
+ghost use mathlib.Core.Bool.{true, false, not};
 ghost use Prim.Native.Nat.{_+_, _*_, _/_, _<_, _≤_};
-ghost use lib.Dec.{eqb};
+ghost use lib.Dec.{eqb, leb};
 ghost use lib.ListN.{length};
 ghost use Rattle.model.specs.Notation.{if_then_else_, isEmpty};
 ghost use Rattle.model.specs.Block.{byteAt, valueAt};
@@ -12,17 +12,17 @@ ghost use Rattle.truth.specs.Truths.{truthOf};
 ghost use Rattle.text.specs.Values.{words, sameWords};
 ghost use Rattle.values.specs.Operands.{lent, First, wordsFrom, entryWords, entriesFrom, intAt, strAt, constantsFrom, valuesFrom, firstOf};
 ghost use Rattle.values.specs.Operands.{valuesOf, Finds, nothing, operand, noValues, rowType, attributeOperand};
-ghost use Rattle.values.specs.Compared.{amongValues, someFound, further, worst, extremeFrom, isBelow, equalityOf, orderOf, Compared, Lone};
+ghost use Rattle.values.specs.Compared.{further, worst, extremeFrom, isBelow, isFalse, atEnd, amongOf, asked, foundOf, ofPresent};
+ghost use Rattle.values.specs.Compared.{asksCommon, equalityOf, orEqual, orderOf, Compared, Lone};
 use codes::AT_LEAST;
 use codes::AT_MOST;
 use codes::BOOL;
 use codes::EQUAL;
-use codes::GREATER;
+use codes::IN;
 use codes::INT;
 use codes::LESS;
 use codes::STR;
 use codes::SUBSET;
-use codes::UNEQUAL;
 use text::Words;
 use truth::Truth;
 
@@ -51,6 +51,12 @@ pub struct Found {
     pub here: bool,
     pub words: Words,
     pub next: usize,
+}
+
+// The greatest of some numbers, or the least, if there is one.
+struct Bound {
+    here: bool,
+    number: u64,
 }
 
 fn none_found() -> Found
@@ -254,21 +260,6 @@ fn first(operand: Operand) -> usize
     operand.start
 }
 
-// Whether an operand has no value.
-fn absent(
-    code: &[u8],
-    pairs: &[u64],
-    session: &[u64; 128],
-    entries: &[u8],
-    operand: Operand,
-) -> bool
-    requires { ⌜ length (now pairs) ≡ 1024 ⌝ }
-    ensures { λ r. ⌜ r ≡ isEmpty (valuesOf (lent (now (code .entry)) (now (pairs .entry)) (now (session .entry)) (now (entries .entry))) operand) ⌝ }
-{
-    let f = value_from(code, pairs, session, entries, operand, first(operand));
-    !f.here
-}
-
 fn same(a: Words, b: Words) -> bool
     ensures { λ r. ⌜ r ≡ sameWords a b ⌝ }
 {
@@ -281,6 +272,13 @@ fn same(a: Words, b: Words) -> bool
     a.third == b.third
 }
 
+// What a search says that met no answer but FALSE: UNDEF where it met no value.
+fn at_end(some: bool) -> Truth
+    ensures { λ r. ⌜ truthOf r ≡ atEnd some ⌝ }
+{
+    if some { Truth::False } else { Truth::Undef }
+}
+
 // Whether a value is among those of an operand.
 fn among(
     code: &[u8],
@@ -289,31 +287,43 @@ fn among(
     entries: &[u8],
     wanted: Words,
     operand: Operand,
-) -> bool
+) -> Truth
     requires { ⌜ length (now pairs) ≡ 1024 ⌝ }
-    ensures { λ r. ⌜ r ≡ amongValues (valuesOf (lent (now (code .entry)) (now (pairs .entry)) (now (session .entry)) (now (entries .entry))) operand) wanted ⌝ }
+    ensures { λ r. ⌜ truthOf r ≡ amongOf (valuesOf (lent (now (code .entry)) (now (pairs .entry)) (now (session .entry)) (now (entries .entry))) operand) wanted ⌝ }
 {
+    let mut some = false;
     let mut i = first(operand);
     loop {
         let f = value_from(code, pairs, session, entries, operand, i);
         if !f.here {
-            return false;
+            return at_end(some);
         }
         let words = f.words;
         if same(wanted, words) {
-            return true;
+            return Truth::True;
         }
+        some = true;
         i = f.next;
     }
 }
 
-fn agree(a: bool, b: bool) -> bool
-    ensures { λ r. ⌜ r ≡ Bool·beq a b ⌝ }
+fn asked(wanted: bool, found: Truth) -> Truth
+    ensures { λ r. ⌜ truthOf r ≡ asked wanted (truthOf found) ⌝ }
 {
-    if a {
-        return b;
+    if wanted {
+        return found;
     }
-    !b
+    truth::not(found)
+}
+
+fn is_false(value: Truth) -> bool
+    ensures { λ r. ⌜ r ≡ isFalse (truthOf value) ⌝ }
+{
+    match value {
+        Truth::False => true,
+        Truth::Undef => false,
+        Truth::True => false,
+    }
 }
 
 // Whether some left value is among the right, or with `wanted` false, whether some is not.
@@ -325,20 +335,23 @@ fn some_found(
     left: Operand,
     right: Operand,
     wanted: bool,
-) -> bool
+) -> Truth
     requires { ⌜ length (now pairs) ≡ 1024 ⌝ }
-    ensures { λ r. ⌜ r ≡ someFound wanted (valuesOf (lent (now (code .entry)) (now (pairs .entry)) (now (session .entry)) (now (entries .entry))) left) (valuesOf (lent (now (code .entry)) (now (pairs .entry)) (now (session .entry)) (now (entries .entry))) right) ⌝ }
+    ensures { λ r. ⌜ truthOf r ≡ foundOf wanted (valuesOf (lent (now (code .entry)) (now (pairs .entry)) (now (session .entry)) (now (entries .entry))) left) (valuesOf (lent (now (code .entry)) (now (pairs .entry)) (now (session .entry)) (now (entries .entry))) right) ⌝ }
 {
+    let mut some = false;
     let mut i = first(left);
     loop {
         let f = value_from(code, pairs, session, entries, left, i);
         if !f.here {
-            return false;
+            return at_end(some);
         }
         let words = f.words;
-        if agree(among(code, pairs, session, entries, words, right), wanted) {
-            return true;
+        let answer = asked(wanted, among(code, pairs, session, entries, words, right));
+        if !is_false(answer) {
+            return answer;
         }
+        some = true;
         i = f.next;
     }
 }
@@ -365,7 +378,7 @@ fn start_of(greatest: bool) -> u64
     if greatest { 0 } else { LARGEST }
 }
 
-// The greatest of an operand's values, or the least, where they are ints.
+// The greatest of an operand's values, or the least, where they are ints; and whether there is one.
 fn extreme(
     code: &[u8],
     pairs: &[u64],
@@ -373,19 +386,24 @@ fn extreme(
     entries: &[u8],
     operand: Operand,
     greatest: bool,
-) -> u64
+) -> Bound
     requires { ⌜ length (now pairs) ≡ 1024 ⌝ }
-    ensures { λ r. ⌜ r ≡ extremeFrom greatest (worst greatest) (valuesOf (lent (now (code .entry)) (now (pairs .entry)) (now (session .entry)) (now (entries .entry))) operand) ⌝ }
+    ensures { λ r. ⌜ (r .here ≡ not (isEmpty (valuesOf (lent (now (code .entry)) (now (pairs .entry)) (now (session .entry)) (now (entries .entry))) operand))) × (r .number ≡ extremeFrom greatest (worst greatest) (valuesOf (lent (now (code .entry)) (now (pairs .entry)) (now (session .entry)) (now (entries .entry))) operand)) ⌝ }
 {
+    let mut some = false;
     let mut best = start_of(greatest);
     let mut i = first(operand);
     loop {
         let f = value_from(code, pairs, session, entries, operand, i);
         if !f.here {
-            return best;
+            return Bound {
+                here: some,
+                number: best,
+            };
         }
         let words = f.words;
         best = further(greatest, best, words.first);
+        some = true;
         i = f.next;
     }
 }
@@ -399,16 +417,38 @@ fn below(
     low: Operand,
     high: Operand,
     equal: bool,
-) -> bool
+) -> Truth
     requires { ⌜ length (now pairs) ≡ 1024 ⌝ }
-    ensures { λ r. ⌜ r ≡ isBelow equal (valuesOf (lent (now (code .entry)) (now (pairs .entry)) (now (session .entry)) (now (entries .entry))) low) (valuesOf (lent (now (code .entry)) (now (pairs .entry)) (now (session .entry)) (now (entries .entry))) high) ⌝ }
+    ensures { λ r. ⌜ truthOf r ≡ ofPresent (valuesOf (lent (now (code .entry)) (now (pairs .entry)) (now (session .entry)) (now (entries .entry))) low) (valuesOf (lent (now (code .entry)) (now (pairs .entry)) (now (session .entry)) (now (entries .entry))) high) (truth (isBelow equal (valuesOf (lent (now (code .entry)) (now (pairs .entry)) (now (session .entry)) (now (entries .entry))) low) (valuesOf (lent (now (code .entry)) (now (pairs .entry)) (now (session .entry)) (now (entries .entry))) high))) ⌝ }
 {
     let least = extreme(code, pairs, session, entries, low, false);
-    let greatest = extreme(code, pairs, session, entries, high, true);
-    if equal {
-        return least <= greatest;
+    if !least.here {
+        return Truth::Undef;
     }
-    least < greatest
+    let greatest = extreme(code, pairs, session, entries, high, true);
+    if !greatest.here {
+        return Truth::Undef;
+    }
+    if equal {
+        return truth::tested(least.number <= greatest.number);
+    }
+    truth::tested(least.number < greatest.number)
+}
+
+// The low side of an order, and with the operands swapped the high side.
+fn low_side(operator: u8, left: Operand, right: Operand) -> Operand
+    ensures { λ r. ⌜ r ≡ (if leb operator 21 then left else right) ⌝ }
+{
+    if operator <= AT_MOST { left } else { right }
+}
+
+fn or_equal(operator: u8) -> bool
+    ensures { λ r. ⌜ r ≡ orEqual operator ⌝ }
+{
+    if operator == AT_MOST {
+        return true;
+    }
+    operator == AT_LEAST
 }
 
 // An order: of integers alone.
@@ -422,27 +462,31 @@ fn order(
     right: Operand,
 ) -> Truth
     requires { ⌜ length (now pairs) ≡ 1024 ⌝ }
-    ensures { λ r. ⌜ truthOf r ≡ (if eqb (left .kind) 1 then truth (orderOf operator (valuesOf (lent (now (code .entry)) (now (pairs .entry)) (now (session .entry)) (now (entries .entry))) left) (valuesOf (lent (now (code .entry)) (now (pairs .entry)) (now (session .entry)) (now (entries .entry))) right)) else UNDEF) ⌝ }
+    ensures { λ r. ⌜ truthOf r ≡ (if eqb (left .kind) 1 then ofPresent (valuesOf (lent (now (code .entry)) (now (pairs .entry)) (now (session .entry)) (now (entries .entry))) left) (valuesOf (lent (now (code .entry)) (now (pairs .entry)) (now (session .entry)) (now (entries .entry))) right) (truth (orderOf operator (valuesOf (lent (now (code .entry)) (now (pairs .entry)) (now (session .entry)) (now (entries .entry))) left) (valuesOf (lent (now (code .entry)) (now (pairs .entry)) (now (session .entry)) (now (entries .entry))) right))) else UNDEF) ⌝ }
 {
     if left.kind != INT {
         return Truth::Undef;
     }
-    match operator {
-        LESS => truth::tested(below(code, pairs, session, entries, left, right, false)),
-        AT_MOST => truth::tested(below(code, pairs, session, entries, left, right, true)),
-        GREATER => truth::tested(below(code, pairs, session, entries, right, left, false)),
-        _ => truth::tested(below(code, pairs, session, entries, right, left, true)),
-    }
+    let low = low_side(operator, left, right);
+    let high = low_side(operator, right, left);
+    below(code, pairs, session, entries, low, high, or_equal(operator))
 }
 
-// `=` and IN, or with `!=` their negation.
-fn equality(operator: u8, common: bool) -> Truth
-    ensures { λ r. ⌜ truthOf r ≡ equalityOf operator common ⌝ }
+// Whether an operator asks for a left value among the right: all but SUBSET, which asks for one that is not.
+fn asks_common(operator: u8) -> bool
+    ensures { λ r. ⌜ r ≡ asksCommon operator ⌝ }
 {
-    if operator == UNEQUAL {
-        return truth::not(truth::tested(common));
+    operator != SUBSET
+}
+
+// `=` and IN, or with `!=` and SUBSET the negation.
+fn equality(operator: u8, found: Truth) -> Truth
+    ensures { λ r. ⌜ truthOf r ≡ equalityOf operator (truthOf found) ⌝ }
+{
+    if operator <= IN {
+        return found;
     }
-    truth::tested(common)
+    truth::not(found)
 }
 
 // What an operator says of its operands. "Absent operands, different types, and an order between non-integers give UNDEF."
@@ -461,26 +505,14 @@ pub fn compare(
     if left.kind != right.kind {
         return Truth::Undef;
     }
-    if absent(code, pairs, session, entries, left) {
-        return Truth::Undef;
-    }
-    if absent(code, pairs, session, entries, right) {
-        return Truth::Undef;
-    }
     match operator {
-        EQUAL..=UNEQUAL => equality(
-            operator,
-            some_found(code, pairs, session, entries, left, right, true),
-        ),
-        SUBSET => truth::not(truth::tested(some_found(
-            code,
-            pairs,
-            session,
-            entries,
-            left,
-            right,
-            false,
-        ))),
+        EQUAL..=SUBSET => {
+            let common = asks_common(operator);
+            equality(
+                operator,
+                some_found(code, pairs, session, entries, left, right, common),
+            )
+        }
         LESS..=AT_LEAST => order(code, pairs, session, entries, operator, left, right),
         _ => Truth::Undef,
     }
@@ -500,10 +532,7 @@ pub fn lone(
     if operand.kind != BOOL {
         return Truth::Undef;
     }
-    if absent(code, pairs, session, entries, operand) {
-        return Truth::Undef;
-    }
-    truth::tested(among(code, pairs, session, entries, one_word(1), operand))
+    among(code, pairs, session, entries, one_word(1), operand)
 }
 
 // An operand without a value.

@@ -1,31 +1,59 @@
-use mathlib.Core.Path.{ap₂, _∙_, sym}
-use mathlib.Core.Bool.{Bool}
+use mathlib.Core.Path.{ap, ap₂, _∙_}
 use lib.Dec.{leb, ltb}
-use Rattle.values.specs.Compared.{isBelow}
+use borrow.Author.Tests.{not-true, not-false}
 use borrow.Author.Needs.{needs}
+use Rattle.model.specs.Truth.{truth}
+use Rattle.values.specs.Operands.{lent, valuesOf}
+use Rattle.values.specs.Compared.{isBelow}
+use Rattle.values.proofs.Compared.{without-left, without-right, with-both, at-most, strictly}
 use Rattle.values.proofs.below.Statement.{statement}
 use Rattle.values.proofs.below.Tie as tie
 use Rattle.values.proofs.below.Reads as reads
 use Rattle.values.proofs.below.Lts as lts
+use Rattle.truth.proofs.tested.Reads as tested-reads
 use Rattle.values.proofs.extreme.Reads as extreme-reads
 
--- src/lib.rt:406:9
+-- src/lib.rt:424:9
 extreme-requires : tie.Need-extreme-requires
 extreme-requires c κs = search needs
 
--- src/lib.rt:407:9
+-- src/lib.rt:426:9
+returns : tie.Need-returns
+returns c = without-left (valuesOf (lent (c .before .before .before .before .before .before .args .code .now) (c .before .before .before .before .before .before .args .pairs .now) (c .before .before .before .before .before .before .args .session .now) (c .before .before .before .before .before .before .args .entries .now)) (c .before .before .before .before .before .before .args .low)) (valuesOf (lent (c .before .before .before .before .before .before .args .code .now) (c .before .before .before .before .before .before .args .pairs .now) (c .before .before .before .before .before .before .args .session .now) (c .before .before .before .before .before .before .args .entries .now)) (c .before .before .before .before .before .before .args .high)) (truth (isBelow (c .before .before .before .before .before .before .args .equal) (valuesOf (lent (c .before .before .before .before .before .before .args .code .now) (c .before .before .before .before .before .before .args .pairs .now) (c .before .before .before .before .before .before .args .session .now) (c .before .before .before .before .before .before .args .entries .now)) (c .before .before .before .before .before .before .args .low)) (valuesOf (lent (c .before .before .before .before .before .before .args .code .now) (c .before .before .before .before .before .before .args .pairs .now) (c .before .before .before .before .before .before .args .session .now) (c .before .before .before .before .before .before .args .entries .now)) (c .before .before .before .before .before .before .args .high)))) (c .before .before .extreme .result .here) (c .before .before .extreme .ensures .0) (not-true _ (c .if1 .taken))
+
+-- src/lib.rt:428:9
 extreme-requires-2 : tie.Need-extreme-requires-2
 extreme-requires-2 c κs = search needs
 
--- src/lib.rt:409:9
-returns : tie.Need-returns
-unfolding isBelow
-returns c = ap₂ leb (c .before .before .extreme .ensures) (c .before .extreme2 .ensures) ∙ sym (rw (c .if1 .taken))
-
--- src/lib.rt:394:1
+-- src/lib.rt:430:9
 returns-2 : tie.Need-returns-2
-unfolding isBelow
-returns-2 c = ap₂ ltb (c .before .before .extreme .ensures) (c .before .extreme2 .ensures) ∙ sym (rw (c .if1 .left))
+returns-2 c = without-right (valuesOf (lent (c .before .before .before .before .before .before .before .before .before .args .code .now) (c .before .before .before .before .before .before .before .before .before .args .pairs .now) (c .before .before .before .before .before .before .before .before .before .args .session .now) (c .before .before .before .before .before .before .before .before .before .args .entries .now)) (c .before .before .before .before .before .before .before .before .before .args .low)) (valuesOf (lent (c .before .before .before .before .before .before .before .before .before .args .code .now) (c .before .before .before .before .before .before .before .before .before .args .pairs .now) (c .before .before .before .before .before .before .before .before .before .args .session .now) (c .before .before .before .before .before .before .before .before .before .args .entries .now)) (c .before .before .before .before .before .before .before .before .before .args .high)) (truth (isBelow (c .before .before .before .before .before .before .before .before .before .args .equal) (valuesOf (lent (c .before .before .before .before .before .before .before .before .before .args .code .now) (c .before .before .before .before .before .before .before .before .before .args .pairs .now) (c .before .before .before .before .before .before .before .before .before .args .session .now) (c .before .before .before .before .before .before .before .before .before .args .entries .now)) (c .before .before .before .before .before .before .before .before .before .args .low)) (valuesOf (lent (c .before .before .before .before .before .before .before .before .before .args .code .now) (c .before .before .before .before .before .before .before .before .before .args .pairs .now) (c .before .before .before .before .before .before .before .before .before .args .session .now) (c .before .before .before .before .before .before .before .before .before .args .entries .now)) (c .before .before .before .before .before .before .before .before .before .args .high)))) (c .before .before .before .before .before .extreme .result .here) (c .before .before .before .before .before .extreme .ensures .0) (not-false _ (c .before .before .before .if1 .left)) (c .before .before .extreme2 .result .here) (c .before .before .extreme2 .ensures .0) (not-true _ (c .if2 .taken))
+
+-- src/lib.rt:433:9
+tested-requires : tie.Need-tested-requires
+tested-requires c κs = search needs
+
+-- src/lib.rt:433:9
+returns-3 : tie.Need-returns-3
+returns-3 c = c .tested .ensures ∙ ap truth (ap₂ leb (c .before .before .before .before .before .before .before .before .before .extreme .ensures .1) (c .before .before .before .before .before .before .extreme2 .ensures .1) ∙ at-most (c .before .before .before .before .before .before .before .before .before .before .before .before .before .args .equal) (valuesOf (lent (c .before .before .before .before .before .before .before .before .before .before .before .before .before .args .code .now) (c .before .before .before .before .before .before .before .before .before .before .before .before .before .args .pairs .now) (c .before .before .before .before .before .before .before .before .before .before .before .before .before .args .session .now) (c .before .before .before .before .before .before .before .before .before .before .before .before .before .args .entries .now)) (c .before .before .before .before .before .before .before .before .before .before .before .before .before .args .low)) (valuesOf (lent (c .before .before .before .before .before .before .before .before .before .before .before .before .before .args .code .now) (c .before .before .before .before .before .before .before .before .before .before .before .before .before .args .pairs .now) (c .before .before .before .before .before .before .before .before .before .before .before .before .before .args .session .now) (c .before .before .before .before .before .before .before .before .before .before .before .before .before .args .entries .now)) (c .before .before .before .before .before .before .before .before .before .before .before .before .before .args .high)) (c .before .before .before .if3 .taken)) ∙ with-both (valuesOf (lent (c .before .before .before .before .before .before .before .before .before .before .before .before .before .args .code .now) (c .before .before .before .before .before .before .before .before .before .before .before .before .before .args .pairs .now) (c .before .before .before .before .before .before .before .before .before .before .before .before .before .args .session .now) (c .before .before .before .before .before .before .before .before .before .before .before .before .before .args .entries .now)) (c .before .before .before .before .before .before .before .before .before .before .before .before .before .args .low)) (valuesOf (lent (c .before .before .before .before .before .before .before .before .before .before .before .before .before .args .code .now) (c .before .before .before .before .before .before .before .before .before .before .before .before .before .args .pairs .now) (c .before .before .before .before .before .before .before .before .before .before .before .before .before .args .session .now) (c .before .before .before .before .before .before .before .before .before .before .before .before .before .args .entries .now)) (c .before .before .before .before .before .before .before .before .before .before .before .before .before .args .high)) (truth (isBelow (c .before .before .before .before .before .before .before .before .before .before .before .before .before .args .equal) (valuesOf (lent (c .before .before .before .before .before .before .before .before .before .before .before .before .before .args .code .now) (c .before .before .before .before .before .before .before .before .before .before .before .before .before .args .pairs .now) (c .before .before .before .before .before .before .before .before .before .before .before .before .before .args .session .now) (c .before .before .before .before .before .before .before .before .before .before .before .before .before .args .entries .now)) (c .before .before .before .before .before .before .before .before .before .before .before .before .before .args .low)) (valuesOf (lent (c .before .before .before .before .before .before .before .before .before .before .before .before .before .args .code .now) (c .before .before .before .before .before .before .before .before .before .before .before .before .before .args .pairs .now) (c .before .before .before .before .before .before .before .before .before .before .before .before .before .args .session .now) (c .before .before .before .before .before .before .before .before .before .before .before .before .before .args .entries .now)) (c .before .before .before .before .before .before .before .before .before .before .before .before .before .args .high)))) (c .before .before .before .before .before .before .before .before .before .extreme .result .here) (c .before .before .before .before .before .before .before .before .before .extreme .ensures .0) (not-false _ (c .before .before .before .before .before .before .before .if1 .left)) (c .before .before .before .before .before .before .extreme2 .result .here) (c .before .before .before .before .before .before .extreme2 .ensures .0) (not-false _ (c .before .before .before .before .if2 .left))
+
+-- src/lib.rt:435:5
+tested-requires-2 : tie.Need-tested-requires-2
+tested-requires-2 c κs = search needs
+
+-- src/lib.rt:412:1
+returns-4 : tie.Need-returns-4
+returns-4 c = c .tested2 .ensures ∙ ap truth (ap₂ ltb (c .before .before .before .before .before .before .before .before .before .extreme .ensures .1) (c .before .before .before .before .before .before .extreme2 .ensures .1) ∙ strictly (c .before .before .before .before .before .before .before .before .before .before .before .before .before .args .equal) (valuesOf (lent (c .before .before .before .before .before .before .before .before .before .before .before .before .before .args .code .now) (c .before .before .before .before .before .before .before .before .before .before .before .before .before .args .pairs .now) (c .before .before .before .before .before .before .before .before .before .before .before .before .before .args .session .now) (c .before .before .before .before .before .before .before .before .before .before .before .before .before .args .entries .now)) (c .before .before .before .before .before .before .before .before .before .before .before .before .before .args .low)) (valuesOf (lent (c .before .before .before .before .before .before .before .before .before .before .before .before .before .args .code .now) (c .before .before .before .before .before .before .before .before .before .before .before .before .before .args .pairs .now) (c .before .before .before .before .before .before .before .before .before .before .before .before .before .args .session .now) (c .before .before .before .before .before .before .before .before .before .before .before .before .before .args .entries .now)) (c .before .before .before .before .before .before .before .before .before .before .before .before .before .args .high)) (c .before .before .before .if3 .left)) ∙ with-both (valuesOf (lent (c .before .before .before .before .before .before .before .before .before .before .before .before .before .args .code .now) (c .before .before .before .before .before .before .before .before .before .before .before .before .before .args .pairs .now) (c .before .before .before .before .before .before .before .before .before .before .before .before .before .args .session .now) (c .before .before .before .before .before .before .before .before .before .before .before .before .before .args .entries .now)) (c .before .before .before .before .before .before .before .before .before .before .before .before .before .args .low)) (valuesOf (lent (c .before .before .before .before .before .before .before .before .before .before .before .before .before .args .code .now) (c .before .before .before .before .before .before .before .before .before .before .before .before .before .args .pairs .now) (c .before .before .before .before .before .before .before .before .before .before .before .before .before .args .session .now) (c .before .before .before .before .before .before .before .before .before .before .before .before .before .args .entries .now)) (c .before .before .before .before .before .before .before .before .before .before .before .before .before .args .high)) (truth (isBelow (c .before .before .before .before .before .before .before .before .before .before .before .before .before .args .equal) (valuesOf (lent (c .before .before .before .before .before .before .before .before .before .before .before .before .before .args .code .now) (c .before .before .before .before .before .before .before .before .before .before .before .before .before .args .pairs .now) (c .before .before .before .before .before .before .before .before .before .before .before .before .before .args .session .now) (c .before .before .before .before .before .before .before .before .before .before .before .before .before .args .entries .now)) (c .before .before .before .before .before .before .before .before .before .before .before .before .before .args .low)) (valuesOf (lent (c .before .before .before .before .before .before .before .before .before .before .before .before .before .args .code .now) (c .before .before .before .before .before .before .before .before .before .before .before .before .before .args .pairs .now) (c .before .before .before .before .before .before .before .before .before .before .before .before .before .args .session .now) (c .before .before .before .before .before .before .before .before .before .before .before .before .before .args .entries .now)) (c .before .before .before .before .before .before .before .before .before .before .before .before .before .args .high)))) (c .before .before .before .before .before .before .before .before .before .extreme .result .here) (c .before .before .before .before .before .before .before .before .before .extreme .ensures .0) (not-false _ (c .before .before .before .before .before .before .before .if1 .left)) (c .before .before .before .before .before .before .extreme2 .result .here) (c .before .before .before .before .before .before .extreme2 .ensures .0) (not-false _ (c .before .before .before .before .if2 .left))
 
 pub below-spec : {M : Type 1} → statement M
-below-spec = tie.close (tie.spec extreme-requires extreme-requires-2 returns returns-2)
+below-spec =
+    tie.close
+    (tie.spec
+    extreme-requires
+    returns
+    extreme-requires-2
+    returns-2
+    tested-requires
+    returns-3
+    tested-requires-2
+    returns-4)

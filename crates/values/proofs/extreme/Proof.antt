@@ -1,17 +1,13 @@
 use borrow.Author.Tests.{not-true, not-false}
 use Prim.Native.Nat.{ℕ}
-use native.Mathlib.Omega.{arith}
-use mathlib.Core.Path.{_≡_, sym, ap, refl, _∙_}
-use mathlib.Core.List.{List}
+use mathlib.Core.Path.{_≡_, sym, ap, ap₂, _∙_}
+use mathlib.Core.Bool.{not, _||_}
 use borrow.Author.Needs.{needs}
 use lib.ListN.{length}
-use Rattle.model.specs.Notation.{any, isEmpty}
-use Rattle.text.specs.declared.Words.{Words}
-use Rattle.text.specs.Values.{sameWords}
-use Rattle.values.specs.Operands.{lent, valuesFrom, valuesOf, firstOf}
-use mathlib.Core.Path.{ap₂}
-use Rattle.values.specs.Compared.{further, extremeFrom, worst}
-use Rattle.values.proofs.Walks.{fewer, best-none, best-on}
+use Rattle.model.specs.Notation.{isEmpty}
+use Rattle.values.specs.Operands.{lent, valuesFrom, valuesOf}
+use Rattle.values.specs.Compared.{extremeFrom, worst}
+use Rattle.values.proofs.Walks.{fewer, some-none, some-more, best-none, best-on}
 use Rattle.values.proofs.extreme.Statement.{statement}
 use Rattle.values.proofs.extreme.Tie as tie
 use Rattle.values.proofs.extreme.Reads as reads
@@ -22,42 +18,42 @@ use Rattle.values.proofs.start_of.Reads as start-of-reads
 use Rattle.values.proofs.value_from.Reads as value-from-reads
 
 abbrev Inv-loop : tie.InvT-loop
-Inv-loop code pairs session entries operand greatest best₀ i₀ best i = extremeFrom greatest best (valuesFrom (lent code pairs session entries) operand i) ≡ extremeFrom greatest (worst greatest) (valuesOf (lent code pairs session entries) operand)
+Inv-loop code pairs session entries operand greatest some₀ best₀ i₀ some best i = ((some || not (isEmpty (valuesFrom (lent code pairs session entries) operand i))) ≡ not (isEmpty (valuesOf (lent code pairs session entries) operand))) × (extremeFrom greatest best (valuesFrom (lent code pairs session entries) operand i) ≡ extremeFrom greatest (worst greatest) (valuesOf (lent code pairs session entries) operand))
 
 abbrev μ-loop : tie.MeasureT-loop
-μ-loop code pairs session entries operand greatest best₀ i₀ best i = length (valuesFrom (lent code pairs session entries) operand i)
+μ-loop code pairs session entries operand greatest some₀ best₀ i₀ some best i = length (valuesFrom (lent code pairs session entries) operand i)
 
--- src/lib.rt:380:9
+-- src/lib.rt:393:9
 start-of-requires : tie.Need-start-of-requires Inv-loop μ-loop
 start-of-requires c κs = search needs
 
--- src/lib.rt:381:9
+-- src/lib.rt:394:9
 first-requires : tie.Need-first-requires Inv-loop μ-loop
 first-requires c κs = search needs
 
--- src/lib.rt:382:5
+-- src/lib.rt:395:5
 loop-holds : tie.Need-loop-holds Inv-loop μ-loop
-loop-holds c = ap₂ (λ (b i : ℕ). extremeFrom (c .before .before .before .before .before .args .greatest) b ((valuesFrom (lent (c .before .before .before .before .before .args .code .now) (c .before .before .before .before .before .args .pairs .now) (c .before .before .before .before .before .args .session .now) (c .before .before .before .before .before .args .entries .now)) (c .before .before .before .before .before .args .operand)) i)) (c .before .start-of .ensures) (c .first .ensures)
+loop-holds c = (ap (λ (i : ℕ). not (isEmpty ((valuesFrom (lent (c .before .before .before .before .before .args .code .now) (c .before .before .before .before .before .args .pairs .now) (c .before .before .before .before .before .args .session .now) (c .before .before .before .before .before .args .entries .now)) (c .before .before .before .before .before .args .operand)) i))) (c .first .ensures), ap₂ (λ (b i : ℕ). extremeFrom (c .before .before .before .before .before .args .greatest) b ((valuesFrom (lent (c .before .before .before .before .before .args .code .now) (c .before .before .before .before .before .args .pairs .now) (c .before .before .before .before .before .args .session .now) (c .before .before .before .before .before .args .entries .now)) (c .before .before .before .before .before .args .operand)) i)) (c .before .start-of .ensures) (c .first .ensures))
 
--- src/lib.rt:383:13
+-- src/lib.rt:396:13
 value-from-requires : tie.Need-value-from-requires Inv-loop μ-loop
 value-from-requires c κs = search needs
 
--- src/lib.rt:385:13
+-- src/lib.rt:398:13
 returns : tie.Need-returns Inv-loop μ-loop
-returns c = sym (best-none (valuesFrom (lent (c .before .before .before .before .before .before .before .before .before .args .code .now) (c .before .before .before .before .before .before .before .before .before .args .pairs .now) (c .before .before .before .before .before .before .before .before .before .args .session .now) (c .before .before .before .before .before .before .before .before .before .args .entries .now)) (c .before .before .before .before .before .before .before .before .before .args .operand)) (c .before .before .before .loop .i) (c .before .before .value-from .result) (c .before .before .value-from .ensures) (c .before .before .before .before .before .before .before .before .before .args .greatest) (c .before .before .before .loop .best) (not-true _ (c .if1 .taken))) ∙ c .before .before .before .loop .inv
+returns c = (sym (some-none (valuesFrom (lent (c .before .before .before .before .before .before .before .before .before .args .code .now) (c .before .before .before .before .before .before .before .before .before .args .pairs .now) (c .before .before .before .before .before .before .before .before .before .args .session .now) (c .before .before .before .before .before .before .before .before .before .args .entries .now)) (c .before .before .before .before .before .before .before .before .before .args .operand)) (c .before .before .before .loop .i) (c .before .before .value-from .result) (c .before .before .value-from .ensures) (c .before .before .before .loop .some) (not-true _ (c .if1 .taken))) ∙ c .before .before .before .loop .inv .0, sym (best-none (valuesFrom (lent (c .before .before .before .before .before .before .before .before .before .args .code .now) (c .before .before .before .before .before .before .before .before .before .args .pairs .now) (c .before .before .before .before .before .before .before .before .before .args .session .now) (c .before .before .before .before .before .before .before .before .before .args .entries .now)) (c .before .before .before .before .before .before .before .before .before .args .operand)) (c .before .before .before .loop .i) (c .before .before .value-from .result) (c .before .before .value-from .ensures) (c .before .before .before .before .before .before .before .before .before .args .greatest) (c .before .before .before .loop .best) (not-true _ (c .if1 .taken))) ∙ c .before .before .before .loop .inv .1)
 
--- src/lib.rt:388:9
+-- src/lib.rt:404:9
 further-requires : tie.Need-further-requires Inv-loop μ-loop
 further-requires c κs = search needs
 
--- src/lib.rt:382:5
+-- src/lib.rt:395:5
 loop-less : tie.Need-loop-less Inv-loop μ-loop
 loop-less c = fewer (valuesFrom (lent (c .before .before .before .before .before .before .before .before .before .before .before .args .code .now) (c .before .before .before .before .before .before .before .before .before .before .before .args .pairs .now) (c .before .before .before .before .before .before .before .before .before .before .before .args .session .now) (c .before .before .before .before .before .before .before .before .before .before .before .args .entries .now)) (c .before .before .before .before .before .before .before .before .before .before .before .args .operand)) (c .before .before .before .before .before .loop .i) (c .before .before .before .before .value-from .result) (c .before .before .before .before .value-from .ensures) (not-false _ (c .before .before .if1 .left))
 
--- src/lib.rt:382:5
+-- src/lib.rt:395:5
 loop-again : tie.Need-loop-again Inv-loop μ-loop
-loop-again c = ap (λ (b : ℕ). extremeFrom (c .before .before .before .before .before .before .before .before .before .before .before .args .greatest) b ((valuesFrom (lent (c .before .before .before .before .before .before .before .before .before .before .before .args .code .now) (c .before .before .before .before .before .before .before .before .before .before .before .args .pairs .now) (c .before .before .before .before .before .before .before .before .before .before .before .args .session .now) (c .before .before .before .before .before .before .before .before .before .before .before .args .entries .now)) (c .before .before .before .before .before .before .before .before .before .before .before .args .operand)) (c .before .before .before .before .value-from .result .next))) (c .further .ensures) ∙ sym (best-on (valuesFrom (lent (c .before .before .before .before .before .before .before .before .before .before .before .args .code .now) (c .before .before .before .before .before .before .before .before .before .before .before .args .pairs .now) (c .before .before .before .before .before .before .before .before .before .before .before .args .session .now) (c .before .before .before .before .before .before .before .before .before .before .before .args .entries .now)) (c .before .before .before .before .before .before .before .before .before .before .before .args .operand)) (c .before .before .before .before .before .loop .i) (c .before .before .before .before .value-from .result) (c .before .before .before .before .value-from .ensures) (c .before .before .before .before .before .before .before .before .before .before .before .args .greatest) (c .before .before .before .before .before .loop .best) (not-false _ (c .before .before .if1 .left))) ∙ c .before .before .before .before .before .loop .inv
+loop-again c = (sym (some-more (valuesFrom (lent (c .before .before .before .before .before .before .before .before .before .before .before .args .code .now) (c .before .before .before .before .before .before .before .before .before .before .before .args .pairs .now) (c .before .before .before .before .before .before .before .before .before .before .before .args .session .now) (c .before .before .before .before .before .before .before .before .before .before .before .args .entries .now)) (c .before .before .before .before .before .before .before .before .before .before .before .args .operand)) (c .before .before .before .before .before .loop .i) (c .before .before .before .before .value-from .result) (c .before .before .before .before .value-from .ensures) (c .before .before .before .before .before .loop .some) (not-false _ (c .before .before .if1 .left))) ∙ c .before .before .before .before .before .loop .inv .0, ap (λ (b : ℕ). extremeFrom (c .before .before .before .before .before .before .before .before .before .before .before .args .greatest) b ((valuesFrom (lent (c .before .before .before .before .before .before .before .before .before .before .before .args .code .now) (c .before .before .before .before .before .before .before .before .before .before .before .args .pairs .now) (c .before .before .before .before .before .before .before .before .before .before .before .args .session .now) (c .before .before .before .before .before .before .before .before .before .before .before .args .entries .now)) (c .before .before .before .before .before .before .before .before .before .before .before .args .operand)) (c .before .before .before .before .value-from .result .next))) (c .further .ensures) ∙ sym (best-on (valuesFrom (lent (c .before .before .before .before .before .before .before .before .before .before .before .args .code .now) (c .before .before .before .before .before .before .before .before .before .before .before .args .pairs .now) (c .before .before .before .before .before .before .before .before .before .before .before .args .session .now) (c .before .before .before .before .before .before .before .before .before .before .before .args .entries .now)) (c .before .before .before .before .before .before .before .before .before .before .before .args .operand)) (c .before .before .before .before .before .loop .i) (c .before .before .before .before .value-from .result) (c .before .before .before .before .value-from .ensures) (c .before .before .before .before .before .before .before .before .before .before .before .args .greatest) (c .before .before .before .before .before .loop .best) (not-false _ (c .before .before .if1 .left))) ∙ c .before .before .before .before .before .loop .inv .1)
 
 pub extreme-spec : {M : Type 1} → statement M
 extreme-spec =

@@ -1,0 +1,29 @@
+use native.Mathlib.Omega.{arith}
+use mathlib.Core.Path.{sym, _∙_}
+use lib.ListN.{getD}
+use borrow.Author.Tests.{eqb-true}
+use Rattle.policy.proofs.Fronts.{inside}
+use borrow.Author.Needs.{needs}
+use Rattle.policy.proofs.behind_not.Statement.{statement}
+use Rattle.policy.proofs.behind_not.Tie as tie
+use Rattle.policy.proofs.behind_not.Reads as reads
+use Rattle.policy.proofs.behind_not.Lts as lts
+
+-- src/lib.rt:451:16
+add-result : tie.Need-add-result
+add-result c =
+    let a = c .before .args in
+    let code = a .code .now in
+    let e = eqb-true (getD code (a .at) 0) 12 (sym (c .before .pre) ∙ c .if1 .taken) in
+    let w = inside code (a .at) (omega (arith, e)) in omega (arith, w)
+
+-- src/lib.rt:451:9
+returns : tie.Need-returns
+returns c = sym (rw (c .if1 .taken))
+
+-- src/lib.rt:446:1
+returns-2 : tie.Need-returns-2
+returns-2 c = search needs
+
+pub behind-not-spec : {M : Type 1} → statement M
+behind-not-spec = tie.close (tie.spec add-result returns returns-2)

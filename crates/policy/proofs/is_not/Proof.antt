@@ -1,0 +1,20 @@
+use Prim.Native.Nat.{ℕ}
+use mathlib.Core.Path.{ap}
+use lib.Dec.{eqb}
+use borrow.Author.Needs.{needs}
+use Rattle.policy.proofs.is_not.Statement.{statement}
+use Rattle.policy.proofs.is_not.Tie as tie
+use Rattle.policy.proofs.is_not.Reads as reads
+use Rattle.policy.proofs.is_not.Lts as lts
+use Rattle.policy.proofs.kind_at.Reads as kind-at-reads
+
+-- src/lib.rt:442:5
+kind-at-requires : tie.Need-kind-at-requires
+kind-at-requires c κs = search needs
+
+-- src/lib.rt:439:1
+returns : tie.Need-returns
+returns c = ap (λ (k : ℕ). eqb k 12) (c .kind-at .ensures)
+
+pub is-not-spec : {M : Type 1} → statement M
+is-not-spec = tie.close (tie.spec kind-at-requires returns)

@@ -1,0 +1,90 @@
+use native.Mathlib.Omega.{arith}
+use mathlib.Core.Path.{sym, _∙_}
+use mathlib.Core.Bool.{true≢false}
+use borrow.Author.Tests.{not-true, not-false}
+use Rattle.policy.proofs.Fronts.{inside}
+use Rattle.policy.proofs.Heads.{no-operator, an-operator, no-second-var, second-var}
+use borrow.Author.Needs.{needs}
+use Rattle.policy.proofs.second_var.Statement.{statement}
+use Rattle.policy.proofs.second_var.Tie as tie
+use Rattle.policy.proofs.second_var.Reads as reads
+use Rattle.policy.proofs.second_var.Lts as lts
+use Rattle.policy.proofs.is_operator.Reads as is-operator-reads
+use Rattle.policy.proofs.kind_at.Reads as kind-at-reads
+use Rattle.policy.proofs.no_var.Reads as no-var-reads
+use Rattle.policy.proofs.var_at.Reads as var-at-reads
+
+-- src/lib.rt:406:9
+no-var-requires : tie.Need-no-var-requires
+no-var-requires c κs = search needs
+
+-- src/lib.rt:406:9
+returns : tie.Need-returns
+returns c =
+    let a = c .before .before .before .before .args in
+    let code = a .code .now in
+    no-second-var code (a .attributes .now) (a .at) (a .negated) (c .no-var .result) (c .no-var .ensures .0)
+    (λ f x y. true≢false (sym (c .before .if1 .taken) ∙ f))
+
+-- src/lib.rt:408:21
+kind-at-requires : tie.Need-kind-at-requires
+kind-at-requires c κs = search needs
+
+-- src/lib.rt:408:9
+is-operator-requires : tie.Need-is-operator-requires
+is-operator-requires c κs = search needs
+
+-- src/lib.rt:409:9
+no-var-requires-2 : tie.Need-no-var-requires-2
+no-var-requires-2 c κs = search needs
+
+-- src/lib.rt:409:9
+returns-2 : tie.Need-returns-2
+returns-2 c =
+    let a = c .before .before .before .before .before .before .before .args in
+    let code = a .code .now in
+    let the-kind-at = c .before .before .before .kind-at in
+    no-second-var code (a .attributes .now) (a .at) (a .negated) (c .no-var2 .result) (c .no-var2 .ensures .0)
+    (λ f x y. no-operator (the-kind-at .result) (sym (c .before .before .is-operator .ensures) ∙ not-true _ (c .before .if2 .taken))
+    (omega (arith, x, the-kind-at .ensures)) (omega (arith, y, the-kind-at .ensures)))
+
+-- src/lib.rt:411:13
+add-n : tie.Need-add-n
+add-n c =
+    let a = c .before .before .before .before .before .before .args in
+    let code = a .code .now in
+    let the-kind-at = c .before .before .kind-at in
+    let o = an-operator (the-kind-at .result) (sym (c .before .is-operator .ensures) ∙ not-false _ (c .if2 .left)) in
+    let w = inside code (a .at) (omega (arith, o, the-kind-at .ensures)) in omega (arith, w)
+
+-- src/lib.rt:412:30
+kind-at-requires-2 : tie.Need-kind-at-requires-2
+kind-at-requires-2 c κs = search needs
+
+-- src/lib.rt:412:5
+var-at-requires : tie.Need-var-at-requires
+var-at-requires c κs = search needs
+
+-- src/lib.rt:401:1
+returns-3 : tie.Need-returns-3
+returns-3 c =
+    let a = c .before .before .before .before .before .before .before .before .args in
+    let code = a .code .now in
+    let the-kind-at = c .before .before .before .before .kind-at in
+    let o = an-operator (the-kind-at .result) (sym (c .before .before .before .is-operator .ensures) ∙ not-false _ (c .before .before .if2 .left)) in
+    second-var code (a .attributes .now) (a .at) (a .negated) (c .var-at .result) (c .before .before .before .before .before .if1 .left) (omega (arith, o, the-kind-at .ensures)) (c .var-at .ensures)
+
+pub second-var-spec : {M : Type 1} → statement M
+second-var-spec =
+    tie.close
+    (tie.spec
+    no-var-requires
+    returns
+    kind-at-requires
+    is-operator-requires
+    no-var-requires-2
+    returns-2
+    add-n
+    kind-at-requires-2
+    var-at-requires
+    returns-3)
