@@ -7,7 +7,7 @@
    The book and the rules may hold anything before the first load. Between calls they are the library's: a host may copy, keep and compare them as
    plain memory, and must lend an edit or a request the book and the table that the last load or edit left.
 
-   Stack, as hosts/stack measures it on x86-64 (KB of 1000 bytes; measured, not proved): zhul_pass 293 KB, zhul_load 226 KB, zhul_edit 16 KB,
+   Stack, as hosts/stack measures it on x86-64 (KB of 1000 bytes; measured, not proved): zhul_pass 304 KB, zhul_load 237 KB, zhul_edit 16 KB,
    zhul_decide 16 KB. The first two are for a refused file with a rule line full of parentheses, as a policy is read to its end before its depth is
    judged, some 0.9 KB for each parenthesis; for the largest files that are accepted it is 93 KB and 26 KB. */
 #ifndef ZHULMEKOV_H
