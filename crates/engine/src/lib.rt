@@ -209,7 +209,7 @@ fn in_room(n: u64) -> usize
     32
 }
 
-// A request with no wrong number: 17, or what its rules come to. They read the session that is opened for it, of the declared attributes.
+// A request with no wrong number: 17, or what its rules come to. Both are read off the session that is opened for it, of the declared attributes.
 fn answered(
     counts: &[u64],
     operations: &[u64],
@@ -224,11 +224,8 @@ fn answered(
     ensures { λ r. ⌜ Answered (now (counts .entry)) (now (operations .entry)) (now (code .entry)) (now (attributes .entry)) (now (pairs .entry)) (now (table .entry)) (now (block .entry)) (now (entries .entry)) r ⌝ }
 {
     let user = wide(block[1]);
-    let mask = values::four(block, 4) as u32;
-    if session::unheld(attributes, table, user, mask) {
-        return Decision::Refused(17);
-    }
     let object = wide(block[2]);
+    let mask = values::four(block, 4) as u32;
     let declared = in_room(counts[0]);
     let mut session: [u64; 128] = [0; 128];
     session::open(
@@ -240,6 +237,9 @@ fn answered(
         declared,
         &mut session,
     );
+    if session::unheld(attributes, &session, mask) {
+        return Decision::Refused(17);
+    }
     let rules = in_room(counts[5]);
     decided(
         operations,

@@ -14,7 +14,7 @@ pub extern "C" fn zhul_time_judge(
     policy::judge(policy, attributes, code)
 }
 
-// Tests refusal 17, and opens a session of the first `count` attributes.
+// Opens a session of the first `count` attributes, and tells refusal 17.
 #[no_mangle]
 pub extern "C" fn zhul_time_open(
     attributes: &[u64; 256],
@@ -28,11 +28,8 @@ pub extern "C" fn zhul_time_open(
     if 32 < count {
         return true;
     }
-    if session::unheld(attributes, table, user, mask) {
-        return true;
-    }
     session::open(attributes, table, user, object, mask, count, session);
-    false
+    session::unheld(attributes, session, mask)
 }
 
 // Evaluates rule code on an opened session.

@@ -24,33 +24,45 @@ use Rattle.text.specs.Values.{words, sameWords, atomWords}
 use Rattle.values.specs.declared.Operand.{Operand}
 use Rattle.values.specs.Operands.{Lent, valuesOf, Stands}
 use Rattle.values.specs.Compared.{amongValues, someFound, greatestOf, leastOf, isBelow, orNext, soughtFrom, amongOf, asked, foundOf, ofPresent}
-use Rattle.values.specs.Compared.{asksCommon, equalityOf, orEqual, orderOf, likeValues, compareValues, loneOf, Compared, Lone}
+use Rattle.values.specs.Compared.{toldBy, orEqual, orderOf, likeValues, compareValues, loneOf, Compared, Lone}
 use Rattle.values.proofs.Orders.{below-so, not-above-so}
 use Rattle.values.proofs.Atoms.{all-in, int-small, Typed, among-atoms, common-atoms, subset-atoms, before-atoms, after-atoms}
 
 -- the ways through the tests of an operator's number
 module _ (n k : ℕ) (l r : List Words) where
-  like-equality : 16 ≤ n → n ≤ 19 → likeValues n k l r ≡ equalityOf n (truth (someFound (asksCommon n) l r))
+  like-equality : 16 ≤ n → n ≤ 18 → likeValues n k l r ≡ toldBy n (truth (someFound true l r))
   unfolding likeValues
-  like-equality h m = simp (le-leb 16 n h, le-leb n 19 m)
+  like-equality h m = simp (le-leb 16 n h, le-leb n 18 m)
+
+  like-subset : 19 ≤ n → n ≤ 19 → likeValues n k l r ≡ toldBy n (truth (someFound false l r))
+  unfolding likeValues
+  like-subset h m =
+      let a : 16 ≤ n = omega arith in
+      let b : 18 < n = omega arith in
+      simp (le-leb 16 n a, lt-leb n 18 b, le-leb 19 n h, le-leb n 19 m)
+
+  -- none of the ranges before
+  behind-subset : 19 < n → likeValues n k l r ≡ (if (leb 20 n && leb n 23) then (if eqb k 1 then truth (orderOf n l r) else model.UNDEF) else model.UNDEF)
+  unfolding likeValues
+  behind-subset h =
+      let a : 16 ≤ n = omega arith in
+      let b : 18 < n = omega arith in
+      let d : 19 ≤ n = omega arith in
+      simp (le-leb 16 n a, lt-leb n 18 b, le-leb 19 n d, lt-leb n 19 h)
 
   like-order : 20 ≤ n → n ≤ 23 → likeValues n k l r ≡ (if eqb k 1 then truth (orderOf n l r) else model.UNDEF)
-  unfolding likeValues
-  like-order h m =
-      let a : 16 ≤ n = omega arith in
-      let b : 19 < n = omega arith in
-      simp (le-leb 16 n a, lt-leb n 19 b, le-leb 20 n h, le-leb n 23 m)
+  like-order h m = let a : 19 < n = omega arith in behind-subset a ∙ simp (le-leb 20 n h, le-leb n 23 m)
 
   like-none : (n < 16) ⊎ (23 < n) → likeValues n k l r ≡ model.UNDEF
   unfolding likeValues
   like-none (inl h) =
-      let a : n < 20 = omega arith in
-      simp (lt-leb 16 n h, lt-leb 20 n a)
+      let a : n < 19 = omega arith in
+      let b : n < 20 = omega arith in
+      simp (lt-leb 16 n h, lt-leb 19 n a, lt-leb 20 n b)
   like-none (inr h) =
-      let a : 16 ≤ n = omega arith in
-      let b : 19 < n = omega arith in
-      let d : 20 ≤ n = omega arith in
-      simp (le-leb 16 n a, lt-leb n 19 b, le-leb 20 n d, lt-leb n 23 h)
+      let a : 19 < n = omega arith in
+      let b : 20 ≤ n = omega arith in
+      behind-subset a ∙ simp (le-leb 20 n b, lt-leb n 23 h)
 
 -- what is said of two operands that have values, by the test for them
 undef-either : (b : Bool) → (if b then model.UNDEF else model.UNDEF) ≡ model.UNDEF
@@ -81,11 +93,11 @@ never : (l r : List Words) → ofPresent l r model.UNDEF ≡ model.UNDEF
 unfolding ofPresent
 never l r = undef-either (not (isEmpty l) && not (isEmpty r))
 
-equality-inside : (n : ℕ) (l r : List Words) (t : model.Truth) → equalityOf n (ofPresent l r t) ≡ ofPresent l r (equalityOf n t)
+told-inside : (n : ℕ) (l r : List Words) (t : model.Truth) → toldBy n (ofPresent l r t) ≡ ofPresent l r (toldBy n t)
 unfolding ofPresent
-equality-inside n l r t = go (not (isEmpty l) && not (isEmpty r))
+told-inside n l r t = go (not (isEmpty l) && not (isEmpty r))
   where
-    go : (b : Bool) → equalityOf n (if b then t else model.UNDEF) ≡ (if b then equalityOf n t else model.UNDEF)
+    go : (b : Bool) → toldBy n (if b then t else model.UNDEF) ≡ (if b then toldBy n t else model.UNDEF)
     go true = refl
     go false = undef-either (leb n 17)
 
@@ -214,7 +226,7 @@ module _ (k : ℕ) (a : Atom) (l : List Atom) (b : Atom) (m : List Atom) (tl : T
       like-equality 18 k (map atomWords (a ∷ l)) (map atomWords (b ∷ m)) (omega arith) (omega arith)
       ∙ ap (λ (t : Bool). NOT (truth t)) (common-atoms k (a ∷ l) (b ∷ m) tl tm)
   like-atoms Operator.SUBSET =
-      like-equality 19 k (map atomWords (a ∷ l)) (map atomWords (b ∷ m)) (omega arith) (omega arith)
+      like-subset 19 k (map atomWords (a ∷ l)) (map atomWords (b ∷ m)) (omega arith) (omega arith)
       ∙ not-truth (someFound false (map atomWords (a ∷ l)) (map atomWords (b ∷ m))) ∙ ap truth (subset-atoms k (a ∷ l) (b ∷ m) tl tm)
   like-atoms Operator.less =
       like-order 20 k (map atomWords (a ∷ l)) (map atomWords (b ∷ m)) (omega arith) (omega arith)
@@ -308,14 +320,23 @@ module _ (L : Lent) (n : ℕ) (left right : Operand) where
         → Compared L n left right r
     like r e = compared L n left right r (e ∙ sym (alike n (left .kind) (right .kind) (valuesOf L left) (valuesOf L right) same))
 
-    pub by-equality : 16 ≤ n → n ≤ 19 → (common : Bool) → common ≡ asksCommon n
-        → (found r : Truth) → truthOf found ≡ foundOf common (valuesOf L left) (valuesOf L right) → truthOf r ≡ equalityOf n (truthOf found)
-        → Compared L n left right r
-    by-equality h m common c found r e f =
-        like r
-        (f ∙ ap (equalityOf n) (e ∙ ap (λ (b : Bool). foundOf b (valuesOf L left) (valuesOf L right)) c ∙ found-so (asksCommon n) (valuesOf L left) (valuesOf L right))
-        ∙ equality-inside n (valuesOf L left) (valuesOf L right) (truth (someFound (asksCommon n) (valuesOf L left) (valuesOf L right)))
-        ∙ ap (ofPresent (valuesOf L left) (valuesOf L right)) (sym (like-equality n (left .kind) (valuesOf L left) (valuesOf L right) h m)))
+    module _ (wanted : Bool) (found r : Truth) (e : truthOf found ≡ foundOf wanted (valuesOf L left) (valuesOf L right)) (f : truthOf r ≡ toldBy n (truthOf found)) where
+      by-found : likeValues n (left .kind) (valuesOf L left) (valuesOf L right) ≡ toldBy n (truth (someFound wanted (valuesOf L left) (valuesOf L right)))
+          → Compared L n left right r
+      by-found d =
+          like r
+          (f ∙ ap (toldBy n) (e ∙ found-so wanted (valuesOf L left) (valuesOf L right))
+          ∙ told-inside n (valuesOf L left) (valuesOf L right) (truth (someFound wanted (valuesOf L left) (valuesOf L right)))
+          ∙ ap (ofPresent (valuesOf L left) (valuesOf L right)) (sym d))
+
+      for-wanted : {w : Bool} → wanted ≡ w → toldBy n (truth (someFound w (valuesOf L left) (valuesOf L right))) ≡ toldBy n (truth (someFound wanted (valuesOf L left) (valuesOf L right)))
+      for-wanted g = ap (λ (w : Bool). toldBy n (truth (someFound w (valuesOf L left) (valuesOf L right)))) (sym g)
+
+      pub by-equality : 16 ≤ n → n < 19 → wanted ≡ true → Compared L n left right r
+      by-equality h m g = by-found (like-equality n (left .kind) (valuesOf L left) (valuesOf L right) h (omega arith) ∙ for-wanted g)
+
+      pub by-subset : n ≡ 19 → wanted ≡ false → Compared L n left right r
+      by-subset h g = by-found (like-subset n (left .kind) (valuesOf L left) (valuesOf L right) (omega arith) (omega arith) ∙ for-wanted g)
 
     pub by-order : 20 ≤ n → n ≤ 23 → (r : Truth)
         → truthOf r ≡ (if eqb (left .kind) 1 then ofPresent (valuesOf L left) (valuesOf L right) (truth (orderOf n (valuesOf L left) (valuesOf L right))) else model.UNDEF)

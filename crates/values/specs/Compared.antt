@@ -90,12 +90,9 @@ ofPresent left right t = if (not (isEmpty left) && not (isEmpty right)) then t e
 
 -- ---- the operators by their numbers
 
--- `=` and IN ask for a common value, SUBSET that no left value is missing on the right, `!=` and SUBSET are negations
-abbrev pub asksCommon : ℕ → Bool
-asksCommon n = not (eqb n 19)
-
-abbrev pub equalityOf : ℕ → model.Truth → model.Truth
-equalityOf n t = if leb n 17 then t else NOT t
+-- `=` and IN tell what was found, `!=` and SUBSET the negation
+abbrev pub toldBy : ℕ → model.Truth → model.Truth
+toldBy n t = if leb n 17 then t else NOT t
 
 -- an order, by the least and the greatest: `<` and `<=` have the low side on the left
 abbrev pub orEqual : ℕ → Bool
@@ -104,12 +101,14 @@ orEqual n = eqb n 21 || eqb n 23
 unfoldable pub orderOf : ℕ → List Words → List Words → Bool
 orderOf n left right = if leb n 21 then isBelow (orEqual n) left right else isBelow (orEqual n) right left
 
--- the operator of a number, on present values of one type; UNDEF where the number is no operator's
+-- the operator of a number, on present values of one type: `=`, IN and `!=` ask for a common value, SUBSET for a left value that is not among the
+-- right; UNDEF where the number is no operator's
 unfoldable pub likeValues : ℕ → ℕ → List Words → List Words → model.Truth
 likeValues n kind left right =
-    if (leb 16 n && leb n 19) then equalityOf n (truth (someFound (asksCommon n) left right))
+    if (leb 16 n && leb n 18) then toldBy n (truth (someFound true left right))
+    else (if (leb 19 n && leb n 19) then toldBy n (truth (someFound false left right))
     else (if (leb 20 n && leb n 23) then (if eqb kind 1 then truth (orderOf n left right) else model.UNDEF)
-    else model.UNDEF)
+    else model.UNDEF))
 
 unfoldable pub compareValues : ℕ → ℕ → ℕ → List Words → List Words → model.Truth
 compareValues n kind kind′ left right = if eqb kind kind′ then ofPresent left right (likeValues n kind left right) else model.UNDEF

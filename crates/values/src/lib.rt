@@ -13,7 +13,7 @@ ghost use Rattle.text.specs.Values.{words, sameWords};
 ghost use Rattle.values.specs.Operands.{lent, First, wordsFrom, entryWords, entriesFrom, intAt, strAt, constantsFrom, valuesFrom, firstOf};
 ghost use Rattle.values.specs.Operands.{valuesOf, Finds, nothing, operand, noValues, rowType, attributeOperand};
 ghost use Rattle.values.specs.Compared.{further, worst, extremeFrom, isBelow, isFalse, atEnd, amongOf, asked, foundOf, ofPresent};
-ghost use Rattle.values.specs.Compared.{asksCommon, equalityOf, orEqual, orderOf, Compared, Lone};
+ghost use Rattle.values.specs.Compared.{toldBy, orEqual, orderOf, Compared, Lone};
 use codes::AT_LEAST;
 use codes::AT_MOST;
 use codes::BOOL;
@@ -23,6 +23,7 @@ use codes::INT;
 use codes::LESS;
 use codes::STR;
 use codes::SUBSET;
+use codes::UNEQUAL;
 use text::Words;
 use truth::Truth;
 
@@ -472,16 +473,9 @@ fn order(
     below(code, pairs, session, entries, low, high, or_equal(operator))
 }
 
-// Whether an operator asks for a left value among the right: all but SUBSET, which asks for one that is not.
-fn asks_common(operator: u8) -> bool
-    ensures { λ r. ⌜ r ≡ asksCommon operator ⌝ }
-{
-    operator != SUBSET
-}
-
-// `=` and IN, or with `!=` and SUBSET the negation.
-fn equality(operator: u8, found: Truth) -> Truth
-    ensures { λ r. ⌜ truthOf r ≡ equalityOf operator (truthOf found) ⌝ }
+// `=` and IN tell what was found, `!=` and SUBSET the negation.
+fn told(operator: u8, found: Truth) -> Truth
+    ensures { λ r. ⌜ truthOf r ≡ toldBy operator (truthOf found) ⌝ }
 {
     if operator <= IN {
         return found;
@@ -505,17 +499,18 @@ pub fn compare(
     if left.kind != right.kind {
         return Truth::Undef;
     }
-    match operator {
-        EQUAL..=SUBSET => {
-            let common = asks_common(operator);
-            equality(
-                operator,
-                some_found(code, pairs, session, entries, left, right, common),
-            )
+    let wanted = match operator {
+        EQUAL..=UNEQUAL => true,
+        SUBSET..=SUBSET => false,
+        LESS..=AT_LEAST => {
+            return order(code, pairs, session, entries, operator, left, right);
         }
-        LESS..=AT_LEAST => order(code, pairs, session, entries, operator, left, right),
-        _ => Truth::Undef,
-    }
+        _ => {
+            return Truth::Undef;
+        }
+    };
+    let found = some_found(code, pairs, session, entries, left, right, wanted);
+    told(operator, found)
 }
 
 // What an attribute that stands alone comes to: whether TRUE is among its values.

@@ -1,64 +1,65 @@
+-- `values::compare` meets its contract: a way for each range of operator numbers. Assumes nothing.
 use Prim.Native.Nat.{_<_}
 use native.Mathlib.Omega.{arith}
-use mathlib.Core.Logic.{inl, inr}
+use mathlib.Core.Logic.{inl, inr, ⊎-elim}
 use borrow.Author.Needs.{needs}
 use Rattle.values.specs.Operands.{lent}
-use Rattle.values.proofs.Compared.{types-differ, by-equality, by-order, by-nothing}
+use Rattle.values.proofs.Compared.{types-differ, by-equality, by-subset, by-order, by-nothing}
 use Rattle.values.proofs.compare.Statement.{statement}
 use Rattle.values.proofs.compare.Tie as tie
-use Rattle.values.proofs.compare.Reads as reads
-use Rattle.values.proofs.compare.Lts as lts
-use Rattle.values.proofs.asks_common.Reads as asks-common-reads
-use Rattle.values.proofs.equality.Reads as equality-reads
-use Rattle.values.proofs.order.Reads as order-reads
-use Rattle.values.proofs.some_found.Reads as some-found-reads
 
--- src/lib.rt:506:9
 returns : tie.Need-returns
-returns c = types-differ (lent (c .before .before .before .before .before .before .args .code .now) (c .before .before .before .before .before .before .args .pairs .now) (c .before .before .before .before .before .before .args .session .now) (c .before .before .before .before .before .before .args .entries .now)) (c .before .before .before .before .before .before .args .operator) (c .before .before .before .before .before .before .args .left) (c .before .before .before .before .before .before .args .right) (c .if1 .taken)
+returns c =
+    let a = c .before .before .before .before .before .before .args in
+    types-differ (lent (a .code .now) (a .pairs .now) (a .session .now) (a .entries .now)) (a .operator) (a .left) (a .right) (c .if1 .taken)
 
--- src/lib.rt:510:17
-asks-common-requires : tie.Need-asks-common-requires
-asks-common-requires c κs = search needs
-
--- src/lib.rt:513:17
-some-found-requires : tie.Need-some-found-requires
-some-found-requires c κs = search needs
-
--- src/lib.rt:511:13
-equality-requires : tie.Need-equality-requires
-equality-requires c κs = search needs
-
--- src/lib.rt:516:28
 order-requires : tie.Need-order-requires
 order-requires c κs = search needs
 
--- src/lib.rt:493:1
 returns-2 : tie.Need-returns-2
-returns-2 c = by-equality (lent (c .before .before .before .before .before .before .before .before .before .before .before .args .code .now) (c .before .before .before .before .before .before .before .before .before .before .before .args .pairs .now) (c .before .before .before .before .before .before .before .before .before .before .before .args .session .now) (c .before .before .before .before .before .before .before .before .before .before .before .args .entries .now)) (c .before .before .before .before .before .before .before .before .before .before .before .args .operator) (c .before .before .before .before .before .before .before .before .before .before .before .args .left) (c .before .before .before .before .before .before .before .before .before .before .before .args .right) (c .before .before .before .before .before .if1 .left) (omega arith) (omega arith) (c .before .before .asks-common .result) (c .before .before .asks-common .ensures) (c .before .some-found .result) (c .equality .result) (c .before .some-found .ensures) (c .equality .ensures)
+returns-2 c =
+    let a = c .before .before .before .before .before .before .before .before .before .before .before .args in
+    by-order (lent (a .code .now) (a .pairs .now) (a .session .now) (a .entries .now)) (a .operator) (a .left) (a .right) (c .before .before .before .before .before .if1 .left) (omega arith) (omega arith) (c .order .result) (c .order .ensures)
 
--- src/lib.rt:493:1
 returns-3 : tie.Need-returns-3
-returns-3 c = by-order (lent (c .before .before .before .before .before .before .before .before .before .before .args .code .now) (c .before .before .before .before .before .before .before .before .before .before .args .pairs .now) (c .before .before .before .before .before .before .before .before .before .before .args .session .now) (c .before .before .before .before .before .before .before .before .before .before .args .entries .now)) (c .before .before .before .before .before .before .before .before .before .before .args .operator) (c .before .before .before .before .before .before .before .before .before .before .args .left) (c .before .before .before .before .before .before .before .before .before .before .args .right) (c .before .before .before .before .if1 .left) (omega arith) (omega arith) (c .order .result) (c .order .ensures)
+returns-3 c =
+    let a = c .before .before .before .before .before .before .before .before .args in
+    let h : a .operator < 16 = omega arith in
+    by-nothing (lent (a .code .now) (a .pairs .now) (a .session .now) (a .entries .now)) (a .operator) (a .left) (a .right) (c .before .before .if1 .left) (inl h)
 
--- src/lib.rt:493:1
 returns-4 : tie.Need-returns-4
-returns-4 c = let h : c .before .before .before .before .before .before .before .args .operator < 16 = omega arith in by-nothing (lent (c .before .before .before .before .before .before .before .args .code .now) (c .before .before .before .before .before .before .before .args .pairs .now) (c .before .before .before .before .before .before .before .args .session .now) (c .before .before .before .before .before .before .before .args .entries .now)) (c .before .before .before .before .before .before .before .args .operator) (c .before .before .before .before .before .before .before .args .left) (c .before .before .before .before .before .before .before .args .right) (c .before .if1 .left) (inl h)
+returns-4 c =
+    let a = c .before .before .before .before .before .before .before .before .before .before .args in
+    let h : 23 < a .operator = omega arith in
+    by-nothing (lent (a .code .now) (a .pairs .now) (a .session .now) (a .entries .now)) (a .operator) (a .left) (a .right) (c .before .before .before .before .if1 .left) (inr h)
 
--- src/lib.rt:493:1
+some-found-requires : tie.Need-some-found-requires
+some-found-requires c κs = search needs
+
+told-requires : tie.Need-told-requires
+told-requires c κs = search needs
+
 returns-5 : tie.Need-returns-5
-returns-5 c = let h : 23 < c .before .before .before .before .before .before .before .before .before .args .operator = omega arith in by-nothing (lent (c .before .before .before .before .before .before .before .before .before .args .code .now) (c .before .before .before .before .before .before .before .before .before .args .pairs .now) (c .before .before .before .before .before .before .before .before .before .args .session .now) (c .before .before .before .before .before .before .before .before .before .args .entries .now)) (c .before .before .before .before .before .before .before .before .before .args .operator) (c .before .before .before .before .before .before .before .before .before .args .left) (c .before .before .before .before .before .before .before .before .before .args .right) (c .before .before .before .if1 .left) (inr h)
+returns-5 c =
+    let a = c .before .before .before .before .before .before .before .before .before .args in
+    let lend = lent (a .code .now) (a .pairs .now) (a .session .now) (a .entries .now) in
+    let same = c .before .before .before .if1 .left in
+    let found = c .before .some-found in
+    let way = c .before .before .match in
+    ⊎-elim
+    (λ x. by-subset lend (a .operator) (a .left) (a .right) same (way .wanted) (found .result) (c .told .result) (found .ensures) (c .told .ensures) (x .0 .keys1) (x .1))
+    (λ x. by-equality lend (a .operator) (a .left) (a .right) same (way .wanted) (found .result) (c .told .result) (found .ensures) (c .told .ensures) (x .1 .left) (x .2 .taken) (x .3))
+    (way .came)
 
 pub compare-spec : {M : Type 1} → statement M
 compare-spec =
     tie.close
     (tie.spec
     returns
-    asks-common-requires
-    some-found-requires
-    equality-requires
     order-requires
     returns-2
     returns-3
     returns-4
+    some-found-requires
+    told-requires
     returns-5)
