@@ -18,7 +18,7 @@ use std::io::Read;
 use std::process::ExitCode;
 use std::time::Duration;
 
-const USAGE: &str = "usage: compare rows | compare table < ROWS | compare names | compare alone NAME SECONDS";
+const USAGE: &str = "usage: compare rows | compare table < ROWS | compare answers | compare names | compare alone NAME SECONDS";
 
 fn main() -> ExitCode {
     let arguments: Vec<String> = std::env::args().skip(1).collect();
@@ -26,6 +26,7 @@ fn main() -> ExitCode {
     let done = match words.as_slice() {
         ["rows"] => rows(),
         ["table"] => table(),
+        ["answers"] => answers(),
         ["names"] => names(),
         ["alone", name, seconds] => alone(name, seconds),
         _ => Err(USAGE.to_string()),
@@ -55,6 +56,16 @@ fn rows() -> Result<(), String> {
         let times = measure::measure(case).map_err(|error| format!("{}: {error}", full_name(case)))?;
         println!("{}", table::line(case, &times));
     }
+    Ok(())
+}
+
+/// Has both engines answer every case, and times none.
+fn answers() -> Result<(), String> {
+    let cases = cases();
+    for case in &cases {
+        measure::agree(case).map_err(|error| format!("{}: {error}", full_name(case)))?;
+    }
+    println!("{} cases, answers and tables are the same", cases.len());
     Ok(())
 }
 

@@ -27,6 +27,11 @@ pub fn measure(case: &Case) -> Result<Times, String> {
     Ok(times)
 }
 
+/// Checks the case on both engines alone.
+pub fn agree(case: &Case) -> Result<(), String> {
+    Engines::start(case)?.agree(case)
+}
+
 fn time(case: &Case, engines: &mut Engines) -> Times {
     let Engines { ours, reference } = engines;
     let file = case.file.as_slice();
