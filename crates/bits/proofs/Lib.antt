@@ -1,5 +1,5 @@
 pub mod Bits
 pub mod Sets
 pub mod Counts
-pub mod Words
+pub mod WordsOfSets
 pub mod Walks

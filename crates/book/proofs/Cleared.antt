@@ -11,13 +11,13 @@ use Rattle.model.specs.Bytes.{Bytes, bytes}
 use Rattle.model.specs.Declarations.{Declarations, Sort, holderNumbersOf, groups, sortOf}
 use Rattle.model.specs.Ties.{noTies}
 use Rattle.model.specs.State.{empty}
-use Rattle.model.proofs.Words.{none-is-some}
+use Rattle.model.proofs.WordTables.{none-is-some}
 use Rattle.text.specs.Packing.{packedOf}
 use Rattle.bits.specs.Bits.{bit}
 use Rattle.bits.proofs.Bits.{bit-none}
 use Rattle.rows.specs.Rows.{pairOf, masked}
 use Rattle.index.specs.Index.{Indexed, Rows}
-use Rattle.index.proofs.Sections.{empty-indexed}
+use Rattle.index.proofs.IndexParts.{empty-indexed}
 use Rattle.index.proofs.Listed.{indexed-same}
 use Rattle.ties.proofs.Editing.{keeps-none}
 use Rattle.book.specs.Sections as section

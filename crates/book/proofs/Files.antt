@@ -18,7 +18,7 @@ use Rattle.model.specs.State.{State, empty}
 use Rattle.model.specs.Refusals.{tooLong, wrongFirstLine, lineRefusal}
 use Rattle.model.specs.Load.{Loaded, refusedAt, stepped, keyOf, readOn, otherLines, load}
 use Rattle.model.specs.Standing.{Standing}
-use Rattle.model.proofs.Words.{none-is-some, same-eq}
+use Rattle.model.proofs.WordTables.{none-is-some, same-eq}
 use Rattle.model.proofs.Options.{is-there, bind-some, fields}
 use Rattle.model.proofs.Cuts.{lacks, behind-parts, behind-joined, cut-joined, cut-parts}
 use Rattle.model.proofs.Loads.{firstLine}
@@ -26,9 +26,9 @@ use Rattle.model.proofs.Ledger.{accepted-line}
 use Rattle.model.proofs.Standing.{empty-standing, after-standing}
 use Rattle.codes.specs.Codes.{coded, keyCode}
 use Rattle.text.specs.Parts.{FirstAt}
-use Rattle.text.proofs.Places.{tail-part, done}
+use Rattle.text.proofs.LoopPlaces.{tail-part, done}
 use Rattle.book.specs.Held.{Holds}
-use Rattle.book.specs.Reading.{LineRead, FirstLine, LoadedAs, OthersRead}
+use Rattle.book.specs.LineSteps.{LineRead, FirstLine, LoadedAs, OthersRead}
 
 -- ---- the first line
 

@@ -18,7 +18,7 @@ use Rattle.model.specs.Names.{isName}
 use Rattle.model.specs.Atoms.{sameAtom}
 use Rattle.model.specs.Declarations.{Declarations, Attribute, Pair, Holder, isNamed, attributeNumber, operationNumber, pairNumber, holderNumber}
 use Rattle.model.specs.Standing.{WellDeclared}
-use Rattle.model.proofs.Words.{same-eq, same-refl}
+use Rattle.model.proofs.WordTables.{same-eq, same-refl}
 use Rattle.model.proofs.Options.{parts, both}
 use Rattle.model.proofs.Lists.{same-truth, all-parts, nth-lt, lt-nth}
 use Rattle.model.proofs.Declared.{same-sym, named-eq, eq-named, pair-declared}
@@ -29,9 +29,9 @@ use Rattle.text.specs.Values.{atomWords}
 use Rattle.text.proofs.Packing.{name-same, name-solid, solid-range}
 use Rattle.text.proofs.Values.{words-injective, same-atom-eq, same-atom-refl}
 use Rattle.rows.specs.Rows.{numberOr}
-use Rattle.rows.proofs.Places.{place-none, place-first}
-use Rattle.rows.proofs.Attributes.{number-injective}
-use Rattle.index.specs.Index.{Row, Finds, rowsOf}
+use Rattle.rows.proofs.FirstPlaces.{place-none, place-first}
+use Rattle.rows.proofs.RowsOfAttributes.{number-injective}
+use Rattle.index.specs.Index.{Row, FindsRow, rowsOf}
 use Rattle.index.proofs.Listed.{place-found, indexed-same}
 use Rattle.book.specs.Held.{OperationRows, pairRow, holderRow}
 use Rattle.book.specs.Finding.{HolderFound, OperationFound, PairFound, operationNamed}
@@ -59,7 +59,7 @@ name-word (x ∷ n) e z = let (one, rest) = all-parts solid x n (name-solid (x �
 abbrev rowOfHolder : Holder → Row
 rowOfHolder h = (1, packedOf (h .name) .low, packedOf (h .name) .high, 0)
 
-module _ (section : List ℕ) (low high r : ℕ) (finds : Finds section (1, low, high, 0) r) where
+module _ (section : List ℕ) (low high r : ℕ) (finds : FindsRow section (1, low, high, 0) r) where
   pub holder-found : HolderFound section low high r
   unfolding holderNumber
   holder-found D well ix n name words =
@@ -101,7 +101,7 @@ same-words u v e f g =
     ∙ ap (λ (x : ℕ). record { first = v .first; second = x; third = u .third }) f
     ∙ ap (λ (x : ℕ). record { first = v .first; second = v .second; third = x }) g
 
-module _ (section : List ℕ) (k : ℕ) (words : Words) (r : ℕ) (finds : Finds section (k + 1, words .first, words .second, words .third) r) where
+module _ (section : List ℕ) (k : ℕ) (words : Words) (r : ℕ) (finds : FindsRow section (k + 1, words .first, words .second, words .third) r) where
   pub pair-found : PairFound section k words r
   unfolding pairNumber
   pair-found D well ix s n b a number attribute type written atom =

@@ -26,7 +26,7 @@ use Rattle.book.specs.Finding.{HolderFound}
 use Rattle.book.specs.Declaring.{holderPut, groupPut, HolderStep}
 use Rattle.book.proofs.Writes.{section-word}
 use Rattle.book.proofs.Holders.{holder-held, group-held}
-use Rattle.book.proofs.Tests.{refused-10, refused-11, accepted, number-there, number-nowhere, place-few}
+use Rattle.book.proofs.DeclarationTests.{refused-10, refused-11, accepted, number-there, number-nowhere, place-few}
 
 -- groups are told by the numbers of their sorts
 group-code : (s : Sort) → isSort s Sort.admin ≡ false → isGroup s ≡ ltb (sortCode s) (sortCode Sort.user)

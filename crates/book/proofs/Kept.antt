@@ -13,7 +13,7 @@ use Rattle.model.specs.Tokens.{Token, name, int, str, truth, operator, mark}
 use Rattle.model.specs.Declarations.{Declarations, Rule, attributeNumber, operationNumber, sortOf, groups}
 use Rattle.model.specs.Refusals.{unknownName}
 use Rattle.model.specs.Standing.{Each}
-use Rattle.model.proofs.Words.{none-is-some}
+use Rattle.model.proofs.WordTables.{none-is-some}
 use Rattle.model.proofs.Options.{is-there, no-result}
 use Rattle.model.proofs.Lists.{nth-append}
 use Rattle.model.proofs.Growing.{nth-last}

@@ -3,10 +3,10 @@ pub mod Sections
 pub mod Finding
 pub mod Writes
 pub mod Kept
-pub mod Tests
+pub mod DeclarationTests
 pub mod Operations
-pub mod Attributes
-pub mod Pairs
+pub mod AttributeLines
+pub mod PairLines
 pub mod PairSteps
 pub mod Holders
 pub mod HolderSteps
@@ -17,7 +17,7 @@ pub mod TieEditing
 pub mod TieSorts
 pub mod TieNaming
 pub mod TieLines
-pub mod Rules
+pub mod RuleLines
 pub mod LineReading
-pub mod Lines
+pub mod FileLines
 pub mod Files

@@ -17,7 +17,7 @@ use Rattle.model.specs.State.{State, tieOf, after}
 use Rattle.model.specs.Refusals.{_if_, first, overLimits, undeclared, wrongSort, stands, repeated, full, circular, tieCloses}
 use Rattle.model.specs.Load.{stepped}
 use Rattle.model.specs.Standing.{Standing, TieFits}
-use Rattle.model.proofs.Words.{false-is-true}
+use Rattle.model.proofs.WordTables.{false-is-true}
 use Rattle.model.proofs.Options.{parts, bind-some}
 use Rattle.model.proofs.Fields.{nameField}
 use Rattle.model.proofs.Lines.{fields-said}
@@ -34,7 +34,7 @@ use Rattle.book.specs.Held.{Holds}
 use Rattle.book.specs.Steps.{laterTests, Steps}
 use Rattle.book.specs.Declaring.{AttributeStep, OperationStep, PairStep, HolderStep}
 use Rattle.book.specs.TieSteps.{tieTests, TieOfLine, TwoNamed, ValueNamed, TieStands, TieCloses, TiePut}
-use Rattle.book.specs.Reading.{fieldsRefusal, FieldsRead, KeyRead, HolderRead, isTie, TieAdded}
+use Rattle.book.specs.LineSteps.{fieldsRefusal, FieldsRead, KeyRead, HolderRead, isTie, TieAdded}
 
 -- ---- fields that read, and fields that do not
 

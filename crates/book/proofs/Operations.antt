@@ -30,7 +30,7 @@ use Rattle.book.specs.Finding.{OperationFound}
 use Rattle.book.specs.Declaring.{operationPlace, operationPut, OperationStep}
 use Rattle.book.proofs.Writes.{apart, word-beside, word-inside, section-long, section-word, word-at}
 use Rattle.book.proofs.Kept.{length-more, NamesKnown, rules-kept, sorts-kept, groups-kept, attributes-kept}
-use Rattle.book.proofs.Tests.{refused-10, refused-11, accepted, number-there, number-nowhere, place-few}
+use Rattle.book.proofs.DeclarationTests.{refused-10, refused-11, accepted, number-there, number-nowhere, place-few}
 
 -- what is written, by sections
 module _ (book : List ℕ) (k low high : ℕ) (few : k < operationLimit) where

@@ -32,9 +32,9 @@ use Rattle.book.specs.Held.{Holds}
 use Rattle.book.specs.Finding.{PairFound}
 use Rattle.book.specs.Declaring.{PairPut, PairStep}
 use Rattle.book.proofs.Writes.{section-word}
-use Rattle.book.proofs.Attributes.{block-source}
-use Rattle.book.proofs.Pairs.{pair-held}
-use Rattle.book.proofs.Tests.{refused-8, refused-9, refused-10, refused-11, accepted, number-there, number-nowhere, number-is, place-few}
+use Rattle.book.proofs.AttributeLines.{block-source}
+use Rattle.book.proofs.PairLines.{pair-held}
+use Rattle.book.proofs.DeclarationTests.{refused-8, refused-9, refused-10, refused-11, accepted, number-there, number-nowhere, number-is, place-few}
 
 same-type-code : (t u : AtomType) → sameType t u ≡ eqb (typeCode t) (typeCode u)
 same-type-code AtomType.int AtomType.int = refl

@@ -15,7 +15,7 @@ use Rattle.model.specs.Declarations.{Sort, sortOf, isGroup, parentSort, groupSo
 use Rattle.model.specs.Ties.{Tie, up}
 use Rattle.model.specs.State.{State}
 use Rattle.model.specs.Standing.{TieFits, Standing}
-use Rattle.model.proofs.Words.{none-is-some}
+use Rattle.model.proofs.WordTables.{none-is-some}
 use Rattle.model.proofs.Options.{bind-some, both}
 use Rattle.model.proofs.Lists.{nth-lt, same-truth}
 use Rattle.model.proofs.Standing.{holders-fit}

@@ -11,7 +11,7 @@ use Rattle.model.specs.Ties.{Tie, added}
 use Rattle.model.specs.State.{State, tieOf, tied, after}
 use Rattle.model.specs.Refusals.{_if_, first, undeclared, wrongSort}
 use Rattle.model.specs.Standing.{Standing, TieFits}
-use Rattle.model.proofs.Words.{none-is-some}
+use Rattle.model.proofs.WordTables.{none-is-some}
 use Rattle.model.proofs.Standing.{tie-fits}
 use Rattle.book.specs.Held.{Holds}
 use Rattle.book.specs.TieSteps.{TieOfLine}

@@ -18,7 +18,7 @@ use Rattle.model.specs.Ties.{Tie}
 use Rattle.model.specs.State.{State, tieOf}
 use Rattle.model.specs.Refusals.{_if_, first, fits}
 use Rattle.model.specs.Standing.{Standing}
-use Rattle.model.proofs.Words.{none-is-some}
+use Rattle.model.proofs.WordTables.{none-is-some}
 use Rattle.model.proofs.Options.{parts, no-result}
 use Rattle.model.proofs.Lists.{nth-lt, place-nth}
 use Rattle.model.proofs.Declared.{named-eq, same-atom-eq, pair-declared}
@@ -49,19 +49,19 @@ number-gone n r (some k) few e l = absurd (omega (arith, few k refl))
 
 -- ---- the tests of a tie line, whose tie is f and whose sorts are wrong or not
 
-abbrev pub Answers : Option Tie → Bool → ℕ → Tie → Type 0
-Answers f w r t = (r ≡ first (8 if isNone f ∷ 9 if w ∷ [])) × (r ≡ 0 → f ≡ some t)
+abbrev pub TieTested : Option Tie → Bool → ℕ → Tie → Type 0
+TieTested f w r t = (r ≡ first (8 if isNone f ∷ 9 if w ∷ [])) × (r ≡ 0 → f ≡ some t)
 
-pub undeclared-8 : (f : Option Tie) (w : Bool) (r : ℕ) (t : Tie) → f ≡ none → r ≡ 8 → Answers f w r t
+pub undeclared-8 : (f : Option Tie) (w : Bool) (r : ℕ) (t : Tie) → f ≡ none → r ≡ 8 → TieTested f w r t
 undeclared-8 none w r t n e = (e, λ z. absurd (omega arith))
 undeclared-8 (some v) w r t n e = none-is-some (sym n)
 
-pub wrong-9 : (f : Option Tie) (w : Bool) (r : ℕ) (t v : Tie) → f ≡ some v → w ≡ true → r ≡ 9 → Answers f w r t
+pub wrong-9 : (f : Option Tie) (w : Bool) (r : ℕ) (t v : Tie) → f ≡ some v → w ≡ true → r ≡ 9 → TieTested f w r t
 wrong-9 none w r t v y x e = none-is-some y
 wrong-9 (some u) true r t v y x e = (e, λ z. absurd (omega arith))
 wrong-9 (some u) false r t v y x e = absurd (true≢false (sym x))
 
-pub accepted-0 : (f : Option Tie) (w : Bool) (t : Tie) → f ≡ some t → w ≡ false → Answers f w 0 t
+pub accepted-0 : (f : Option Tie) (w : Bool) (t : Tie) → f ≡ some t → w ≡ false → TieTested f w 0 t
 accepted-0 none w t y x = none-is-some y
 accepted-0 (some u) true t y x = absurd (true≢false x)
 accepted-0 (some u) false t y x = (refl, λ z. y)
@@ -126,7 +126,7 @@ module _ (D : Declarations) (above : Sort → Option Sort) (tie : ℕ → ℕ �
   twoFound = holderNumber D c >>= λ h. holderNumber D g >>= λ u. some (tie h u)
 
   abbrev pub TwoAnswers : ℕ → Tie → Type 0
-  TwoAnswers r t = Answers twoFound (not (fits above D c g)) r t
+  TwoAnswers r t = TieTested twoFound (not (fits above D c g)) r t
 
   pub lower-gone : (r : ℕ) (t : Tie) → holderNumber D c ≡ none → r ≡ 8 → TwoAnswers r t
   lower-gone r t n e =
@@ -213,7 +213,7 @@ module _ {S : State} {book : List ℕ} {code : Bytes} (standing : Standing S) (h
 -- ---- value lines
 
 module _ (D : Declarations) (h n : Bytes) (a : Atom) where
-  pub holder-gone : (r : ℕ) (t : Tie) → holderNumber D h ≡ none → r ≡ 8 → Answers (tieOf D (Line.value h n a)) false r t
+  pub holder-gone : (r : ℕ) (t : Tie) → holderNumber D h ≡ none → r ≡ 8 → TieTested (tieOf D (Line.value h n a)) false r t
   holder-gone r t gone e =
       undeclared-8 (tieOf D (Line.value h n a)) false r t
       (ap (λ (o : Option ℕ). o >>= λ k. sortOf D k >>= λ sort. pairNumber D (sourceFor sort) n a >>= λ p. some (Tie.value k p)) gone) e
@@ -224,9 +224,9 @@ module _ (D : Declarations) (h n : Bytes) (a : Atom) where
         ap (λ (o : Option ℕ). o >>= λ k. sortOf D k >>= λ sort. pairNumber D (sourceFor sort) n a >>= λ p. some (Tie.value k p)) number
         ∙ ap (λ (o : Option Sort). o >>= λ sort. pairNumber D (sourceFor sort) n a >>= λ p. some (Tie.value k p)) sort-is
 
-    pub pair-gone : (r : ℕ) (t : Tie) → pairNumber D (sourceFor sort) n a ≡ none → r ≡ 8 → Answers (tieOf D (Line.value h n a)) false r t
+    pub pair-gone : (r : ℕ) (t : Tie) → pairNumber D (sourceFor sort) n a ≡ none → r ≡ 8 → TieTested (tieOf D (Line.value h n a)) false r t
     pair-gone r t gone e =
         undeclared-8 (tieOf D (Line.value h n a)) false r t (tie-by ∙ ap (λ (o : Option ℕ). o >>= λ p. some (Tie.value k p)) gone) e
 
-    pub pair-there : (p : ℕ) → pairNumber D (sourceFor sort) n a ≡ some p → Answers (tieOf D (Line.value h n a)) false 0 (Tie.value k p)
+    pub pair-there : (p : ℕ) → pairNumber D (sourceFor sort) n a ≡ some p → TieTested (tieOf D (Line.value h n a)) false 0 (Tie.value k p)
     pair-there p e = accepted-0 (tieOf D (Line.value h n a)) false (Tie.value k p) (tie-by ∙ ap (λ (o : Option ℕ). o >>= λ p. some (Tie.value k p)) e) refl

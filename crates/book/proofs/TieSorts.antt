@@ -8,7 +8,7 @@ use borrow.Author.Tests.{ne-eqb}
 use Rattle.model.specs.Notation.{_is_}
 use Rattle.model.specs.Keys.{Key}
 use Rattle.model.specs.Declarations.{Sort, sortWord, isSort, parentSort, groupSort, sourceFor}
-use Rattle.model.proofs.Words.{same-refl, same-word, reads-sort, sorts}
+use Rattle.model.proofs.WordTables.{same-refl, same-word, reads-sort, sorts}
 use Rattle.codes.specs.Codes.{coded, keyCode, sourceCode}
 use Rattle.codes.proofs.Codes.{withCode, code-injective}
 use Rattle.book.specs.Held.{sortCode}

@@ -4,4 +4,4 @@ pub mod Finding
 pub mod Steps
 pub mod Declaring
 pub mod TieSteps
-pub mod Reading
+pub mod LineSteps

@@ -7,7 +7,7 @@ ghost use Rattle.model.specs.Limits.{fileBytes};
 ghost use Rattle.model.specs.Refusals.{wrongFirstLine};
 ghost use Rattle.model.specs.Load.{load};
 ghost use Rattle.book.specs.Sections.{bookWords, ruleBytes};
-ghost use Rattle.book.specs.Reading.{FirstLine, OthersRead, LoadedAs};
+ghost use Rattle.book.specs.LineSteps.{FirstLine, OthersRead, LoadedAs};
 
 const FILE_BYTES: usize = 32768;
 

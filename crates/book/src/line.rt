@@ -10,7 +10,7 @@ ghost use Rattle.codes.specs.Codes.{keyCode};
 ghost use Rattle.text.specs.Parts.{FirstAt};
 ghost use Rattle.book.specs.Sections.{bookWords, ruleBytes};
 ghost use Rattle.book.specs.TieSteps.{tieBy};
-ghost use Rattle.book.specs.Reading.{KeyRead, TieAdded, TwoRead, HolderRead, KeyFields, FieldsOf, LineRead};
+ghost use Rattle.book.specs.LineSteps.{KeyRead, TieAdded, TwoRead, HolderRead, KeyFields, FieldsOf, LineRead};
 use crate::tie::Tie;
 use codes::KEY_ATOM;
 use codes::KEY_ATTR;

@@ -7,7 +7,7 @@ ghost use Rattle.model.specs.Lines.{readRule};
 ghost use Rattle.model.specs.Refusals.{first};
 ghost use Rattle.book.specs.Sections as section;
 ghost use Rattle.book.specs.Sections.{bookWords, ruleBytes};
-ghost use Rattle.book.specs.Reading.{FieldsRead, RuleJudged, ruleTests, rulePut};
+ghost use Rattle.book.specs.LineSteps.{FieldsRead, RuleJudged, ruleTests, rulePut};
 use crate::ATTRIBUTES_AT;
 use crate::OPERATIONS_AT;
 use crate::PAIRS_AT;

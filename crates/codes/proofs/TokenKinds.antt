@@ -8,7 +8,7 @@ use Rattle.model.specs.Bytes.{Bytes}
 use Rattle.model.specs.Attributes.{Source}
 use Rattle.model.specs.Truth.{Truth, FALSE, UNDEF, TRUE}
 use Rattle.model.specs.Tokens.{Token, name, int, str, truth, operator, mark, Operator, Mark, equal, unequal, less, atMost, greater, atLeast, IN, SUBSET, AND, OR, NOT, lparen, rparen, lbrace, rbrace, comma}
-use Rattle.model.proofs.Words.{none-is-some}
+use Rattle.model.proofs.WordTables.{none-is-some}
 use Rattle.codes.specs.Codes.{kindOf, truthCode, operatorCode, markCode, endCode, badCode}
 use Rattle.codes.proofs.Codes.{withCode}
 

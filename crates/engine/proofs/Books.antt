@@ -17,7 +17,7 @@ use Rattle.model.specs.Table.{table, effectiveSet}
 use Rattle.model.specs.Standing.{Standing, WellDeclared}
 use Rattle.model.proofs.Options.{no-result}
 use Rattle.model.proofs.Lists.{nth-lt}
-use Rattle.model.proofs.Bits.{bitOf}
+use Rattle.model.proofs.BitsOfWords.{bitOf}
 use Rattle.model.proofs.Table.{table-length}
 use Rattle.model.proofs.TableLayout.{pairIn, standing-layout}
 use Rattle.bits.specs.Bits.{odd, bit, holds}

@@ -16,7 +16,7 @@ use Rattle.model.specs.Lines.{Line, framed, readFields, readLine}
 use Rattle.model.specs.Ties.{Tie}
 use Rattle.model.specs.State.{State, tieOf}
 use Rattle.model.specs.Refusals.{Test, _if_, first, unframed, otherKey, malformed, undeclared, wrongSort}
-use Rattle.model.proofs.Words.{false-is-true}
+use Rattle.model.proofs.WordTables.{false-is-true}
 use Rattle.model.proofs.Options.{parts}
 use Rattle.model.proofs.Lines.{fields-said}
 use Rattle.codes.specs.Codes.{keyCode}

@@ -21,7 +21,7 @@ use Rattle.model.specs.Edits as model
 use Rattle.model.specs.Edits.{editedTie}
 use Rattle.model.specs.Ledger as ledger
 use Rattle.model.specs.Ledger.{Call, Answer, Step, step, withTable, withoutTable, tableAfter, Outcome, outcome}
-use Rattle.model.proofs.Words.{same-refl}
+use Rattle.model.proofs.WordTables.{same-refl}
 use Rattle.model.proofs.Lists.{count-below}
 use Rattle.model.proofs.Ledger.{edit-standing, edit-elsewhere, refused-edit}
 use Rattle.model.proofs.Accepted.{edit-declared}
@@ -29,7 +29,7 @@ use Rattle.model.proofs.TableLayout.{setIn, words-same, set-in-table}
 use Rattle.model.proofs.Changes.{setChanged, changes-exact}
 use Rattle.model.specs.Standing.{Standing}
 use Rattle.engine.specs.Calls.{Gives, Together}
-use Rattle.engine.specs.Runs.{Lent, Does, Leads}
+use Rattle.engine.specs.Runs.{Memory, Does, Leads}
 use Rattle.engine.proofs.Runs.{does-gives, leads-together}
 
 -- the answer and the words after an edit, on a table of another length and on one of 1,024 words
@@ -75,7 +75,7 @@ count-exact {S} standing line = go (eqb (editRefusal S line) 0) (edit-standing S
     go false after = sym (none-changed (table (S .declared) (S .ties)))
 
 -- an edit, after a list of calls that begins with a load and leads to the ledger's state S
-module _ {calls : List Call} {S : State} {before after : Lent} {line : Bytes} {number changed : ℕ}
+module _ {calls : List Call} {S : State} {before after : Memory} {line : Bytes} {number changed : ℕ}
     (run : Leads calls S before) (does : Does (Call.edit line) before (ledger.edited number changed) after) where
   together : Together S (before .book) (before .code) (before .words)
   together = leads-together run

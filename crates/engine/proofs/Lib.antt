@@ -1,10 +1,10 @@
 -- Laws about requests.
 pub mod Blocks
-pub mod Entries
-pub mod Numbers
-pub mod Rules
+pub mod EntryTests
+pub mod BlockNumbers
+pub mod RuleValues
 pub mod Books
-pub mod Answers
+pub mod RequestAnswers
 -- Laws about edits.
 pub mod EditLines
 pub mod EditTies

@@ -22,7 +22,7 @@ use Rattle.model.proofs.Ledger.{load-standing}
 use Rattle.book.specs.Sections as section
 use Rattle.book.specs.Sections.{part, bookWords}
 use Rattle.book.specs.Held.{Holds}
-use Rattle.book.specs.Reading.{LoadedAs}
+use Rattle.book.specs.LineSteps.{LoadedAs}
 use Rattle.book.proofs.TieSections.{part-size}
 use Rattle.engine.specs.Calls.{Gives, Loads}
 use Rattle.engine.specs.LoadSteps.{TableFilled}

@@ -17,7 +17,7 @@ use Rattle.engine.specs.declared.Decision.{Decision}
 use Rattle.engine.specs.Decisions.{decisionOf, Decides}
 use Rattle.engine.specs.Calls.{Together, Loads}
 use Rattle.engine.specs.EditSteps.{EditCall}
-use Rattle.engine.specs.Runs.{Lent, Does, loads, edits, decides, AnswersRequest}
+use Rattle.engine.specs.Runs.{Memory, Does, loads, edits, decides, AnswersRequest}
 use Rattle.model.specs.Ledger.{loaded, edited, decided}
 
 -- a table that is not refused has 1,024 words, and one that is has not
@@ -36,16 +36,16 @@ request-answered {block} {code} {book} {words} {r} promise S together = go (wron
     go false e k = ap decided (sym (promise .decision S (together .standing) (together .holds) (sym k)))
 
 -- `load`: its contract is what a run asks
-pub file-loaded : {file : Bytes} {number line : ℕ} (before after : Lent) → Loads file (before .words) number line (after .words) (after .book) (after .code)
+pub file-loaded : {file : Bytes} {number line : ℕ} (before after : Memory) → Loads file (before .words) number line (after .words) (after .book) (after .code)
     → Does (Call.load file) before (loaded number line) after
 file-loaded before after promise = loads promise
 
 -- `edit`, which is lent no rules
-pub line-edited : {line : Bytes} {number count : ℕ} (before after : Lent) → EditCall line (before .book) (before .words) number count (after .words) (after .book)
+pub line-edited : {line : Bytes} {number count : ℕ} (before after : Memory) → EditCall line (before .book) (before .words) number count (after .words) (after .book)
     → after .code ≡ before .code → Does (Call.edit line) before (edited number count) after
 line-edited before after promise same = edits (promise .edits) same
 
 -- `decide`, which writes nothing
-pub request-decided : {block : Bytes} {r : Decision} (lent : Lent) → Decides block (lent .book) (lent .code) (lent .words) r
+pub request-decided : {block : Bytes} {r : Decision} (lent : Memory) → Decides block (lent .book) (lent .code) (lent .words) r
     → Does (Call.request block) lent (decided (decisionOf r)) lent
 request-decided lent promise = decides (request-answered promise)

@@ -17,20 +17,20 @@ use Rattle.model.proofs.Standing.{empty-standing}
 use Rattle.model.proofs.Ledger.{step-standing, request-keeps}
 use Rattle.book.specs.Held.{Holds}
 use Rattle.engine.specs.Calls.{Gives, Together, Loads, Edits}
-use Rattle.engine.specs.Runs.{Lent, Does, loads, edits, decides, Seen, Run, end, next, Leads, from-load, from-there}
+use Rattle.engine.specs.Runs.{Memory, Does, loads, edits, decides, CallSeen, Run, end, next, Leads, from-load, from-there}
 
 -- what is compared after a call: "the answer with all it carries …, and all 1,024 words"
-pub record Compared : Type 0 where
+pub record AfterCall : Type 0 where
   pub answer : Answer
   pub words : List ℕ
 
-abbrev pub compared : Answer → List ℕ → Compared
+abbrev pub compared : Answer → List ℕ → AfterCall
 compared a w = record { answer = a; words = w }
 
-abbrev pub seen : Seen → Compared
+abbrev pub seen : CallSeen → AfterCall
 seen s = compared (s .answer) (s .left .words)
 
-abbrev pub posted : Outcome → Compared
+abbrev pub posted : Outcome → AfterCall
 posted o = compared (o .answer) (o .words)
 
 -- a load reads no state
@@ -64,7 +64,7 @@ kept-after words S = go (wrongTable (length words)) refl
     go false e = either (wrongTable (length kept))
 
 -- what a call leaves goes with the ledger's state
-pub together-after : (S : State) (words : List ℕ) (c : Call) {a : Answer} {after : Lent} → Standing S
+pub together-after : (S : State) (words : List ℕ) (c : Call) {a : Answer} {after : Memory} → Standing S
     → Gives (outcome S words c) a (after .words) (after .book) (after .code) → Together (outcome S words c .state) (after .book) (after .code) (after .words)
 together-after S words c {a} {after} standing g = record {
   standing = step-standing (length words) c standing;
@@ -73,7 +73,7 @@ together-after S words c {a} {after} standing g = record {
 }
 
 -- a request leaves state and words
-request-given : (S : State) (lent : Lent) (block : Bytes) {a : Answer} → Together S (lent .book) (lent .code) (lent .words)
+request-given : (S : State) (lent : Memory) (block : Bytes) {a : Answer} → Together S (lent .book) (lent .code) (lent .words)
     → outcome S (lent .words) (Call.request block) .answer ≡ a → Gives (outcome S (lent .words) (Call.request block)) a (lent .words) (lent .book) (lent .code)
 request-given S lent block together e =
     let same = request-keeps (length (lent .words)) S block in
@@ -84,7 +84,7 @@ request-given S lent block together e =
     }
 
 -- each call, from a state on, is the ledger's
-pub does-gives : {S : State} {c : Call} {before after : Lent} {a : Answer} → Together S (before .book) (before .code) (before .words) → Does c before a after
+pub does-gives : {S : State} {c : Call} {before after : Memory} {a : Answer} → Together S (before .book) (before .code) (before .words) → Does c before a after
     → Gives (outcome S (before .words) c) a (after .words) (after .book) (after .code)
 does-gives {S} {before = before} {after = after} {a = a} together (loads {file = file} g) =
     subst (λ (o : Outcome). Gives o a (after .words) (after .book) (after .code)) (sym (load-anew S (before .words) file)) g
@@ -92,7 +92,7 @@ does-gives {S} {before = before} {after = after} {a = a} together (edits {line =
     subst (λ (code : Bytes). Gives (outcome S (before .words) (Call.edit line)) a (after .words) (after .book) code) (sym same) (promise S (before .code) together)
 does-gives {S} together (decides {block = block} {lent = lent} promise) = request-given S lent block together (promise S together)
 
-one-more : (S : State) (c : Call) {a : Answer} {after : Lent} (words : List ℕ) (calls : List Call) (rest : List Compared)
+one-more : (S : State) (c : Call) {a : Answer} {after : Memory} (words : List ℕ) (calls : List Call) (rest : List AfterCall)
     → Gives (outcome S words c) a (after .words) (after .book) (after .code) → rest ≡ map posted (ledgerFrom (outcome S words c .state) (after .words) calls)
     → compared a (after .words) ∷ rest ≡ map posted (ledgerFrom S words (c ∷ calls))
 one-more S c words calls rest g e =
@@ -100,7 +100,7 @@ one-more S c words calls rest g e =
     (e ∙ ap (λ (w : List ℕ). map posted (ledgerFrom (outcome S words c .state) w calls)) (sym (g .table)))
 
 -- from a state on, what is seen is what the ledger posts
-pub run-posts : (S : State) (lent : Lent) (calls : List Call) (results : List Seen) → Together S (lent .book) (lent .code) (lent .words)
+pub run-posts : (S : State) (lent : Memory) (calls : List Call) (results : List CallSeen) → Together S (lent .book) (lent .code) (lent .words)
     → Run lent calls results → map seen results ≡ map posted (ledgerFrom S (lent .words) calls)
 run-posts S lent [] results together end = refl
 run-posts S lent (c ∷ calls) results together (next {after = after} {rest = rest} does run) =
@@ -110,7 +110,7 @@ run-posts S lent (c ∷ calls) results together (next {after = after} {rest = re
 
 -- "For every list of loads, edits and requests that begins with a load, in any order, refused ones among them, whatever the table held at first: each
 -- answer and every stored set after it equal those of the ledger"
-pub runs-are-the-ledger : (lent : Lent) (file : Bytes) (calls : List Call) (results : List Seen) → Run lent (Call.load file ∷ calls) results
+pub runs-are-the-ledger : (lent : Memory) (file : Bytes) (calls : List Call) (results : List CallSeen) → Run lent (Call.load file ∷ calls) results
     → map seen results ≡ map posted (ledger (lent .words) file calls)
 unfolding ledger
 runs-are-the-ledger lent file calls results (next {after = after} {rest = rest} (loads g) run) =
@@ -118,7 +118,7 @@ runs-are-the-ledger lent file calls results (next {after = after} {rest = rest} 
     (run-posts (outcome empty (lent .words) (Call.load file) .state) after calls rest (together-after empty (lent .words) (Call.load file) empty-standing g) run)
 
 -- what is lent to a call of a run goes with the ledger's state
-pub leads-together : {calls : List Call} {S : State} {lent : Lent} → Leads calls S lent → Together S (lent .book) (lent .code) (lent .words)
+pub leads-together : {calls : List Call} {S : State} {lent : Memory} → Leads calls S lent → Together S (lent .book) (lent .code) (lent .words)
 leads-together (from-load {file = file} {before = before} (loads g)) = together-after empty (before .words) (Call.load file) empty-standing g
 leads-together (from-there {S = S} {c = c} {before = before} run does) =
     let t = leads-together run in

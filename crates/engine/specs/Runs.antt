@@ -10,7 +10,7 @@ use Rattle.model.specs.Ledger.{Call, load, edit, request, Answer, loaded, edite
 use Rattle.engine.specs.Calls.{Together, Loads, Edits}
 
 -- what is lent to a call: the book's words, its rules' bytes, and the table
-pub record Lent : Type 0 where
+pub record Memory : Type 0 where
   pub book : List ℕ
   pub code : Bytes
   pub words : List ℕ
@@ -20,27 +20,27 @@ abbrev pub AnswersRequest : Bytes → List ℕ → Bytes → List ℕ → Decisi
 AnswersRequest block book code words d = (S : State) → Together S book code words → outcome S words (request block) .answer ≡ decided d
 
 -- what each call does by its promise: from what it was lent to its answer and what it leaves. A request writes nothing, an edit no rule
-pub data Does : Call → Lent → Answer → Lent → Type 0 where
-  loads : {file : Bytes} {number line : ℕ} {before after : Lent} → Loads file (before .words) number line (after .words) (after .book) (after .code)
+pub data Does : Call → Memory → Answer → Memory → Type 0 where
+  loads : {file : Bytes} {number line : ℕ} {before after : Memory} → Loads file (before .words) number line (after .words) (after .book) (after .code)
       → Does (load file) before (loaded number line) after
-  edits : {line : Bytes} {number count : ℕ} {before after : Lent} → Edits line (before .book) (before .words) number count (after .words) (after .book)
+  edits : {line : Bytes} {number count : ℕ} {before after : Memory} → Edits line (before .book) (before .words) number count (after .words) (after .book)
       → after .code ≡ before .code → Does (edit line) before (edited number count) after
-  decides : {block : Bytes} {d : Decision} {lent : Lent} → AnswersRequest block (lent .book) (lent .code) (lent .words) d
+  decides : {block : Bytes} {d : Decision} {lent : Memory} → AnswersRequest block (lent .book) (lent .code) (lent .words) d
       → Does (request block) lent (decided d) lent
 
 -- what is seen after a call
-pub record Seen : Type 0 where
+pub record CallSeen : Type 0 where
   pub answer : Answer
-  pub left : Lent
+  pub left : Memory
 
 -- calls one after another
-pub data Run : Lent → List Call → List Seen → Type 0 where
-  end : {lent : Lent} → Run lent [] []
-  next : {before after : Lent} {c : Call} {calls : List Call} {a : Answer} {rest : List Seen} → Does c before a after → Run after calls rest
+pub data Run : Memory → List Call → List CallSeen → Type 0 where
+  end : {lent : Memory} → Run lent [] []
+  next : {before after : Memory} {c : Call} {calls : List Call} {a : Answer} {rest : List CallSeen} → Does c before a after → Run after calls rest
       → Run before (c ∷ calls) (record { answer = a; left = after } ∷ rest)
 
 -- where a list of calls that begins with a load has led: the ledger's state, and what is lent to the next call
-pub data Leads : List Call → State → Lent → Type 0 where
-  from-load : {file : Bytes} {a : Answer} {before after : Lent} → Does (load file) before a after → Leads (load file ∷ []) (outcome empty (before .words) (load file) .state) after
-  from-there : {calls : List Call} {S : State} {c : Call} {a : Answer} {before after : Lent} → Leads calls S before → Does c before a after
+pub data Leads : List Call → State → Memory → Type 0 where
+  from-load : {file : Bytes} {a : Answer} {before after : Memory} → Does (load file) before a after → Leads (load file ∷ []) (outcome empty (before .words) (load file) .state) after
+  from-there : {calls : List Call} {S : State} {c : Call} {a : Answer} {before after : Memory} → Leads calls S before → Does c before a after
       → Leads (calls ++ c ∷ []) (outcome S (before .words) c .state) after

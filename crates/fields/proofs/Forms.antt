@@ -15,7 +15,7 @@ use Rattle.model.specs.Lines.{attr, atom, value, readAttr, readPair, readTwo, r
 use Rattle.codes.specs.Codes.{coded, sourceCode, typeCode}
 use Rattle.text.specs.declared.Packed.{Packed}
 use Rattle.text.specs.declared.Value.{Value}
-use Rattle.text.specs.Codes.{sourceNumber, typeNumber}
+use Rattle.text.specs.ReadCodes.{sourceNumber, typeNumber}
 use Rattle.text.specs.Packing.{packedOf}
 use Rattle.text.specs.Values.{codedAtom, atomValue}
 use Rattle.fields.specs.declared.AttrFields.{AttrFields}
@@ -25,7 +25,7 @@ use Rattle.fields.specs.declared.TwoFields.{TwoFields}
 use Rattle.fields.specs.declared.ValueFields.{ValueFields}
 use Rattle.fields.specs.declared.RuleFields.{RuleFields}
 use Rattle.fields.specs.Forms.{codedName, nameNumbers, wordsIn, noAttr, AttrTold, noPair, PairTold, noTwo, TwoTold, noValue, ValueTold, noRule, RuleTold}
-use Rattle.fields.proofs.Readers.{refused, given, source-known, type-known, name-known, atom-known, unknown, found, three-refused, three-given}
+use Rattle.fields.proofs.FieldReaders.{refused, given, source-known, type-known, name-known, atom-known, unknown, found, three-refused, three-given}
 
 -- SRC,NAME,TYPE
 module _ (f : Bytes) where

@@ -12,13 +12,13 @@ use Rattle.model.specs.Bytes.{Bytes, content}
 use Rattle.model.specs.Keys.{Key, readKey}
 use Rattle.model.specs.Lines.{readKeyed, framed}
 use Rattle.codes.specs.Codes.{coded, keyCode}
-use Rattle.text.specs.Codes.{keyNumber}
+use Rattle.text.specs.ReadCodes.{keyNumber}
 use Rattle.text.specs.Parts.{FirstAt}
-use Rattle.text.proofs.Places.{next, done}
+use Rattle.text.proofs.LoopPlaces.{next, done}
 use Rattle.fields.specs.declared.Framed.{Framed}
 use Rattle.fields.specs.Frames.{noFrame, FrameTold, Signed}
-use Rattle.fields.proofs.Readers.{refused, given}
-use Rattle.fields.proofs.Places.{behind-front}
+use Rattle.fields.proofs.FieldReaders.{refused, given}
+use Rattle.fields.proofs.CutParts.{behind-front}
 
 -- the key before the first `=`
 module _ (s : Bytes) (d : ℕ) (first : FirstAt 61 s d) where

@@ -1,4 +1,4 @@
-pub mod Readers
-pub mod Places
+pub mod FieldReaders
+pub mod CutParts
 pub mod Frames
 pub mod Forms

@@ -1,3 +1,3 @@
 -- Laws about the calls for hosts.
-pub mod Packing
+pub mod NumberParts
 pub mod Passes

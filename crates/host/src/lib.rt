@@ -6,7 +6,7 @@ ghost use Rattle.model.specs.Host.{hostCall, hostTable};
 ghost use Rattle.engine.specs.Decisions.{numberAndValuesOf};
 ghost use Rattle.engine.specs.Calls.{Loads};
 ghost use Rattle.engine.specs.EditSteps.{EditCall};
-ghost use Rattle.host.specs.Answers.{high, carried, Packs, RequestNumber};
+ghost use Rattle.host.specs.AnswerNumbers.{high, carried, Packs, RequestNumber};
 use engine::Decision;
 
 // "0 permit, 64 deny, 65 undefined, else the refusal."

@@ -11,9 +11,9 @@ use lib.Dec.{eqb}
 use lib.ListN.{length, getD, set, length-set}
 use lib.Seq.{getD-set-same, getD-set-other}
 use borrow.Author.Tests.{eqb-true, eqb-false, eq-eqb, ne-eqb}
-use Rattle.model.proofs.Words.{none-is-some}
+use Rattle.model.proofs.WordTables.{none-is-some}
 use Rattle.index.specs.Index.{chains, rowsIn, nextPlace, rowPlace, Row, hashOf, Rows, InChain, Greatest, Written, Indexed, withRow, putRow, added, Added}
-use Rattle.index.proofs.Chains.{hash-below, there-below, rows-of, chain-as}
+use Rattle.index.proofs.ChainWalks.{hash-below, there-below, rows-of, chain-as}
 
 -- what the code writes is the section with the row
 pub adds : (s : List ℕ) {t : List ℕ} (k n h : ℕ) (w : Row) → h ≡ hashOf w → n ≡ rowsIn (length s)

@@ -1,4 +1,4 @@
-pub mod Chains
+pub mod ChainWalks
 pub mod Adding
-pub mod Sections
+pub mod IndexParts
 pub mod Listed

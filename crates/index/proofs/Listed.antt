@@ -11,12 +11,12 @@ use lib.Dec.{eqb, ltb}
 use lib.ListN.{length}
 use borrow.Author.Tests.{lt-ltb, le-ltb, eqb-true, eqb-false}
 use Rattle.model.specs.Notation.{_>>=_, nth, place, onlyIf}
-use Rattle.model.proofs.Words.{false-is-true, none-is-some}
+use Rattle.model.proofs.WordTables.{false-is-true, none-is-some}
 use Rattle.model.proofs.Options.{bind-some, no-result}
 use Rattle.model.proofs.Lists.{nth-lt, nth-append, place-nth}
 use Rattle.model.proofs.Growing.{nth-last, place-nowhere}
 use Rattle.index.specs.Index.{Row, Rows, Greatest, Indexed, Found, rowsOf, withRow}
-use Rattle.index.proofs.Chains.{chain-as}
+use Rattle.index.proofs.ChainWalks.{chain-as}
 
 -- the index of some rows is that of the same rows told otherwise
 module _ (rows rows′ : Rows) (same : (k : ℕ) → rows k ≡ rows′ k) where

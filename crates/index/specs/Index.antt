@@ -79,7 +79,7 @@ pub record Found (rows : Rows) (n : ℕ) (w : Row) (r : ℕ) : Type 0 where
   pub nowhere : r ≡ n → (k : ℕ) → rows k ≡ some w → ⊥
 
 -- what `find` answers on any words, and on an index
-pub record Finds (s : List ℕ) (w : Row) (r : ℕ) : Type 0 where
+pub record FindsRow (s : List ℕ) (w : Row) (r : ℕ) : Type 0 where
   pub within : r ≤ rowsIn (length s)
   pub exact : (n : ℕ) (rows : Rows) → Indexed s n rows → Found rows n w r
 

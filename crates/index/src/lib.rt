@@ -4,7 +4,7 @@
 ghost use mathlib.Core.Path.{_≡_};
 ghost use Prim.Native.Nat.{_+_, _<_, _≤_};
 ghost use lib.ListN.{length};
-ghost use Rattle.index.specs.Index.{chains, rowsIn, hashOf, isAt, linkOf, Finds, putRow, Added};
+ghost use Rattle.index.specs.Index.{chains, rowsIn, hashOf, isAt, linkOf, FindsRow, putRow, Added};
 
 const CHAINS: usize = 256;
 
@@ -51,7 +51,7 @@ fn is_at(section: &[u64], place: usize, a: u64, b: u64, c: u64, d: u64) -> bool
 // The number of the row with these words; the number of rows where there is none. On any words it ends: the numbers of the walk fall.
 pub fn find(section: &[u64], a: u64, b: u64, c: u64, d: u64) -> usize
     requires { ⌜ chains ≤ length (now section) ⌝ }
-    ensures { λ r. ⌜ Finds (now (section .entry)) (a, b, c, d) r ⌝ }
+    ensures { λ r. ⌜ FindsRow (now (section .entry)) (a, b, c, d) r ⌝ }
 {
     let n = rows_in(section.len());
     let rows = CHAINS + n;

@@ -21,7 +21,7 @@ use Rattle.model.specs.State.{State, tieOf, declare, after}
 use Rattle.model.specs.Refusals.{unframed, malformed, undeclared, stands, repeated, otherKey, notStanding, plusLine, minusLine, signedLine, lineRefusal, editRefusal}
 use Rattle.model.specs.Load.{keyOf}
 use Rattle.model.specs.Edits.{edit, editedTie, editedTies, accepting, refusing}
-use Rattle.model.proofs.Words.{false-is-true, none-is-some}
+use Rattle.model.proofs.WordTables.{false-is-true, none-is-some}
 use Rattle.model.proofs.Options.{bound, is-there, some-not}
 use Rattle.model.proofs.Lists.{true-or-false, or-left}
 use Rattle.model.proofs.Cuts.{cut-bound}

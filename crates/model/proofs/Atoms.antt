@@ -12,7 +12,7 @@ use Rattle.model.specs.Notation.{_>>=_, isEmpty, all}
 use Rattle.model.specs.Limits.{largestInt, textBytes}
 use Rattle.model.specs.Bytes.{Bytes, bytes, newline, behind, oneOf}
 use Rattle.model.specs.Atoms.{Atom, int, str, bool, readInt, decimal, textByte, isText, quoted, readStr, boolWord, readBool, readAtom, writeAtom, isAtom}
-use Rattle.model.proofs.Words.{false-is-true, one-of-word, bools, reads-bool}
+use Rattle.model.proofs.WordTables.{false-is-true, one-of-word, bools, reads-bool}
 use Rattle.model.proofs.Options.{parts, bound, condition, choice, no-result}
 use Rattle.model.proofs.Lists.{all-parts, all-append, empty}
 use Rattle.model.proofs.Cuts.{isnt, lacks, passing-lacks, cut-joined, cut-bound, behind-parts}

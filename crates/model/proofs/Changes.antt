@@ -15,7 +15,7 @@ use Rattle.model.specs.Declarations.{Declarations, Holder, holderOf, hol
 use Rattle.model.specs.Ties.{Ties}
 use Rattle.model.specs.Table.{wordsOf, effectiveSet, storedSet, table}
 use Rattle.model.specs.Edits.{differs, changes}
-use Rattle.model.proofs.Words.{false-is-true, same-eq, same-refl}
+use Rattle.model.proofs.WordTables.{false-is-true, same-eq, same-refl}
 use Rattle.model.proofs.Lists.{true-or-false, same-truth, any-in, in-any, in-below, below-in, nth-lt, lt-nth, count-ext, count-below}
 use Rattle.model.specs.Standing.{Standing}
 use Rattle.model.proofs.Standing as laws

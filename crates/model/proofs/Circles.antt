@@ -16,7 +16,7 @@ use Rattle.model.specs.Ties.{Tie, Ties, sameTie, added, up, Below, one, 
 use Rattle.model.specs.State.{State, tieOf}
 use Rattle.model.specs.Refusals.{wrongSort, stands, repeated, tieCloses, circular, plusLine, lineRefusal}
 use Rattle.model.specs.Edits.{edit}
-use Rattle.model.proofs.Words.{false-is-true}
+use Rattle.model.proofs.WordTables.{false-is-true}
 use Rattle.model.proofs.Options.{is-some}
 use Rattle.model.proofs.Lists.{true-or-false, or-cases, or-left, or-right}
 use Rattle.model.proofs.Ties.{tie-refl}

@@ -13,7 +13,7 @@ use Rattle.model.specs.Grammar.{Var, constants, Policy, compare, not, an
 use Rattle.model.specs.Grammar.{Items, last, next, IsVar, a-constant, a-set, an-attribute}
 use Rattle.model.specs.Grammar.{Part, simple, term, conjunction, policy, Obeys, a-truth, a-lone, in-parentheses, plain, negation, comparison, one-term, joined-by-and, one-conjunction, joined-by-or}
 use Rattle.model.specs.Grammar.{behindMark, readOperator, readItems, readSet, readVar, Reading, readComparison, readSimple, readTerm, joinedBy, policyWithin, conjunctionWithin, termWithin, readPolicy}
-use Rattle.model.proofs.Words.{none-is-some, same-refl}
+use Rattle.model.proofs.WordTables.{none-is-some, same-refl}
 
 -- a set's constants, up to its last brace
 reads-items : {us : List Token} {l : List Atom} → Items us l → (rest : List Token) → readItems (us ++ Token.mark Mark.rbrace ∷ rest) ≡ some (l, rest)

@@ -9,7 +9,7 @@ use borrow.Author.Tests.{eqb-true, eq-eqb, not-true}
 use lib.Dec.{eqb}
 use Rattle.model.specs.Notation.{_>>=_, isEmpty, all}
 use Rattle.model.specs.Bytes.{Bytes, newline, cut, behind, content}
-use Rattle.model.proofs.Words.{false-is-true, none-is-some}
+use Rattle.model.proofs.WordTables.{false-is-true, none-is-some}
 use Rattle.model.proofs.Options.{fields, bound, condition}
 use Rattle.model.proofs.Lists.{all-parts, all-cons, all-by, empty}
 

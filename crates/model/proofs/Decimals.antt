@@ -13,7 +13,7 @@ use Rattle.model.specs.Notation.{all}
 use Rattle.model.specs.Limits.{largestInt}
 use Rattle.model.specs.Bytes.{Bytes, isByte, inRange}
 use Rattle.model.specs.Atoms.{numberFrom, noLeadingZero, readInt, digitsWithin, decimal}
-use Rattle.model.proofs.Words.{false-is-true}
+use Rattle.model.proofs.WordTables.{false-is-true}
 use Rattle.model.proofs.Options.{parts, both, condition}
 use Rattle.model.proofs.Lists.{all-parts, all-cons, all-append}
 

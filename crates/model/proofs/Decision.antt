@@ -20,7 +20,7 @@ use Rattle.model.specs.Block.{Block, readBlock}
 use Rattle.model.specs.Session.{readBy}
 use Rattle.model.specs.Refusals.{badBlock, requestTests, requestRefusal}
 use Rattle.model.specs.Decision.{Decision, permit, deny, undefined, refused, verdicts, isTrue, isUndef, withoutPermit, decided, judged, decide}
-use Rattle.model.proofs.Words.{false-is-true, same-eq, same-refl}
+use Rattle.model.proofs.WordTables.{false-is-true, same-eq, same-refl}
 use Rattle.model.proofs.Options.{is-some}
 use Rattle.model.proofs.Lists.{_∈_, any-in, in-any, in-filter, filter-in, in-map, map-in, in-numbered, numbered-in}
 use Rattle.model.proofs.Tests.{none-holds}

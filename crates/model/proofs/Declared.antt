@@ -22,7 +22,7 @@ use Rattle.model.specs.Declarations.{Declarations, Attribute, Pair, Hold
 use Rattle.model.specs.State.{State, declare, withAttribute, withOperation, withPair, withHolder, withRule}
 use Rattle.model.specs.Refusals.{unknownName, overLimits, undeclared, wrongSort, repeated, full}
 use Rattle.model.specs.Standing.{Each, Unique, PairStands, PairsStand, HoldersStand, RuleStands, RulesStand, WellDeclared}
-use Rattle.model.proofs.Words.{none-is-some, false-is-true, same-eq, same-refl, same-word, reads-source, reads-type, bools, reads-bool}
+use Rattle.model.proofs.WordTables.{none-is-some, false-is-true, same-eq, same-refl, same-word, reads-source, reads-type, bools, reads-bool}
 use Rattle.model.proofs.Options.{parts, both, bind-some, some-not}
 use Rattle.model.proofs.Lists.{true-or-false, or-none, nth-append, nth-lt, place-nth, length-below, count-last}
 use Rattle.model.proofs.Growing.{nth-last, each-more, unique-more, place-append, place-nowhere, any-none-by, one-longer}

@@ -9,7 +9,7 @@ use Rattle.model.specs.Bytes.{Bytes, cutAt, oneOf}
 use Rattle.model.specs.Names.{isName, readName}
 use Rattle.model.specs.Attributes.{Source, sourceWord, sources, AtomType, typeWord, types}
 use Rattle.model.specs.Atoms.{Atom, isAtom, writeAtom, readAtom}
-use Rattle.model.proofs.Words.{one-of-word, reads-source, reads-type}
+use Rattle.model.proofs.WordTables.{one-of-word, reads-source, reads-type}
 use Rattle.model.proofs.Options.{bound}
 use Rattle.model.proofs.Cuts.{lacks, cut-joined, cut-bound}
 use Rattle.model.proofs.Names.{name-exact}

@@ -18,7 +18,7 @@ use Rattle.model.specs.Declarations.{Declarations, Sort, Holder, isGroup
 use Rattle.model.specs.State.{State, declare, withHolder}
 use Rattle.model.specs.Refusals.{full, lineRefusal}
 use Rattle.model.specs.Standing.{Standing}
-use Rattle.model.proofs.Words.{false-is-true}
+use Rattle.model.proofs.WordTables.{false-is-true}
 use Rattle.model.proofs.Options.{parts, is-some}
 use Rattle.model.proofs.Lists.{true-or-false, or-cases, or-none, length-below, count-last}
 use Rattle.model.proofs.Refusals.{line-met}

@@ -11,7 +11,7 @@ use lib.Dec.{leb}
 use borrow.Author.Tests.{leb-false}
 use Rattle.model.specs.Notation.{if_then_else_, _>>=_, any, place, nth}
 use Rattle.model.specs.Standing.{Each, Unique}
-use Rattle.model.proofs.Words.{none-is-some}
+use Rattle.model.proofs.WordTables.{none-is-some}
 
 module _ {A : Type 0} where
   -- the element of a number is an old one or the last

@@ -10,7 +10,7 @@ pub mod CornersOfEdits
 pub mod CornersOfRequests
 pub mod CornersOfGate
 -- Laws of words, partial results and lists.
-pub mod Words
+pub mod WordTables
 pub mod Options
 pub mod Results
 pub mod Lists
@@ -33,7 +33,7 @@ pub mod Ties
 pub mod Chains
 pub mod Effective
 pub mod Table
-pub mod Bits
+pub mod BitsOfWords
 pub mod TableLayout
 pub mod Changes
 -- Requests: the decision and the rules.

@@ -19,7 +19,7 @@ use Rattle.model.specs.Tokens.{Token, isToken, spelling, tokensOf, Spell
 use Rattle.model.specs.Grammar.{readPolicy}
 use Rattle.model.specs.Declarations.{Sort, sortWord, isSort}
 use Rattle.model.specs.Lines.{Line, readAttr, readOp, readPair, readHolder, readTwo, readValue, readRule, readFields, readKeyed, framed, readLine, writeLine, isLine, Writes}
-use Rattle.model.proofs.Words.{false-is-true, one-of-word, reads-key}
+use Rattle.model.proofs.WordTables.{false-is-true, one-of-word, reads-key}
 use Rattle.model.proofs.Options.{parts, both, fields, bound, condition}
 use Rattle.model.proofs.Lists.{all-parts, all-append, all-cons}
 use Rattle.model.proofs.Cuts.{isnt, lacks, cut-joined, cut-bound, content-exact}

@@ -9,7 +9,7 @@ use native.Mathlib.Omega.{arith}
 use native.Mathlib.Nat.{add-zero, add-suc, suc-add, eq-or-lt-of-le}
 use lib.ListN.{length, length-append}
 use Rattle.model.specs.Notation.{if_then_else_, _>>=_, isEmpty, any, all, filter, count, place, nth, numberedFrom, map, below}
-use Rattle.model.proofs.Words.{false-is-true, none-is-some}
+use Rattle.model.proofs.WordTables.{false-is-true, none-is-some}
 
 -- membership
 infix 40 _∈_

@@ -22,7 +22,7 @@ use Rattle.model.specs.Refusals.{wrongTable, editRefusal}
 use Rattle.model.specs.Edits.{accepting, refusing, edit}
 use Rattle.model.specs.Standing.{Standing, DifferAt}
 use Rattle.model.specs.Ledger.{Call, Outcome, outcome, tableAfter, ledgerFrom, ledger}
-use Rattle.model.proofs.Words.{same-refl}
+use Rattle.model.proofs.WordTables.{same-refl}
 use Rattle.model.proofs.Lists.{_∈_, count-below}
 use Rattle.model.proofs.Ties.{other-tie}
 use Rattle.model.proofs.Chains

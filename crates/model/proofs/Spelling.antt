@@ -17,7 +17,7 @@ use Rattle.model.specs.Attributes.{Source, sourceWord, sources, readSour
 use Rattle.model.specs.Atoms.{isText, decimal, readInt}
 use Rattle.model.specs.Truth.{Truth, truthWord}
 use Rattle.model.specs.Tokens.{Token, name, int, str, truth, operator, mark, Operator, operatorWord, Mark, markWord, isToken, spelling, capitals, signs, Read, wordByte, run, readAttributeName, readWord, readText, readSign, readToken, isWord, isOperator}
-use Rattle.model.proofs.Words.{false-is-true, none-is-some, one-of-word, operators, marks, truths, reads-source, reads-operator, reads-mark, reads-truth}
+use Rattle.model.proofs.WordTables.{false-is-true, none-is-some, one-of-word, operators, marks, truths, reads-source, reads-operator, reads-mark, reads-truth}
 use Rattle.model.proofs.Options.{parts, fields, bound, condition, choice, no-result}
 use Rattle.model.proofs.Lists.{or-cases, or-left, or-right, all-parts, all-cons, all-append, all-by}
 use Rattle.model.proofs.Cuts.{isnt, lacks, passing-lacks, cut-joined, cut-bound, behind-parts}
@@ -261,7 +261,7 @@ token-sound s t rest e = let (j, a, h) = run-parts s in go (run s .0) (run s .1)
         rw (← y, ← z) (b, j ∙ ap (λ (l : Bytes). l ++ r) d, word-whole u r c h)
 
 -- the first byte of a token tells whether it is a word, and whether it is `=`
-pub record Front (t : Token) : Type 0 where
+pub record FirstByte (t : Token) : Type 0 where
   pub first : ℕ
   pub more : Bytes
   pub joined : spelling t ≡ first ∷ more
@@ -273,7 +273,7 @@ pub record Front (t : Token) : Type 0 where
 no-word-byte : (b x : ℕ) → wordByte b ≡ false → wordByte x ≡ true → eqb x b ≡ false
 no-word-byte b x off h = not-true (eqb x b) (all-parts (isnt b) x [] (passing-lacks wordByte b off (x ∷ []) (all-cons wordByte x [] h refl)) .0)
 
-word-front : (t : Token) (w : Bytes) → spelling t ≡ w → 1 ≤ length w → isWord t ≡ true → isOperator Operator.equal t ≡ false → Front t
+word-front : (t : Token) (w : Bytes) → spelling t ≡ w → 1 ≤ length w → isWord t ≡ true → isOperator Operator.equal t ≡ false → FirstByte t
 word-front t [] j l h o = absurd (omega arith)
 word-front t (x ∷ w) j l h o =
     let p = all-parts wordByte x w (rw j at h) .0 in
@@ -291,7 +291,7 @@ abbrev tells : Token → Bytes → Bool
 tells t [] = false
 tells t (x ∷ w) = agree (wordByte x) (isWord t) && agree (isByte "=" x) (isOperator Operator.equal t) && not (isByte " " x)
 
-told-front : (t : Token) (w : Bytes) → spelling t ≡ w → tells t w ≡ true → Front t
+told-front : (t : Token) (w : Bytes) → spelling t ≡ w → tells t w ≡ true → FirstByte t
 told-front t [] j h = false-is-true h
 told-front t (x ∷ w) j h =
     let (p, c) = parts (agree (wordByte x) (isWord t) && agree (isByte "=" x) (isOperator Operator.equal t)) (not (isByte " " x)) h in
@@ -305,7 +305,7 @@ told-front t (x ∷ w) j h =
       no-space = not-true (isByte " " x) c;
     }
 
-pub front-of : (t : Token) → isToken t ≡ true → Front t
+pub front-of : (t : Token) → isToken t ≡ true → FirstByte t
 front-of (name s n) h =
     let l = length-append (sourceWord s) (bytes ".") in
     word-front (name s n) (spelling (name s n)) refl (omega (arith, l, length-append (sourceWord s ++ bytes ".") n)) (name-is-word s n h) refl

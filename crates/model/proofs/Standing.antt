@@ -20,7 +20,7 @@ use Rattle.model.specs.Ties.{Tie, Ties, added, removed, up, Acyclic}
 use Rattle.model.specs.State.{State, empty, tieOf, tied, declare, after}
 use Rattle.model.specs.Refusals.{fits, wrongSort, tieCloses, circular}
 use Rattle.model.specs.Standing.{SortsFit, PairFits, TieFits, WellDeclared, Standing}
-use Rattle.model.proofs.Words.{none-is-some, false-is-true, same-word, reads-source, reads-sort, sorts}
+use Rattle.model.proofs.WordTables.{none-is-some, false-is-true, same-word, reads-source, reads-sort, sorts}
 use Rattle.model.proofs.Options.{parts, bind-some, is-some}
 use Rattle.model.proofs.Lists.{_∈_, or-cases, or-left, or-right, nth-lt, lt-nth, nth-append, place-nth, in-below, below-in, length-below}
 use Rattle.model.proofs.Ties.{added-cases, removed-stood, up-added}

@@ -23,7 +23,7 @@ use Rattle.model.proofs.Lists.{_∈_, same-truth, nth-lt, lt-nth, in-be
 use Rattle.model.proofs.Effective.{effective-has}
 use Rattle.model.specs.Standing.{Standing}
 use Rattle.model.proofs.Standing.{among}
-use Rattle.model.proofs.Bits.{bitOf, bit-none, word-lt, word-same, bit-word, same-bits}
+use Rattle.model.proofs.BitsOfWords.{bitOf, bit-none, word-lt, word-same, bit-word, same-bits}
 use Rattle.model.proofs.Table.{set-length, table-length}
 
 -- "Holder k's stored set is the four words from word 4k"

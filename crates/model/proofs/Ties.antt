@@ -6,7 +6,7 @@ use mathlib.Core.Bool.{true, false, not}
 use lib.Dec.{eqb}
 use borrow.Author.Tests.{eq-eqb, eqb-true}
 use Rattle.model.specs.Ties.{Tie, Ties, edited, sameTie, added, removed, up}
-use Rattle.model.proofs.Words.{false-is-true}
+use Rattle.model.proofs.WordTables.{false-is-true}
 use Rattle.model.proofs.Options.{parts, both}
 use Rattle.model.proofs.Lists.{true-or-false, or-cases, or-left, or-right}
 

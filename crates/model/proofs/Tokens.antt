@@ -14,7 +14,7 @@ use Rattle.model.specs.Tokens.{Token, isToken, spelling, readToken, toke
 use Rattle.model.proofs.Options.{bound, condition}
 use Rattle.model.proofs.Lists.{or-right, all-parts, all-cons, all-append, empty}
 use Rattle.model.proofs.Cuts.{isnt, lacks}
-use Rattle.model.proofs.Spelling.{Front, front-of, angle, whole, spelling-lacks, token-sound, token-complete}
+use Rattle.model.proofs.Spelling.{FirstByte, front-of, angle, whole, spelling-lacks, token-sound, token-complete}
 
 -- what may follow a token is what leaves it whole
 space-whole : (t : Token) (s : Bytes) → whole t (bytes " " ++ s) ≡ true
@@ -26,7 +26,7 @@ space-whole t s = go (isWord t) (angle t)
     go false true = refl
     go false false = refl
 
-touch-whole : (t u : Token) (s : Bytes) → Front u → whole t (spelling u ++ s) ≡ mayTouch t u
+touch-whole : (t u : Token) (s : Bytes) → FirstByte u → whole t (spelling u ++ s) ≡ mayTouch t u
 touch-whole t u s f = ap (λ (w : Bytes). whole t (w ++ s)) (f .joined) ∙ rw (f .in-word, f .equals)
 
 follow-whole : (t : Token) {ts : List Token} {s : Bytes} → Spells ts s → all isToken ts ≡ true → mayFollow t ts s ≡ whole t s
@@ -37,7 +37,7 @@ follow-whole t (Spells.a-token u {ts = us} {s = s} d k) h =
     let f = front-of u (all-parts isToken u us h .0) in
     touching f ∙ sym (touch-whole t u s f)
   where
-    touching : Front u → (mayTouch t u || beginsWithSpace (spelling u ++ s)) ≡ mayTouch t u
+    touching : FirstByte u → (mayTouch t u || beginsWithSpace (spelling u ++ s)) ≡ mayTouch t u
     touching f = ap (λ (w : Bytes). mayTouch t u || beginsWithSpace (w ++ s)) (f .joined) ∙ rw (f .no-space) (go (mayTouch t u))
       where
         go : (b : Bool) → (b || false) ≡ b
@@ -77,7 +77,7 @@ within-complete (Spells.a-token t {ts = ts} {s = s} d k) h n l =
     step x w o e zero l more = absurd (omega arith)
     step x w o e (suc n) l more = rw (o, e, more n (omega (arith, length-append w s)))
 
-    read : Front t → readToken (spelling t ++ s) ≡ some (t, s) → (n : ℕ) → length (spelling t ++ s) ≤ n
+    read : FirstByte t → readToken (spelling t ++ s) ≡ some (t, s) → (n : ℕ) → length (spelling t ++ s) ≤ n
         → ((m : ℕ) → length s ≤ m → tokensWithin m s ≡ some ts) → tokensWithin n (spelling t ++ s) ≡ some (t ∷ ts)
     read f = rw (f .joined) (step (f .first) (f .more) (f .no-space))
 

@@ -52,9 +52,9 @@ pub data Case : Type 1 where
 
 -- each case of a list holds
 infixr 5 _also_
-pub data Holds : List Case → Type 1 where
-  end : Holds []
-  _also_ : {A : Type 0} {x y : A} {rest : List Case} → x ≡ y → Holds rest → Holds ((x gives y) ∷ rest)
+pub data EachHolds : List Case → Type 1 where
+  end : EachHolds []
+  _also_ : {A : Type 0} {x y : A} {rest : List Case} → x ≡ y → EachHolds rest → EachHolds ((x gives y) ∷ rest)
 
 -- the state that the valley file leaves
 abbrev pub valley : State

@@ -15,19 +15,19 @@ use Rattle.model.specs.Standing.{Standing}
 use Rattle.engine.specs.Calls.{Gives}
 use Rattle.engine.specs.declared.Decision.{Decision}
 use Rattle.engine.specs.Decisions.{decisionOf, Decides}
-use Rattle.engine.specs.Runs.{Lent, Does}
+use Rattle.engine.specs.Runs.{Memory, Does}
 use Rattle.engine.proofs.Runs.{does-gives, together-after}
 use Rattle.engine.proofs.Promises.{line-edited, request-decided}
 use Rattle.text.specs.declared.Hex.{Hex}
 use Rattle.text.specs.Hex.{Unhexed, leading}
-use Rattle.office.specs.Command.{Requests, part, Told}
+use Rattle.office.specs.Command.{Requests, part, CommandTold}
 use Rattle.office.specs.declared.command.Command.{Command}
-use Rattle.office.specs.Output.{Put, PutShort}
-use Rattle.office.specs.Answers.{lent, Stands, Prints, EditAnswered, Answered}
+use Rattle.office.specs.Output.{PutUpTo, PutShort}
+use Rattle.office.specs.Answers.{memory, MemoryOf, Prints, EditAnswered, CommandAnswered}
 use Rattle.office.proofs.Commands.{request-read, request-bad}
 
 -- an outcome given: its answer is printed
-pub outcome-prints : (S : State) (c : Call) (words : List ℕ) (after : Lent) (a : Answer) (rest : List (Option Call)) → Standing S
+pub outcome-prints : (S : State) (c : Call) (words : List ℕ) (after : Memory) (a : Answer) (rest : List (Option Call)) → Standing S
     → Gives (outcome S words c) a (after .words) (after .book) (after .code) → length words ≡ tableWords → Prints S (some c ∷ rest) (printed a) rest after
 unfolding output
 outcome-prints S c words after a rest standing g long =
@@ -40,18 +40,18 @@ outcome-prints S c words after a rest standing g long =
     }
 
 -- a call made
-pub call-prints : (S : State) (c : Call) (before after : Lent) (a : Answer) (rest : List (Option Call)) → Does c before a after → Stands S before
+pub call-prints : (S : State) (c : Call) (before after : Memory) (a : Answer) (rest : List (Option Call)) → Does c before a after → MemoryOf S before
     → length (before .words) ≡ tableWords → Prints S (some c ∷ rest) (printed a) rest after
 call-prints S c before after a rest does stands long = outcome-prints S c (before .words) after a rest (stands .standing) (does-gives stands does) long
 
 -- no call: the state stays
-pub bad-prints : (S : State) (l : Lent) (rest : List (Option Call)) → Stands S l → Prints S (none ∷ rest) (bytes "bad=\n") rest l
+pub bad-prints : (S : State) (l : Memory) (rest : List (Option Call)) → MemoryOf S l → Prints S (none ∷ rest) (bytes "bad=\n") rest l
 unfolding output
 bad-prints S l rest stands = record { state = S; stands = stands; prints = refl }
 
 -- by what is known of the line
-pub call-answered : (line : Bytes) (c : Call) (before after : Lent) (a : Answer) {out : Bytes} {at : ℕ} {out′ : Bytes} {r : ℕ} → callOf line ≡ some c
-    → Does c before a after → length (after .words) ≡ length (before .words) → PutShort out at (printed a) out′ r → Answered line before after out at out′ r
+pub call-answered : (line : Bytes) (c : Call) (before after : Memory) (a : Answer) {out : Bytes} {at : ℕ} {out′ : Bytes} {r : ℕ} → callOf line ≡ some c
+    → Does c before a after → length (after .words) ≡ length (before .words) → PutShort out at (printed a) out′ r → CommandAnswered line before after out at out′ r
 call-answered line c before after a e does same p = record {
   text = printed a;
   answer = p;
@@ -60,8 +60,8 @@ call-answered line c before after a e does same p = record {
       subst (λ (o : Option Call). Prints S (o ∷ rest) (printed a) rest after) (sym e) (call-prints S c before after a rest does stands long);
 }
 
-pub bad-answered : (line : Bytes) (l : Lent) {out : Bytes} {at : ℕ} {out′ : Bytes} {r : ℕ} → callOf line ≡ none → PutShort out at (bytes "bad=\n") out′ r
-    → Answered line l l out at out′ r
+pub bad-answered : (line : Bytes) (l : Memory) {out : Bytes} {at : ℕ} {out′ : Bytes} {r : ℕ} → callOf line ≡ none → PutShort out at (bytes "bad=\n") out′ r
+    → CommandAnswered line l l out at out′ r
 bad-answered line l e p = record {
   text = bytes "bad=\n";
   answer = p;
@@ -70,10 +70,10 @@ bad-answered line l e p = record {
 }
 
 pub edit-answered : (line : Bytes) (book words book′ words′ : List ℕ) (code out : Bytes) (at : ℕ) (out′ : Bytes) (r : ℕ) → callOf line ≡ some (Call.edit line)
-    → EditAnswered line book words book′ words′ out at out′ r → Answered line (lent book code words) (lent book′ code words′) out at out′ r
+    → EditAnswered line book words book′ words′ out at out′ r → CommandAnswered line (memory book code words) (memory book′ code words′) out at out′ r
 edit-answered line book words book′ words′ code out at out′ r e p =
-    call-answered line (Call.edit line) (lent book code words) (lent book′ code words′) (edited (p .number) (p .count)) e
-    (line-edited (lent book code words) (lent book′ code words′) (p .call) refl) (p .call .table-long) (p .answer)
+    call-answered line (Call.edit line) (memory book code words) (memory book′ code words′) (edited (p .number) (p .count)) e
+    (line-edited (memory book code words) (memory book′ code words′) (p .call) refl) (p .call .table-long) (p .answer)
 
 not-true : (b : Bool) → not b ≡ true → b ≡ false
 not-true true e = sym e
@@ -87,14 +87,14 @@ not-false false e = sym e
 pub hex-within : (s before after : Bytes) (r : Hex) → Unhexed s before after r → r .len ≤ length after
 hex-within s before after r u = omega (arith, ap length (u .bytes) ∙ length-append (leading s) (drop (length (leading s)) before), u .len)
 
-module _ (line : Bytes) (start end : ℕ) (l : Lent) (before after : Bytes) (h : Hex) (u : Unhexed (part line start end) before after h) {out : Bytes} {at : ℕ} {out′ : Bytes} {r : ℕ} where
-  pub hex-refused : not (h .ok) ≡ true → PutShort out at (bytes "bad=\n") out′ r → Requests line start end → Answered line l l out at out′ r
+module _ (line : Bytes) (start end : ℕ) (l : Memory) (before after : Bytes) (h : Hex) (u : Unhexed (part line start end) before after h) {out : Bytes} {at : ℕ} {out′ : Bytes} {r : ℕ} where
+  pub hex-refused : not (h .ok) ≡ true → PutShort out at (bytes "bad=\n") out′ r → Requests line start end → CommandAnswered line l l out at out′ r
   hex-refused e p q = bad-answered line l (request-bad line start end q before after h u (not-true (h .ok) e)) p
 
   pub block-decided : not (h .ok) ≡ false → (d : Decision) → Decides (take (h .len) after) (l .book) (l .code) (l .words) d
-      → PutShort out at (printed (decided (decisionOf d))) out′ r → Requests line start end → Answered line l l out at out′ r
+      → PutShort out at (printed (decided (decisionOf d))) out′ r → Requests line start end → CommandAnswered line l l out at out′ r
   block-decided e d promise p q =
       call-answered line (Call.request (take (h .len) after)) l l (decided (decisionOf d)) (request-read line start end q before after h u (not-false (h .ok) e)) (request-decided l promise) refl p
 
-pub told-as : (line : Bytes) {k kind : Command} → Told line k → k ≡ kind → Told line kind
-told-as line t e = subst (λ (k : Command). Told line k) e t
+pub told-as : (line : Bytes) {k kind : Command} → CommandTold line k → k ≡ kind → CommandTold line kind
+told-as line t e = subst (λ (k : Command). CommandTold line k) e t

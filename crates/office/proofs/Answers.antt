@@ -10,20 +10,20 @@ use Rattle.model.specs.Notation.{map}
 use Rattle.model.specs.Bytes.{Bytes, linesOf}
 use Rattle.model.specs.Ledger.{Call}
 use Rattle.model.specs.Gate.{callOf, output}
-use Rattle.engine.specs.Runs.{Lent}
-use Rattle.office.specs.Input.{FirstLine}
-use Rattle.office.specs.Output.{Put, answerBytes}
-use Rattle.office.specs.Answers.{Answered, AnsweredTo}
-use Rattle.office.proofs.Puts.{put-length, put-put}
+use Rattle.engine.specs.Runs.{Memory}
+use Rattle.office.specs.Input.{LineLength}
+use Rattle.office.specs.Output.{PutUpTo, answerBytes}
+use Rattle.office.specs.Answers.{CommandAnswered, AnsweredTo}
+use Rattle.office.proofs.OutputPuts.{put-length, put-put}
 
 -- nothing is put
-put-nothing : (out : Bytes) (at : ℕ) → Put out at [] out at
+put-nothing : (out : Bytes) (at : ℕ) → PutUpTo out at [] out at
 put-nothing out at = let z : at ≡ at + 0 = omega arith in record {
   is = sym (take-append-drop at out) ∙ ap₂ (λ (x : Bytes) (k : ℕ). x ++ drop k out) (sym (append-nil (take at out))) z;
   behind = z;
 }
 
-pub none-answered : (commands : Bytes) (l : Lent) (out : Bytes) (at : ℕ) → AnsweredTo commands 0 l l out at out at
+pub none-answered : (commands : Bytes) (l : Memory) (out : Bytes) (at : ℕ) → AnsweredTo commands 0 l l out at out at
 none-answered commands l out at = record {
   within = omega arith;
   text = [];
@@ -33,7 +33,7 @@ none-answered commands l out at = record {
   goes-on = λ S stands long. record { state = S; stands = stands; prints = refl };
 }
 
-module _ {commands : Bytes} {i : ℕ} {before middle : Lent} {out : Bytes} {at : ℕ} {out₁ : Bytes} {n : ℕ} (a : AnsweredTo commands i before middle out at out₁ n)
+module _ {commands : Bytes} {i : ℕ} {before middle : Memory} {out : Bytes} {at : ℕ} {out₁ : Bytes} {n : ℕ} (a : AnsweredTo commands i before middle out at out₁ n)
     (room : at + answerBytes * length commands ≤ length out) (h : i < length commands) where
   -- there is room for the next answer
   pub next-room : n + answerBytes ≤ length out₁
@@ -41,7 +41,7 @@ module _ {commands : Bytes} {i : ℕ} {before middle : Lent} {out : Bytes} {at :
       let l : at + length (a .text) ≤ length out = omega (arith, a .short) in
       omega (arith, a .short, a .put .behind, put-length (a .put) l)
 
-  module _ (k : ℕ) (first : FirstLine (drop i commands) k) where
+  module _ (k : ℕ) (first : LineLength (drop i commands) k) where
     left : 1 ≤ length (drop i commands)
     left = omega (arith, length-drop i commands)
 
@@ -53,7 +53,7 @@ module _ {commands : Bytes} {i : ℕ} {before middle : Lent} {out : Bytes} {at :
         ap (map callOf) (first .lines left) ∙ ap (λ (d : Bytes). callOf (take k (drop i commands)) ∷ map callOf (linesOf d)) (drop-drop k i commands)
 
     -- one command more
-    pub more-answered : {after : Lent} {out₂ : Bytes} {r : ℕ} → Answered (take k (drop i commands)) middle after out₁ n out₂ r
+    pub more-answered : {after : Memory} {out₂ : Bytes} {r : ℕ} → CommandAnswered (take k (drop i commands)) middle after out₁ n out₂ r
         → AnsweredTo commands (i + k) before after out at out₂ r
     more-answered b =
         let e = length-append (a .text) (b .text) in
@@ -77,11 +77,11 @@ module _ {commands : Bytes} {i : ℕ} {before middle : Lent} {out : Bytes} {at :
               };
         }
 
-pub line-as : {line other : Bytes} {before after : Lent} {out : Bytes} {at : ℕ} {out′ : Bytes} {r : ℕ} → line ≡ other → Answered line before after out at out′ r
-    → Answered other before after out at out′ r
-line-as {before = before} {after = after} {out = out} {at = at} {out′ = out′} {r = r} e a = subst (λ (l : Bytes). Answered l before after out at out′ r) e a
+pub line-as : {line other : Bytes} {before after : Memory} {out : Bytes} {at : ℕ} {out′ : Bytes} {r : ℕ} → line ≡ other → CommandAnswered line before after out at out′ r
+    → CommandAnswered other before after out at out′ r
+line-as {before = before} {after = after} {out = out} {at = at} {out′ = out′} {r = r} e a = subst (λ (l : Bytes). CommandAnswered l before after out at out′ r) e a
 
-module _ {commands : Bytes} {i : ℕ} {before after : Lent} {out : Bytes} {at : ℕ} {out′ : Bytes} {n : ℕ} (a : AnsweredTo commands i before after out at out′ n) where
+module _ {commands : Bytes} {i : ℕ} {before after : Memory} {out : Bytes} {at : ℕ} {out′ : Bytes} {n : ℕ} (a : AnsweredTo commands i before after out at out′ n) where
   pub all-length : at + answerBytes * length commands ≤ length out → length out′ ≡ length out
   all-length room =
       let w = a .within in

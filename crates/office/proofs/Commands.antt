@@ -13,14 +13,14 @@ use Rattle.model.specs.Bytes.{Bytes, bytes, same, behind, content}
 use Rattle.model.specs.Refusals.{signedLine}
 use Rattle.model.specs.Ledger.{Call}
 use Rattle.model.specs.Gate.{bare, hexPairs, callOf}
-use Rattle.model.proofs.Words.{false-is-true, same-eq}
+use Rattle.model.proofs.WordTables.{false-is-true, same-eq}
 use Rattle.model.proofs.Options.{no-result}
 use Rattle.model.proofs.Cuts.{behind-parts}
 use Rattle.text.specs.Parts.{FirstAt}
 use Rattle.text.specs.declared.Hex.{Hex}
 use Rattle.text.specs.Hex.{leading, Unhexed}
-use Rattle.text.proofs.Pairs.{leading-pairs}
-use Rattle.text.proofs.Places.{next, done}
+use Rattle.text.proofs.HexPairs.{leading-pairs}
+use Rattle.text.proofs.LoopPlaces.{next, done}
 use Rattle.office.specs.Command.{Bare, part, Requests}
 
 -- a line without its byte 10, by the place of the first

@@ -12,7 +12,7 @@ use lib.Dec.{ltb}
 use Rattle.model.specs.Bytes.{Bytes}
 use Rattle.model.specs.Atoms.{decimal}
 use Rattle.model.proofs.Decimals.{decimal-last, decimal-more, length-decimal}
-use Rattle.text.proofs.Places.{next, done}
+use Rattle.text.proofs.LoopPlaces.{next, done}
 use Rattle.office.specs.Output.{Digits}
 
 -- a number of two digits or more: its last digit stands behind those of its tenth

@@ -19,7 +19,7 @@ use Rattle.model.specs.Edits.{edit, editedTie}
 use Rattle.model.specs.Decision.{Decision, permit, deny, undefined, refused}
 use Rattle.model.specs.Ledger.{Call, loaded, edited, decided}
 use Rattle.model.specs.Gate.{bare, hexPairs, callOf, printed}
-use Rattle.model.proofs.Words.{none-is-some}
+use Rattle.model.proofs.WordTables.{none-is-some}
 use Rattle.model.proofs.Options.{parts, bound, choice}
 use Rattle.model.proofs.Cuts.{behind-parts, content-exact}
 use Rattle.model.proofs.Lines.{framed-exact}

@@ -1,7 +1,7 @@
 -- Laws about the lines of an input, about commands, and about bytes put one behind the other.
-pub mod Lines
+pub mod InputLines
 pub mod Commands
-pub mod Puts
+pub mod OutputPuts
 pub mod Printing
 pub mod Digits
 pub mod Lengths

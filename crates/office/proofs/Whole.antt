@@ -16,15 +16,15 @@ use Rattle.model.specs.Gate.{fileOf, commandsOf, callOf, printed, output, gate}
 use Rattle.model.proofs.Standing.{empty-standing}
 use Rattle.model.proofs.Gate.{gate-too-long, words-after}
 use Rattle.engine.specs.Calls.{Loads}
-use Rattle.engine.specs.Runs.{Lent}
+use Rattle.engine.specs.Runs.{Memory}
 use Rattle.office.specs.declared.input.Places.{Places}
 use Rattle.office.specs.Input.{Split}
 use Rattle.office.specs.Output.{answerBytes, PutShort}
 use Rattle.office.specs.Answers.{Prints, AnsweredTo}
-use Rattle.office.proofs.Puts.{put-front, put-length, put-put}
+use Rattle.office.proofs.OutputPuts.{put-front, put-length, put-put}
 use Rattle.office.proofs.Answering.{outcome-prints}
 
-pub commands-as : {s t : Bytes} {before after : Lent} {out : Bytes} {at : ℕ} {out′ : Bytes} {r : ℕ} → s ≡ t → AnsweredTo s (length s) before after out at out′ r
+pub commands-as : {s t : Bytes} {before after : Memory} {out : Bytes} {at : ℕ} {out′ : Bytes} {r : ℕ} → s ≡ t → AnsweredTo s (length s) before after out at out′ r
     → AnsweredTo t (length t) before after out at out′ r
 commands-as {before = before} {after = after} {out = out} {at = at} {out′ = out′} {r = r} e a = subst (λ (s : Bytes). AnsweredTo s (length s) before after out at out′ r) e a
 
@@ -51,7 +51,7 @@ nothing-left commands T = go (drop (length commands) commands) (length-drop (len
     go (x ∷ d) e = absurd (omega arith)
 
 module _ (input : Bytes) (places : Places) (short : length input ≤ inputBytes) (split : Split input places) {out : Bytes}
-    (room : answerBytes + answerBytes * length input ≤ length out) (words : List ℕ) (long : length words ≡ tableWords) {number line : ℕ} (after : Lent)
+    (room : answerBytes + answerBytes * length input ≤ length out) (words : List ℕ) (long : length words ≡ tableWords) {number line : ℕ} (after : Memory)
     (l : Loads (take (places .file) input) words number line (after .words) (after .book) (after .code)) {out₁ : Bytes} {at : ℕ}
     (p : PutShort out 0 (printed (loaded number line)) out₁ at) where
   abbrev pub commands : Bytes
@@ -66,7 +66,7 @@ module _ (input : Bytes) (places : Places) (short : length input ≤ inputBytes)
   pub commands-short : length commands ≤ inputBytes
   commands-short = omega (arith, length-drop (places .commands) input)
 
-  pub whole : {last : Lent} {out₂ : Bytes} {r : ℕ} → AnsweredTo commands (length commands) after last out₁ at out₂ r → (r ≤ length out) × (take r out₂ ≡ gate input)
+  pub whole : {last : Memory} {out₂ : Bytes} {r : ℕ} → AnsweredTo commands (length commands) after last out₁ at out₂ r → (r ≤ length out) × (take r out₂ ≡ gate input)
   whole {out₂ = out₂} {r = r} a =
       let c = Call.load (take (places .file) input) in
       let rest = map callOf (linesOf commands) in

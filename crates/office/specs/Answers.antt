@@ -12,20 +12,20 @@ use Rattle.model.specs.Ledger.{Call, edited}
 use Rattle.model.specs.Gate.{callOf, printed, output}
 use Rattle.engine.specs.Calls.{Together}
 use Rattle.engine.specs.EditSteps.{EditCall}
-use Rattle.engine.specs.Runs.{Lent}
-use Rattle.office.specs.Output.{Put, answerBytes, PutShort}
+use Rattle.engine.specs.Runs.{Memory}
+use Rattle.office.specs.Output.{PutUpTo, answerBytes, PutShort}
 
-abbrev pub lent : List ℕ → Bytes → List ℕ → Lent
-lent book code words = record { book = book; code = code; words = words }
+abbrev pub memory : List ℕ → Bytes → List ℕ → Memory
+memory book code words = record { book = book; code = code; words = words }
 
 -- book and table go together with a state
-abbrev pub Stands : State → Lent → Type 0
-Stands S l = Together S (l .book) (l .code) (l .words)
+abbrev pub MemoryOf : State → Memory → Type 0
+MemoryOf S l = Together S (l .book) (l .code) (l .words)
 
 -- from the state S on, `text` is printed for the commands, up to `rest`; what is left then goes together with a state that prints the rest
-pub record Prints (S : State) (commands : List (Option Call)) (text : Bytes) (rest : List (Option Call)) (after : Lent) : Type 0 where
+pub record Prints (S : State) (commands : List (Option Call)) (text : Bytes) (rest : List (Option Call)) (after : Memory) : Type 0 where
   pub state : State
-  pub stands : Stands state after
+  pub stands : MemoryOf state after
   pub prints : output S commands ≡ text ++ output state rest
 
 -- an edit made, and its answer
@@ -36,18 +36,18 @@ pub record EditAnswered (line : Bytes) (book words book′ words′ : List ℕ) 
   pub answer : PutShort out at (printed (edited number count)) out′ r
 
 -- one command answered
-pub record Answered (line : Bytes) (before after : Lent) (out : Bytes) (at : ℕ) (out′ : Bytes) (r : ℕ) : Type 0 where
+pub record CommandAnswered (line : Bytes) (before after : Memory) (out : Bytes) (at : ℕ) (out′ : Bytes) (r : ℕ) : Type 0 where
   pub text : Bytes
   pub answer : PutShort out at text out′ r
   pub table-long : length (after .words) ≡ length (before .words)
-  pub goes-on : (S : State) (rest : List (Option Call)) → Stands S before → length (before .words) ≡ tableWords → Prints S (callOf line ∷ rest) text rest after
+  pub goes-on : (S : State) (rest : List (Option Call)) → MemoryOf S before → length (before .words) ≡ tableWords → Prints S (callOf line ∷ rest) text rest after
 
 -- the commands up to a place answered
-pub record AnsweredTo (commands : Bytes) (i : ℕ) (before after : Lent) (out : Bytes) (at : ℕ) (out′ : Bytes) (r : ℕ) : Type 0 where
+pub record AnsweredTo (commands : Bytes) (i : ℕ) (before after : Memory) (out : Bytes) (at : ℕ) (out′ : Bytes) (r : ℕ) : Type 0 where
   pub within : i ≤ length commands
   pub text : Bytes
-  pub put : Put out at text out′ r
+  pub put : PutUpTo out at text out′ r
   pub short : length text ≤ answerBytes * i
   pub table-long : length (after .words) ≡ length (before .words)
-  pub goes-on : (S : State) → Stands S before → length (before .words) ≡ tableWords
+  pub goes-on : (S : State) → MemoryOf S before → length (before .words) ≡ tableWords
       → Prints S (map callOf (linesOf commands)) text (map callOf (linesOf (drop i commands))) after

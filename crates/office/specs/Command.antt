@@ -26,7 +26,7 @@ pub record Requests (line : Bytes) (start end : ℕ) : Type 0 where
   pub call : callOf line ≡ (hexPairs (part line start end) >>= λ block. some (Call.request block))
 
 -- the call of a line, by the kind of command
-abbrev pub Told : Bytes → Command → Type 0
-Told line Edit = callOf line ≡ some (Call.edit line)
-Told line (Request start end) = Requests line start end
-Told line Neither = callOf line ≡ none
+abbrev pub CommandTold : Bytes → Command → Type 0
+CommandTold line Edit = callOf line ≡ some (Call.edit line)
+CommandTold line (Request start end) = Requests line start end
+CommandTold line Neither = callOf line ≡ none

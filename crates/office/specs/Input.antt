@@ -8,7 +8,7 @@ use Rattle.model.specs.Gate.{fileOf, commandsOf}
 use Rattle.office.specs.declared.input.Places.{Places}
 
 -- n is the length of the first line of s, where s has one
-pub record FirstLine (s : Bytes) (n : ℕ) : Type 0 where
+pub record LineLength (s : Bytes) (n : ℕ) : Type 0 where
   pub within : n ≤ length s
   pub some : 1 ≤ length s → 1 ≤ n
   pub lines : 1 ≤ length s → linesOf s ≡ take n s ∷ linesOf (drop n s)

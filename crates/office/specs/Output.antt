@@ -7,7 +7,7 @@ use Rattle.model.specs.Bytes.{Bytes, bytes}
 use Rattle.model.specs.Atoms.{decimal}
 
 -- `after` is `before` with some bytes at a place, and r is the place behind them
-pub record Put (before : Bytes) (at : ℕ) (bytes after : Bytes) (r : ℕ) : Type 0 where
+pub record PutUpTo (before : Bytes) (at : ℕ) (bytes after : Bytes) (r : ℕ) : Type 0 where
   pub is : after ≡ take at before ++ bytes ++ drop (at + length bytes) before
   pub behind : r ≡ at + length bytes
 
@@ -17,7 +17,7 @@ answerBytes = 20
 
 -- an answer stands at a place
 pub record PutShort (before : Bytes) (at : ℕ) (text after : Bytes) (r : ℕ) : Type 0 where
-  pub put : Put before at text after r
+  pub put : PutUpTo before at text after r
   pub short : length text ≤ answerBytes
 
 -- the digits of the largest number

@@ -8,7 +8,7 @@ ghost use Rattle.model.specs.Gate.{printed};
 ghost use Rattle.engine.specs.Decisions.{decisionOf};
 ghost use Rattle.office.specs.Command.{Requests};
 ghost use Rattle.office.specs.Output.{answerBytes, PutShort};
-ghost use Rattle.office.specs.Answers.{lent, EditAnswered, Answered, AnsweredTo};
+ghost use Rattle.office.specs.Answers.{memory, EditAnswered, CommandAnswered, AnsweredTo};
 use crate::command::Command;
 use engine::Decision;
 
@@ -53,7 +53,7 @@ pub fn answer_request(
     at: usize,
 ) -> usize
     requires { ⌜ (at + answerBytes ≤ length (now out)) × (start ≤ end) × (end ≤ length (now line)) × (length (now line) ≤ inputBytes) ⌝ }
-    ensures { λ r. ⌜ (Requests (now (line .entry)) start end → Answered (now (line .entry)) (lent (now (book .entry)) (now (rules .entry)) (now (table .entry))) (lent (now (book .entry)) (now (rules .entry)) (now (table .entry))) (now (out .entry)) at (now (out .exit)) r) ⌝ }
+    ensures { λ r. ⌜ (Requests (now (line .entry)) start end → CommandAnswered (now (line .entry)) (memory (now (book .entry)) (now (rules .entry)) (now (table .entry))) (memory (now (book .entry)) (now (rules .entry)) (now (table .entry))) (now (out .entry)) at (now (out .exit)) r) ⌝ }
 {
     let mut buffer: [u8; BLOCK_BYTES] = [0; BLOCK_BYTES];
     let hex = text::unhex(&line[start..end], &mut buffer);
@@ -74,7 +74,7 @@ pub fn answer_line(
     at: usize,
 ) -> usize
     requires { ⌜ (at + answerBytes ≤ length (now out)) × (length (now line) ≤ inputBytes) ⌝ }
-    ensures { λ r. ⌜ Answered (now (line .entry)) (lent (now (book .entry)) (now (rules .entry)) (now (table .entry))) (lent (now (book .exit)) (now (rules .entry)) (now (table .exit))) (now (out .entry)) at (now (out .exit)) r ⌝ }
+    ensures { λ r. ⌜ CommandAnswered (now (line .entry)) (memory (now (book .entry)) (now (rules .entry)) (now (table .entry))) (memory (now (book .exit)) (now (rules .entry)) (now (table .exit))) (now (out .entry)) at (now (out .exit)) r ⌝ }
 {
     match crate::command::read(line) {
         Command::Edit => answer_edit(line, book, table, out, at),
@@ -95,7 +95,7 @@ pub fn answer_commands(
     at: usize,
 ) -> usize
     requires { ⌜ (at + answerBytes * length (now commands) ≤ length (now out)) × (length (now commands) ≤ inputBytes) ⌝ }
-    ensures { λ r. ⌜ AnsweredTo (now (commands .entry)) (length (now (commands .entry))) (lent (now (book .entry)) (now (rules .entry)) (now (table .entry))) (lent (now (book .exit)) (now (rules .entry)) (now (table .exit))) (now (out .entry)) at (now (out .exit)) r ⌝ }
+    ensures { λ r. ⌜ AnsweredTo (now (commands .entry)) (length (now (commands .entry))) (memory (now (book .entry)) (now (rules .entry)) (now (table .entry))) (memory (now (book .exit)) (now (rules .entry)) (now (table .exit))) (now (out .entry)) at (now (out .exit)) r ⌝ }
 {
     let mut i = 0;
     let mut n = at;

@@ -1,6 +1,6 @@
 // One command: an edit, a request with its block in hex, or neither.
 ghost use mathlib.Core.Path.{_≡_};
-ghost use Rattle.office.specs.Command.{Bare, Told};
+ghost use Rattle.office.specs.Command.{Bare, CommandTold};
 
 // The hex of a request stands between two places of the line.
 pub enum Command {
@@ -24,7 +24,7 @@ fn bare_length(line: &[u8]) -> usize
 }
 
 pub fn read(line: &[u8]) -> Command
-    ensures { λ r. ⌜ Told (now (line .entry)) r ⌝ }
+    ensures { λ r. ⌜ CommandTold (now (line .entry)) r ⌝ }
 {
     if line.len() < 1 {
         return Command::Neither;

@@ -1,7 +1,7 @@
 // The input: its lines, the file, and where the commands begin.
 ghost use mathlib.Core.Path.{_≡_};
 ghost use Rattle.model.specs.Gate.{isEnd};
-ghost use Rattle.office.specs.Input.{FirstLine, Split};
+ghost use Rattle.office.specs.Input.{LineLength, Split};
 
 // Where the file ends, and where the first command begins.
 pub struct Places {
@@ -11,7 +11,7 @@ pub struct Places {
 
 // The length of the first line, with its byte 10.
 pub fn line_length(s: &[u8]) -> usize
-    ensures { λ r. ⌜ FirstLine (now (s .entry)) r ⌝ }
+    ensures { λ r. ⌜ LineLength (now (s .entry)) r ⌝ }
 {
     let i = text::index_of(s, b'\n');
     if i < s.len() {

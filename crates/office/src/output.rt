@@ -7,14 +7,14 @@ ghost use Rattle.model.specs.Atoms.{decimal};
 ghost use Rattle.model.specs.Decision.{permit, deny, undefined, refused};
 ghost use Rattle.model.specs.Ledger.{loaded, edited, decided};
 ghost use Rattle.model.specs.Gate.{printed};
-ghost use Rattle.office.specs.Output.{Put, answerBytes, PutShort, mostDigits, Digits, pairLine, numberLine};
+ghost use Rattle.office.specs.Output.{PutUpTo, answerBytes, PutShort, mostDigits, Digits, pairLine, numberLine};
 
 // The digits of the largest number.
 const DIGITS: usize = 10;
 
 pub fn put(out: &mut [u8], at: usize, bytes: &[u8]) -> usize
     requires { ⌜ at + length (now bytes) ≤ length (now out) ⌝ }
-    ensures { λ r. ⌜ Put (now (out .entry)) at (now (bytes .entry)) (now (out .exit)) r ⌝ }
+    ensures { λ r. ⌜ PutUpTo (now (out .entry)) at (now (bytes .entry)) (now (out .exit)) r ⌝ }
 {
     let mut i = 0;
     while i < bytes.len() {
@@ -49,7 +49,7 @@ fn fill(digits: &mut [u8; DIGITS], n: u32) -> usize
 
 pub fn put_decimal(out: &mut [u8], at: usize, n: u32) -> usize
     requires { ⌜ at + length (decimal n) ≤ length (now out) ⌝ }
-    ensures { λ r. ⌜ Put (now (out .entry)) at (decimal n) (now (out .exit)) r ⌝ }
+    ensures { λ r. ⌜ PutUpTo (now (out .entry)) at (decimal n) (now (out .exit)) r ⌝ }
 {
     let mut digits: [u8; DIGITS] = [0; DIGITS];
     let start = fill(&mut digits, n);
@@ -60,7 +60,7 @@ pub fn put_decimal(out: &mut [u8], at: usize, n: u32) -> usize
 // A key and two numbers.
 fn put_pair(out: &mut [u8], at: usize, key: &[u8], number: u32, other: u32) -> usize
     requires { ⌜ at + length (pairLine (now key) number other) ≤ length (now out) ⌝ }
-    ensures { λ r. ⌜ Put (now (out .entry)) at (pairLine (now (key .entry)) number other) (now (out .exit)) r ⌝ }
+    ensures { λ r. ⌜ PutUpTo (now (out .entry)) at (pairLine (now (key .entry)) number other) (now (out .exit)) r ⌝ }
 {
     let a = put(out, at, key);
     let b = put_decimal(out, a, number);
@@ -72,7 +72,7 @@ fn put_pair(out: &mut [u8], at: usize, key: &[u8], number: u32, other: u32) -> u
 // A text and one number.
 fn put_number(out: &mut [u8], at: usize, text: &[u8], n: u32) -> usize
     requires { ⌜ at + length (numberLine (now text) n) ≤ length (now out) ⌝ }
-    ensures { λ r. ⌜ Put (now (out .entry)) at (numberLine (now (text .entry)) n) (now (out .exit)) r ⌝ }
+    ensures { λ r. ⌜ PutUpTo (now (out .entry)) at (numberLine (now (text .entry)) n) (now (out .exit)) r ⌝ }
 {
     let a = put(out, at, text);
     let b = put_decimal(out, a, n);

@@ -18,7 +18,7 @@ use Rattle.model.specs.Tokens.{Mark, Operator}
 use Rattle.model.specs.Grammar as grammar
 use Rattle.model.specs.Grammar.{compare, constants, attribute, oneType, isMark, behindMark, readOperator, readItems, readSet, readVar, readComparison, readSimple, readTerm, closed, termWithin, policyWithin}
 use Rattle.model.proofs.Results.{case-so}
-use Rattle.model.proofs.Words.{false-is-true, none-is-some}
+use Rattle.model.proofs.WordTables.{false-is-true, none-is-some}
 use Rattle.model.proofs.Options.{bind-some, parts, both}
 use Rattle.model.proofs.Complete.{above}
 use Rattle.codes.specs.Codes.{operatorCode}
@@ -35,8 +35,8 @@ use Rattle.policy.specs.declared.Head.the-variants.{Leaf, Open, Neither}
 use Rattle.policy.specs.declared.Var.{Var}
 use Rattle.policy.specs.Starts.{Start, whole, opened, neither, simpleStart, negatedStart, readOr, plainStart, signedStart, termStart, aloneStart, closedBy}
 use Rattle.policy.specs.Readers.{Lending, lending, lentWith, Asked, From, Answers, Ahead, Terms, Policies, Closes, Starts, Further, Heads, NegatedHead, Spoken, VarReads, VarAnswers, Vars, Alone, SecondVars, SignedHead, VarHeads, leafPart}
-use Rattle.policy.proofs.Fronts.{inside, told, is-mark, isnt-mark, mark-on, mark-off, operator-on, operator-off}
-use Rattle.policy.proofs.Parts.{negated-starts, not-further}
+use Rattle.policy.proofs.CodeFronts.{inside, told, is-mark, isnt-mark, mark-on, mark-off, operator-on, operator-off}
+use Rattle.policy.proofs.JoinedParts.{negated-starts, not-further}
 use Rattle.policy.proofs.Shorter.{mark-fewer}
 
 -- ---- a var alone

@@ -22,7 +22,7 @@ use Rattle.policy.specs.declared.Reading.the-variants.{Read, Malformed}
 use Rattle.policy.specs.Starts.{joinOf, joinedTo}
 use Rattle.policy.specs.Readers.{Lending, Asked, From, Answers, Ahead, Reader, Joins}
 use Rattle.policy.proofs.Shorter.{Fewer, term-within, conjunction-within}
-use Rattle.policy.proofs.Fronts.{inside, mark-on, mark-off, behind-mark}
+use Rattle.policy.proofs.CodeFronts.{inside, mark-on, mark-off, behind-mark}
 
 -- what is read before the mark that may join, and the mark
 module _ (code : Bytes) (L : Lending) (A : Asked) (m : Mark) (c : Bool) (more : List model.Token → grammar.Reading) where

@@ -1,7 +1,7 @@
 pub mod Shorter
-pub mod Fronts
-pub mod Parts
+pub mod CodeFronts
+pub mod JoinedParts
 pub mod Levels
-pub mod Sets
+pub mod VarsInCode
 pub mod Heads
 pub mod Wholes

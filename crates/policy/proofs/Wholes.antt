@@ -19,7 +19,7 @@ use Rattle.model.specs.Grammar as grammar
 use Rattle.model.specs.Grammar.{Policy, policyWithin, wholly, readPolicy, tooLarge, terms, depth, largestSet}
 use Rattle.model.specs.Meaning.{Values, meaning, meaningOf}
 use Rattle.model.specs.Refusals.{_if_, first, unknownName}
-use Rattle.model.proofs.Words.{false-is-true}
+use Rattle.model.proofs.WordTables.{false-is-true}
 use Rattle.codes.proofs.TokenKinds.{kind-range}
 use Rattle.model.specs.Standing.{WellDeclared}
 use Rattle.rows.specs.Rows.{AttributeRows}
@@ -33,7 +33,7 @@ use Rattle.policy.specs.declared.Reading.{Reading}
 use Rattle.policy.specs.declared.Reading.the-variants.{Read, Malformed}
 use Rattle.policy.specs.Readers.{Lending, Asked, From, Reads, Answers, Policies}
 use Rattle.policy.specs.Judgements.{WholeAnswers, Ends, policyTests, judged, Refuses, Judges, Evaluated}
-use Rattle.policy.proofs.Fronts.{told, ended}
+use Rattle.policy.proofs.CodeFronts.{told, ended}
 
 -- ---- nothing behind a policy
 

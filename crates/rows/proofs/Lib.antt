@@ -1,2 +1,2 @@
-pub mod Places
-pub mod Attributes
+pub mod FirstPlaces
+pub mod RowsOfAttributes

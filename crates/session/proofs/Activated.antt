@@ -23,13 +23,13 @@ use Rattle.codes.specs.Codes.{sourceCode}
 use Rattle.text.specs.declared.Words.{Words}
 use Rattle.text.specs.Values.{atomWords}
 use Rattle.rows.specs.Rows.{AttributeRows, PairRows, pairOf}
-use Rattle.rows.proofs.Places.{place-first}
-use Rattle.rows.proofs.Attributes.{eq-named}
+use Rattle.rows.proofs.FirstPlaces.{place-first}
+use Rattle.rows.proofs.RowsOfAttributes.{eq-named}
 use Rattle.values.specs.Operands.{upFrom, chosen, pairWords}
 use Rattle.session.specs.Opened.{readsPair, mayRead, Opened}
 use Rattle.session.specs.Words.{heldWords, unheldWords}
 use Rattle.session.proofs.Opens.{mask-bit, no-attribute}
-use Rattle.session.proofs.Names.{held-pairs}
+use Rattle.session.proofs.NamedOperands.{held-pairs}
 
 -- lists
 up-last : (k n : ℕ) → upFrom k (suc n) ≡ upFrom k n ++ (k + n) ∷ []

@@ -22,7 +22,7 @@ use Rattle.model.proofs.Lists.{all-cons, all-append}
 use Rattle.codes.specs.Codes.{typeCode}
 use Rattle.text.specs.declared.Words.{Words}
 use Rattle.text.specs.Values.{words, truthBit, atomWords}
-use Rattle.rows.proofs.Attributes.{named-eq, eq-named}
+use Rattle.rows.proofs.RowsOfAttributes.{named-eq, eq-named}
 use Rattle.values.specs.Operands.{upFrom, chosen, entryWords, entriesFrom}
 use Rattle.values.proofs.Chosen.{filter-keep, filter-drop}
 

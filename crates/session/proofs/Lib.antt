@@ -1,6 +1,6 @@
 pub mod Words
-pub mod Held
+pub mod HeldValues
 pub mod Entries
-pub mod Names
+pub mod NamedOperands
 pub mod Opens
 pub mod Activated

@@ -15,7 +15,7 @@ use Rattle.model.specs.Declarations.{Attribute}
 use Rattle.model.specs.Table.{effectiveSet}
 use Rattle.model.specs.State.{State}
 use Rattle.model.specs.Block.{Block, activated}
-use Rattle.model.proofs.Words.{none-is-some}
+use Rattle.model.proofs.WordTables.{none-is-some}
 use Rattle.model.proofs.Lists.{lt-nth}
 use Rattle.bits.specs.Bits.{odd, bit, holds}
 use Rattle.bits.proofs.Bits.{bit-none}

@@ -18,7 +18,7 @@ use Rattle.bits.proofs.Bits.{bit-none}
 use Rattle.ties.specs.TieArrays.{inUse, tied, Distinct}
 use Rattle.ties.proofs.Masks.{in-use-lt}
 use Rattle.sets.specs.Settled.{Solves, RightAt, Right, Stored, ShortChains, Chain, one, more, Deep, Settled, Spared, AllDeep, GroupsRight, NoGroups, MarksChanged, StoredEach, StoredTied}
-use Rattle.sets.proofs.Parts.{holds-kept}
+use Rattle.sets.proofs.LentSets.{holds-kept}
 use Rattle.sets.proofs.Telling.{SameAt, others-same, told-none, told-more}
 
 -- what changes nothing where it is not set

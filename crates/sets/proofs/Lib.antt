@@ -1,4 +1,4 @@
-pub mod Parts
+pub mod LentSets
 pub mod Telling
 pub mod Laws
 pub mod Tables

@@ -30,7 +30,7 @@ use Rattle.ties.proofs.Below.{above-meets, holders-fit}
 use Rattle.sets.specs.Settled.{Solves, RightAt, Right, Stored, MarksChanged, unlike, Settled, AllDeep, StoredEach}
 use Rattle.sets.specs.Filled.{KeepsSets}
 use Rattle.sets.specs.Refreshed.{EditedAt, Elsewhere, Rewritten, Refreshed}
-use Rattle.sets.proofs.Parts.{holds-kept}
+use Rattle.sets.proofs.LentSets.{holds-kept}
 use Rattle.sets.proofs.Telling.{SameAt, unlike-past, others-same, told-more}
 use Rattle.sets.proofs.Laws.{masked, stored-right}
 use Rattle.sets.proofs.Tables.{sets-table, table-sets, pair-declared, no-holder}

@@ -28,7 +28,7 @@ use Rattle.bits.proofs.Counts.{any-find, find-any}
 use Rattle.ties.proofs.Keeps.{up-slot, slot-up, group-slot, slot-group}
 use Rattle.sets.specs.Settled.{Solves, RightAt, Right, ShortChains, Settled, AllDeep, GroupsRight, NoGroups, StoredEach, StoredTied}
 use Rattle.sets.specs.Filled.{KeepsSets, Filled}
-use Rattle.sets.proofs.Parts.{holds-kept}
+use Rattle.sets.proofs.LentSets.{holds-kept}
 use Rattle.sets.proofs.Tables.{sets-table}
 
 -- ---- chains in the arrays

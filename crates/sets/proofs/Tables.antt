@@ -21,7 +21,7 @@ use Rattle.model.proofs.Standing.{among, holder-lt, holder-none}
 use Rattle.bits.specs.Bits.{bit, holds}
 use Rattle.sets.specs.Filled.{KeepsSets}
 use Rattle.bits.proofs.Sets.{member-none}
-use Rattle.bits.proofs.Words.{length-words, getD-words, bit-word, word-is, words-are}
+use Rattle.bits.proofs.WordsOfSets.{length-words, getD-words, bit-word, word-is, words-are}
 
 -- ---- blocks of four
 

@@ -14,7 +14,7 @@ use Rattle.bits.specs.Bits.{bit, member, holds, differ}
 use Rattle.bits.proofs.Sets.{member-part, same-beq, four, stored4}
 use Rattle.bits.proofs.Counts.{any-ext, any-at}
 use Rattle.sets.specs.Settled.{unlike, MarksChanged, Stored}
-use Rattle.sets.proofs.Parts.{holds-put, holds-past, holds-kept}
+use Rattle.sets.proofs.LentSets.{holds-put, holds-past, holds-kept}
 
 -- holder k's words are the same in two tables
 abbrev pub SameAt : List ℕ → List ℕ → ℕ → Type 0

@@ -1,6 +1,6 @@
-pub mod Places
-pub mod Numbers
+pub mod LoopPlaces
+pub mod DecimalDigits
 pub mod Quotes
 pub mod Packing
 pub mod Values
-pub mod Pairs
+pub mod HexPairs

@@ -16,12 +16,12 @@ use Rattle.model.specs.Bytes.{Bytes, same, inRange, isByte}
 use Rattle.model.specs.Names.{nameByte, isName}
 use Rattle.model.specs.Atoms.{textByte, isText}
 use Rattle.model.specs.Block.{number}
-use Rattle.model.proofs.Words.{same-eq, same-refl}
+use Rattle.model.proofs.WordTables.{same-eq, same-refl}
 use Rattle.model.proofs.Options.{parts, both}
 use Rattle.model.proofs.Lists.{all-parts, all-cons, all-by, same-truth, or-cases}
 use Rattle.model.proofs.Names.{name-all}
 use Rattle.text.specs.Packing.{wordBytes, packed, packedOf, wordsOf, threeWords, listOf, solid}
-use Rattle.text.proofs.Places.{next}
+use Rattle.text.proofs.LoopPlaces.{next}
 
 -- the number of bytes, on the way from the end of a list to its front
 number-bound : (s : Bytes) → ((k : ℕ) → getD s k 0 < 256) → number s < 256 ^ length s

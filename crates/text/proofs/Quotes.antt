@@ -9,7 +9,7 @@ use lib.ListN.{length, getD, take, drop, length-append}
 use lib.Seq.{take-suc, take-all, take-at, getD-at}
 use Rattle.model.specs.Bytes.{Bytes}
 use Rattle.model.specs.Atoms.{isText, quoted, readStr}
-use Rattle.model.proofs.Words.{false-is-true}
+use Rattle.model.proofs.WordTables.{false-is-true}
 use Rattle.model.proofs.Options.{no-result}
 use Rattle.model.proofs.Atoms.{str-exact}
 use Rattle.text.specs.Parts.{inside, Quoted}

@@ -11,7 +11,7 @@ use lib.Dec.{eqb}
 use Rattle.model.specs.Notation.{_>>=_, _or-else_}
 use Rattle.model.specs.Bytes.{Bytes, same}
 use Rattle.model.specs.Atoms.{Atom, int, str, bool, readInt, readStr, readBool, readAtom, isAtom, isText, typeOf, sameAtom, boolWord}
-use Rattle.model.proofs.Words.{same-eq, same-refl, same-word, bools, reads-bool}
+use Rattle.model.proofs.WordTables.{same-eq, same-refl, same-word, bools, reads-bool}
 use Rattle.model.proofs.Options.{parts, both}
 use Rattle.model.proofs.Lists.{same-truth}
 use Rattle.model.proofs.Atoms.{atom-exact, str-exact}
@@ -21,7 +21,7 @@ use Rattle.text.specs.declared.Value.{Value}
 use Rattle.codes.specs.Codes.{coded, typeCode, boolCode}
 use Rattle.codes.proofs.Codes.{type-injective}
 use Rattle.text.specs.declared.Words.{Words}
-use Rattle.text.specs.Codes.{boolNumber, codedInt}
+use Rattle.text.specs.ReadCodes.{boolNumber, codedInt}
 use Rattle.text.specs.Values.{words, value, truthBit, atomWords, atomValue, codedAtom, sameWords}
 use Rattle.text.specs.Parts.{inside, Quoted}
 use Rattle.text.proofs.Packing.{text-injective, text-length}

@@ -1,5 +1,5 @@
 pub mod Parts
-pub mod Codes
+pub mod ReadCodes
 pub mod Packing
 pub mod Values
 pub mod Hex

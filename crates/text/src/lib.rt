@@ -10,7 +10,7 @@ ghost use Rattle.model.specs.Atoms.{isText, textByte, readInt, readAtom};
 ghost use Rattle.model.specs.Block.{number};
 ghost use Rattle.model.specs.Gate.{hexDigit};
 ghost use Rattle.text.specs.Parts.{FirstAt, inClass, Quoted};
-ghost use Rattle.text.specs.Codes.{sourceNumber, typeNumber, keyNumber, boolNumber, isDecimal, limited, codedInt};
+ghost use Rattle.text.specs.ReadCodes.{sourceNumber, typeNumber, keyNumber, boolNumber, isDecimal, limited, codedInt};
 ghost use Rattle.text.specs.Packing.{packedOf, threeWords};
 ghost use Rattle.text.specs.Values.{words, value, codedAtom};
 ghost use Rattle.text.specs.Hex.{digitCode, pairOf, pairCode, Unhexed};

@@ -13,7 +13,7 @@ use lib.Seq.{getD-set-same, getD-set-other}
 use borrow.Author.Tests.{eq-eqb, eqb-true, ne-eqb}
 use Rattle.model.specs.Declarations.{Declarations, Sort, parentSort, groupSort}
 use Rattle.model.specs.Ties.{Tie, Ties, noTies, parent, member, value, added, removed, up}
-use Rattle.model.proofs.Words.{none-is-some}
+use Rattle.model.proofs.WordTables.{none-is-some}
 use Rattle.model.proofs.Options.{parts, both}
 use Rattle.model.proofs.Lists.{same-truth, or-cases, or-left, or-right}
 use Rattle.model.specs.Standing.{Standing}

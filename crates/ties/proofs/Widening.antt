@@ -103,16 +103,16 @@ module _ (ups slots : List ℕ) (e : ℕ) where
       (or-cases (eqb k e) (meets (getD ups k 0) m) on)
 
   -- a walk over the slots: those of `left` are left, the others are taken where they are to be
-  pub record Passed (m next : ℕ) (left : ℕ → Bool) : Type 0 where
+  pub record SlotsPassed (m next : ℕ) (left : ℕ → Bool) : Type 0 where
     pub grows : Grows m next
     pub sound : AllUnder ups slots e m → AllUnder ups slots e next
     pub takes : (q : ℕ) → q < 64 → left q ≡ false → inUse (length ups) slots q ≡ true → under ups m e (getD slots q 0) ≡ true → bit next q ≡ true
 
   -- at the start those are left that m does not have
-  pub pass-start : (m : ℕ) (left : ℕ → Bool) → ((q : ℕ) → q < 64 → left q ≡ false → bit m q ≡ true) → Passed m m left
+  pub pass-start : (m : ℕ) (left : ℕ → Bool) → ((q : ℕ) → q < 64 → left q ≡ false → bit m q ≡ true) → SlotsPassed m m left
   pass-start m left most = record { grows = λ q l on. on; sound = λ all. all; takes = λ q l off u y. most q l off }
 
-  pub pass-end : {m next : ℕ} {left : ℕ → Bool} → Passed m next left → ((q : ℕ) → q < 64 → left q ≡ false) → Widened ups slots e m next
+  pub pass-end : {m next : ℕ} {left : ℕ → Bool} → SlotsPassed m next left → ((q : ℕ) → q < 64 → left q ≡ false) → Widened ups slots e m next
   pass-end p none = record { grows = p .grows; sound = p .sound; takes = λ q l. p .takes q l (none q l) }
 
   -- one walk after another
@@ -124,7 +124,7 @@ module _ (ups slots : List ℕ) (e : ℕ) where
   }
 
   -- slot q is looked at, and v is `left` without it
-  module _ {m next : ℕ} {left : ℕ → Bool} (p : Passed m next left) (v : ℕ → Bool) (q : ℕ) (rest : (j : ℕ) → v j ≡ (left j && not (eqb j q))) where
+  module _ {m next : ℕ} {left : ℕ → Bool} (p : SlotsPassed m next left) (v : ℕ → Bool) (q : ℕ) (rest : (j : ℕ) → v j ≡ (left j && not (eqb j q))) where
     now-or-before : (j : ℕ) → v j ≡ false → (j ≡ q) ⊎ (left j ≡ false)
     now-or-before j off = go (ℕ-discrete j q)
       where
@@ -132,7 +132,7 @@ module _ (ups slots : List ℕ) (e : ℕ) where
         go (yes y) = inl y
         go (no n) = inr (sym (and-true (left j)) ∙ ap (λ (b : Bool). left j && not b) (sym (ne-eqb j q n)) ∙ sym (rest j) ∙ off)
 
-    pub pass-on : (next′ : ℕ) → ((j : ℕ) → bit next′ j ≡ (bit next j || eqb j q)) → (inUse (length ups) slots q && under ups next e (getD slots q 0)) ≡ true → Passed m next′ v
+    pub pass-on : (next′ : ℕ) → ((j : ℕ) → bit next′ j ≡ (bit next j || eqb j q)) → (inUse (length ups) slots q && under ups next e (getD slots q 0)) ≡ true → SlotsPassed m next′ v
     pass-on next′ with on = record {
       grows = λ j l y. with j ∙ or-left (bit next j) (eqb j q) (p .grows j l y);
       sound = λ all j l y. ⊎-elim (p .sound all j l)
@@ -142,7 +142,7 @@ module _ (ups slots : List ℕ) (e : ℕ) where
           (λ z. with j ∙ or-left (bit next j) (eqb j q) (p .takes j l z u y)) (now-or-before j off);
     }
 
-    pub pass-off : (inUse (length ups) slots q && under ups next e (getD slots q 0)) ≡ false → Passed m next v
+    pub pass-off : (inUse (length ups) slots q && under ups next e (getD slots q 0)) ≡ false → SlotsPassed m next v
     pass-off none = record {
       grows = p .grows;
       sound = p .sound;

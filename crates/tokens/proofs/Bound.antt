@@ -9,7 +9,7 @@ use Rattle.model.specs.Notation.{_>>=_, each}
 use Rattle.model.specs.Bytes.{Bytes}
 use Rattle.model.specs.Tokens.{Token, tokensWithin, tokensOf}
 use Rattle.model.specs.Declarations.{Declarations}
-use Rattle.model.proofs.Words.{none-is-some}
+use Rattle.model.proofs.WordTables.{none-is-some}
 use Rattle.model.proofs.Options.{bound}
 use Rattle.codes.specs.Codes.{endCode}
 use Rattle.tokens.specs.RuleCode.{carried, encodeToken, ruleCode, size}

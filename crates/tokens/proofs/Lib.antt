@@ -1,12 +1,12 @@
-pub mod Runs
-pub mod Words
+pub mod ByteRuns
+pub mod WordCodes
 pub mod Signs
-pub mod Fronts
+pub mod TextFronts
 pub mod Taken
 pub mod Seen
 pub mod RuleCode
 pub mod SameCode
-pub mod Puts
+pub mod CodePuts
 pub mod Wrote
 pub mod Passed
 pub mod Bound

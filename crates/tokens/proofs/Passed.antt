@@ -12,7 +12,7 @@ use Rattle.model.specs.Bytes.{Bytes}
 use Rattle.model.specs.Tokens.{Token, str, wordByte, tokensWithin, tokensOf}
 use Rattle.model.specs.Declarations.{Declarations}
 use Rattle.model.specs.Refusals.{unknownName}
-use Rattle.model.proofs.Words.{none-is-some}
+use Rattle.model.proofs.WordTables.{none-is-some}
 use Rattle.codes.proofs.TokenKinds.{kind-range}
 use Rattle.model.specs.Standing.{WellDeclared}
 use Rattle.rows.specs.Rows.{AttributeRows}
@@ -21,9 +21,9 @@ use Rattle.tokens.specs.declared.Token.{Token as Placed}
 use Rattle.tokens.specs.declared.Written.{Written}
 use Rattle.tokens.specs.declared.Encoded.{Encoded}
 use Rattle.tokens.specs.RuleCode.{encodeToken, ruleCode, size, Encodes, CodeOf}
-use Rattle.tokens.specs.Reading.{plainCode, codeOf, placed, tokenAt, lead}
+use Rattle.tokens.specs.TokenAt.{plainCode, codeOf, placed, tokenAt, lead}
 use Rattle.tokens.specs.Writing.{TokenStands, Given, Wrote}
-use Rattle.tokens.proofs.Puts.{put-front, put-behind, put-length}
+use Rattle.tokens.proofs.CodePuts.{put-front, put-behind, put-length}
 use Rattle.tokens.proofs.Seen.{within-enough, within-nil, CodeRoom, ReadAt, Seen, ended, refused, read, seen}
 
 -- laws of lists that are gone through from the front

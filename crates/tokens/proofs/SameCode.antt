@@ -18,7 +18,7 @@ use Rattle.model.proofs.Lists.{all-parts}
 use Rattle.codes.specs.Codes.{kindOf}
 use Rattle.codes.proofs.TokenKinds.{kind-range, same-kind, int-kind, str-kind, name-kind}
 use Rattle.rows.specs.Rows.{numberOr}
-use Rattle.rows.proofs.Attributes.{number-injective}
+use Rattle.rows.proofs.RowsOfAttributes.{number-injective}
 use Rattle.tokens.specs.RuleCode.{unknownNumber, ruleCode, Coded, size}
 use Rattle.tokens.proofs.RuleCode.{coded-end, coded-front, name-number, int-value, str-length, str-text}
 

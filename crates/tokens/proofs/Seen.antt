@@ -16,8 +16,8 @@ use Rattle.model.proofs.Options.{bound, condition}
 use Rattle.model.proofs.Lists.{all-cons}
 use Rattle.tokens.specs.declared.Token.{Token as Placed}
 use Rattle.tokens.specs.RuleCode.{size}
-use Rattle.tokens.specs.Reading.{plainCode, codeOf, placed, codedRead, unspaced, tokenIn, tokenAt, lead, inRun}
-use Rattle.tokens.proofs.Runs.{lead-le, unspaced-lead}
+use Rattle.tokens.specs.TokenAt.{plainCode, codeOf, placed, codedRead, unspaced, tokenIn, tokenAt, lead, inRun}
+use Rattle.tokens.proofs.ByteRuns.{lead-le, unspaced-lead}
 use Rattle.tokens.proofs.Taken.{Taken, taken, Cost, word, other}
 
 -- a token leaves fewer bytes

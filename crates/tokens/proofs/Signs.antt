@@ -14,7 +14,7 @@ use Rattle.model.specs.Tokens.{Token, Read, wordByte, run, readWord, readText, 
 use Rattle.model.specs.Atoms.{readInt}
 use Rattle.tokens.specs.declared.Code.{Code}
 use Rattle.tokens.specs.declared.Token.{Token as Placed}
-use Rattle.tokens.specs.Reading.{plainCode, codeOf, placed, codedRead, tokenIn, wordToken}
+use Rattle.tokens.specs.TokenAt.{plainCode, codeOf, placed, codedRead, tokenIn, wordToken}
 
 module _ (n : ℕ) where
   pub at-end : (s : Bytes) → length s < 1 → tokenIn n s ≡ placed (plainCode 0) n

@@ -16,7 +16,7 @@ use Rattle.model.specs.Names.{readName}
 use Rattle.model.specs.Attributes.{Source, readSource}
 use Rattle.model.specs.Atoms.{isText, readInt, quoted}
 use Rattle.model.specs.Tokens.{Token, Read, name, int, str, truth, operator, mark, spelling, capitals, signs, wordByte, run, readAttributeName, readWord, readText, readSign, readToken, isToken}
-use Rattle.model.proofs.Words.{none-is-some}
+use Rattle.model.proofs.WordTables.{none-is-some}
 use Rattle.model.proofs.Options.{parts, both, fields, bound, condition, choice}
 use Rattle.model.proofs.Lists.{all-parts}
 use Rattle.model.proofs.Cuts.{cut-bound, behind-parts}
@@ -24,9 +24,9 @@ use Rattle.model.proofs.Names.{name-exact}
 use Rattle.model.proofs.Decimals.{int-exact}
 use Rattle.codes.specs.Codes.{kindOf}
 use Rattle.tokens.specs.RuleCode.{size}
-use Rattle.tokens.specs.Reading.{lead}
-use Rattle.tokens.proofs.Runs.{run-lead, lead-behind, lead-le}
-use Rattle.tokens.proofs.Words.{one-of-all}
+use Rattle.tokens.specs.TokenAt.{lead}
+use Rattle.tokens.proofs.ByteRuns.{run-lead, lead-behind, lead-le}
+use Rattle.tokens.proofs.WordCodes.{one-of-all}
 
 -- the code of a token for n bytes: a word, behind which no byte of a word stands, takes two bytes more than three for each; any other two less
 pub data Cost (t : Token) (s rest : Bytes) (n : ℕ) : Type 0 where

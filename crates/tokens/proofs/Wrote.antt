@@ -18,7 +18,7 @@ use Rattle.tokens.specs.declared.Code.{Code}
 use Rattle.tokens.specs.declared.Token.{Token as Placed}
 use Rattle.tokens.specs.declared.Written.{Written}
 use Rattle.tokens.specs.RuleCode.{lowBytes, encodeToken, size}
-use Rattle.tokens.specs.Reading.{plainCode, codeOf, sourceIn, lowIn, highIn}
+use Rattle.tokens.specs.TokenAt.{plainCode, codeOf, sourceIn, lowIn, highIn}
 use Rattle.tokens.specs.Writing.{upTo, Put, NamePut, TokenStands, Given, ended, token, Wrote}
 
 -- tokens take a byte at least

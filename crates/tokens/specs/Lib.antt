@@ -1,3 +1,3 @@
 pub mod RuleCode
-pub mod Reading
+pub mod TokenAt
 pub mod Writing

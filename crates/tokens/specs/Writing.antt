@@ -19,7 +19,7 @@ use Rattle.tokens.specs.declared.Code.{Code}
 use Rattle.tokens.specs.declared.Token.{Token as Placed}
 use Rattle.tokens.specs.declared.Written.{Written}
 use Rattle.tokens.specs.RuleCode.{unknownNumber, encodeToken, size}
-use Rattle.tokens.specs.Reading.{plainCode, codeOf}
+use Rattle.tokens.specs.TokenAt.{plainCode, codeOf}
 
 -- up to a place, and no undeclared name
 abbrev pub upTo : ℕ → Written

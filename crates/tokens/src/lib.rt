@@ -7,7 +7,7 @@ ghost use lib.ListN.{length, getD};
 ghost use lib.Dec.{eqb};
 ghost use Rattle.model.specs.Notation.{if_then_else_};
 ghost use Rattle.model.specs.Tokens.{wordByte, readWord, readAttributeName, readText};
-ghost use Rattle.tokens.specs.Reading.{plainCode, codedToken, placed, codedRead, inRun, lead, capitalKind, wordToken, tokenIn, tokenAt};
+ghost use Rattle.tokens.specs.TokenAt.{plainCode, codedToken, placed, codedRead, inRun, lead, capitalKind, wordToken, tokenIn, tokenAt};
 ghost use Rattle.tokens.specs.RuleCode.{lowBytes, Encodes};
 ghost use Rattle.tokens.specs.Writing.{upTo, Put, NamePut, Given, Wrote};
 use codes::AND;

@@ -26,7 +26,7 @@ use Rattle.values.specs.Operands.{Lent, valuesOf, Stands}
 use Rattle.values.specs.Compared.{amongValues, someFound, greatestOf, leastOf, isBelow, orNext, soughtFrom, amongOf, asked, foundOf, ofPresent}
 use Rattle.values.specs.Compared.{toldBy, orEqual, orderOf, likeValues, compareValues, loneOf, Compared, Lone}
 use Rattle.values.proofs.Orders.{below-so, not-above-so}
-use Rattle.values.proofs.Atoms.{all-in, int-small, Typed, among-atoms, common-atoms, subset-atoms, before-atoms, after-atoms}
+use Rattle.values.proofs.ComparedAtoms.{all-in, int-small, Typed, among-atoms, common-atoms, subset-atoms, before-atoms, after-atoms}
 
 -- the ways through the tests of an operator's number
 module _ (n k : ℕ) (l r : List Words) where

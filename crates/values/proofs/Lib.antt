@@ -1,10 +1,10 @@
 pub mod Chosen
-pub mod Places
+pub mod AttributeValues
 pub mod Constants
-pub mod Walks
-pub mod Attributes
+pub mod ValueWalks
+pub mod AttributeOperands
 pub mod Orders
-pub mod Atoms
+pub mod ComparedAtoms
 pub mod Compared
 pub mod Stands
 pub mod RuleConstants

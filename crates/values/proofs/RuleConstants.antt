@@ -18,7 +18,7 @@ use Rattle.model.specs.Block.{number, byteAt, valueAt}
 use Rattle.model.specs.Declarations.{Declarations}
 use Rattle.model.specs.Tokens.{Token, Mark, asConstant}
 use Rattle.model.specs.Grammar.{Items}
-use Rattle.model.proofs.Words.{none-is-some}
+use Rattle.model.proofs.WordTables.{none-is-some}
 use Rattle.model.proofs.Lists.{all-parts, all-cons}
 use Rattle.codes.specs.Codes.{typeCode}
 use Rattle.text.specs.declared.Words.{Words}

@@ -3,7 +3,7 @@ use mathlib.Core.Path.{refl}
 use native.Mathlib.Omega.{arith}
 use borrow.Author.Needs.{needs}
 use Rattle.session.proofs.Entries.{value-small}
-use Rattle.engine.proofs.Answers.{not-held, by-rules}
+use Rattle.engine.proofs.RequestAnswers.{not-held, by-rules}
 use Rattle.engine.proofs.answered.Statement.{statement}
 use Rattle.engine.proofs.answered.Tie as tie
 

@@ -2,7 +2,7 @@ use mathlib.Core.Path.{refl, sym, _∙_}
 use native.Mathlib.Omega.{arith}
 use borrow.Author.Tests.{not-true, not-false}
 use Rattle.engine.proofs.Blocks.{block-room}
-use Rattle.engine.proofs.Answers.{no-block, refuses-numbers, answers, stands-long}
+use Rattle.engine.proofs.RequestAnswers.{no-block, refuses-numbers, answers, stands-long}
 use borrow.Author.Needs.{needs}
 use Rattle.engine.proofs.decide.Statement.{statement}
 use Rattle.engine.proofs.decide.Tie as tie

@@ -7,7 +7,7 @@ use Rattle.model.specs.State.{State}
 use Rattle.model.specs.Block.{Block}
 use Rattle.truth.specs.Truths.{truthOf}
 use Rattle.engine.specs.Requests.{RulesOf}
-use Rattle.engine.proofs.Rules.{NoneTrue, none-yet, one-more, permits, undefines, denies}
+use Rattle.engine.proofs.RuleValues.{NoneTrue, none-yet, one-more, permits, undefines, denies}
 use Rattle.engine.proofs.decided.Statement.{statement}
 use Rattle.engine.proofs.decided.Tie as tie
 use Rattle.engine.proofs.decided.Reads as reads

@@ -7,7 +7,7 @@ use lib.ListN.{length}
 use Rattle.model.specs.Declarations.{Declarations}
 use Rattle.model.specs.Refusals.{entryFits}
 use Rattle.rows.specs.Rows.{AttributeRows}
-use Rattle.engine.proofs.Entries.{entryAt, all-fit, one-does-not, so-far, told-of}
+use Rattle.engine.proofs.EntryTests.{entryAt, all-fit, one-does-not, so-far, told-of}
 use Rattle.engine.proofs.entries_fit.Statement.{statement}
 use Rattle.engine.proofs.entries_fit.Tie as tie
 use Rattle.engine.proofs.entries_fit.Reads as reads

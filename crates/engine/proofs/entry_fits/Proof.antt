@@ -1,5 +1,5 @@
 use native.Mathlib.Omega.{arith}
-use Rattle.engine.proofs.Entries.{no-number, not-from-block, no-bool, a-bool}
+use Rattle.engine.proofs.EntryTests.{no-number, not-from-block, no-bool, a-bool}
 use borrow.Author.Needs.{needs}
 use Rattle.engine.proofs.entry_fits.Statement.{statement}
 use Rattle.engine.proofs.entry_fits.Tie as tie

@@ -2,7 +2,7 @@ use mathlib.Core.Path.{ap}
 use Rattle.model.specs.Decision.{isUndef}
 use Rattle.truth.specs.declared.Truth.{Truth}
 use Rattle.truth.specs.Truths.{truthOf}
-use Rattle.engine.proofs.Rules.{as-before, now-undef}
+use Rattle.engine.proofs.RuleValues.{as-before, now-undef}
 use borrow.Author.Needs.{needs}
 use Rattle.engine.proofs.or_undef.Statement.{statement}
 use Rattle.engine.proofs.or_undef.Tie as tie

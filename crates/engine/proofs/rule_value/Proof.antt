@@ -1,4 +1,4 @@
-use Rattle.engine.proofs.Rules.{other-operation, its-operation}
+use Rattle.engine.proofs.RuleValues.{other-operation, its-operation}
 use borrow.Author.Needs.{needs}
 use Rattle.engine.proofs.rule_value.Statement.{statement}
 use Rattle.engine.proofs.rule_value.Tie as tie

@@ -1,6 +1,6 @@
 use native.Mathlib.Omega.{arith}
 use borrow.Author.Tests.{not-true, not-false}
-use Rattle.engine.proofs.Numbers.{no-user, no-object, no-operation, by-entries}
+use Rattle.engine.proofs.BlockNumbers.{no-user, no-object, no-operation, by-entries}
 use borrow.Author.Needs.{needs}
 use Rattle.engine.proofs.wrong_number.Statement.{statement}
 use Rattle.engine.proofs.wrong_number.Tie as tie

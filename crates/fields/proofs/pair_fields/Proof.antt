@@ -4,7 +4,7 @@ use native.Mathlib.Omega.{arith}
 use borrow.Author.Tests.{not-true, not-false}
 use lib.ListN.{take}
 use lib.Seq.{length-take-le}
-use Rattle.fields.proofs.Places.{cut-there}
+use Rattle.fields.proofs.CutParts.{cut-there}
 use Rattle.fields.proofs.Forms.{pair-uncut, pair-undotted, pair-refused, pair-given}
 use borrow.Author.Needs.{needs}
 use Rattle.fields.proofs.pair_fields.Statement.{statement}

@@ -3,7 +3,7 @@ use mathlib.Core.Path.{sym}
 use native.Mathlib.Omega.{arith}
 use borrow.Author.Tests.{not-true, not-false}
 use lib.Seq.{length-take-le}
-use Rattle.fields.proofs.Places.{cut-there}
+use Rattle.fields.proofs.CutParts.{cut-there}
 use Rattle.fields.proofs.Forms.{two-uncut, no-lower, no-upper, two-given}
 use borrow.Author.Needs.{needs}
 use Rattle.fields.proofs.two_fields.Statement.{statement}

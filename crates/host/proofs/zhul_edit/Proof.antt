@@ -1,5 +1,5 @@
 -- `zhul_edit` meets its contract. Assumes nothing.
-use Rattle.host.proofs.Packing.{edit-unpacked}
+use Rattle.host.proofs.NumberParts.{edit-unpacked}
 use borrow.Author.Needs.{needs}
 use Rattle.host.proofs.zhul_edit.Statement.{statement}
 use Rattle.host.proofs.zhul_edit.Tie as tie

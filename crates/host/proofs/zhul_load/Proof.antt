@@ -1,5 +1,5 @@
 -- `zhul_load` meets its contract. Assumes nothing.
-use Rattle.host.proofs.Packing.{load-unpacked}
+use Rattle.host.proofs.NumberParts.{load-unpacked}
 use borrow.Author.Needs.{needs}
 use Rattle.host.proofs.zhul_load.Statement.{statement}
 use Rattle.host.proofs.zhul_load.Tie as tie

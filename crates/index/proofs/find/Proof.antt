@@ -2,7 +2,7 @@
 use Prim.Native.Nat.{_≤_}
 use native.Mathlib.Omega.{arith}
 use borrow.Author.Needs.{needs}
-use Rattle.index.proofs.Chains.{Walks, walks-start, walks-on, walks-found, walks-end}
+use Rattle.index.proofs.ChainWalks.{Walks, walks-start, walks-on, walks-found, walks-end}
 use Rattle.index.proofs.find.Statement.{statement}
 use Rattle.index.proofs.find.Tie as tie
 

@@ -1,7 +1,7 @@
 -- `index::is_at` meets its contract. Assumes nothing.
 use borrow.Author.Tests.{eq-eqb, ne-eqb}
 use Rattle.index.specs.Index.{isAt}
-use Rattle.index.proofs.Chains.{last-part}
+use Rattle.index.proofs.ChainWalks.{last-part}
 use borrow.Author.Needs.{needs}
 use Rattle.index.proofs.is_at.Statement.{statement}
 use Rattle.index.proofs.is_at.Tie as tie

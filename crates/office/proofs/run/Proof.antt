@@ -2,8 +2,8 @@
 use mathlib.Core.Path.{sym}
 use native.Mathlib.Omega.{arith}
 use lib.Seq.{length-take-le}
-use Rattle.text.proofs.Places.{tail-part}
-use Rattle.office.specs.Answers.{lent}
+use Rattle.text.proofs.LoopPlaces.{tail-part}
+use Rattle.office.specs.Answers.{memory}
 use Rattle.office.proofs.Whole.{commands-as, too-long, whole}
 use borrow.Author.Needs.{needs}
 use Rattle.office.proofs.run.Statement.{statement}
@@ -67,7 +67,7 @@ returns-2 c =
     let p = c .before .before .before .before .before .before .before .before .before .before .before .before .before .before .before .before .before .before .before .split in
     let l = c .before .before .before .before .before .before .before .before .before .before .before .before .before .before .load in
     whole (h .args .input .now) (p .result) (omega (arith, c .before .before .before .before .before .before .before .before .before .before .before .before .before .before .before .before .before .before .before .before .if1 .left)) (p .ensures) (h .pre) _ (sym (slice-aggregate-load-2 (c .before .before .before .before .before .before .before .before .before .before .before .before .before .before .before)))
-    (lent (l .last .1 .0) (l .last .1 .1 .0) (l .last .1 .1 .1 .0)) (l .ensures) (c .before .before .before .before .before .before .before .before .before .before .before .put-load2 .ensures)
+    (memory (l .last .1 .0) (l .last .1 .1 .0) (l .last .1 .1 .1 .0)) (l .ensures) (c .before .before .before .before .before .before .before .before .before .before .before .put-load2 .ensures)
     (commands-as (tail-part (p .result .commands) (h .args .input .now)) (c .before .before .before .answer-commands .ensures))
 
 pub run-spec : {M : Type 1} → statement M

@@ -2,7 +2,7 @@ use Prim.Native.Nat.{_-_}
 use native.Mathlib.Omega.{arith}
 use lib.ListN.{length}
 use borrow.Author.Needs.{needs}
-use Rattle.policy.proofs.Sets.{items-short, items-other, items-within, items-last, items-more, items-off}
+use Rattle.policy.proofs.VarsInCode.{items-short, items-other, items-within, items-last, items-more, items-off}
 use Prim.Native.Nat.{ℕ, _<_}
 use borrow.Fn.Kinds.{In}
 use borrow.Fn.PlainCycle.{Measures, is, falls, and}

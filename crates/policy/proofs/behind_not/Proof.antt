@@ -2,7 +2,7 @@ use native.Mathlib.Omega.{arith}
 use mathlib.Core.Path.{sym, _∙_}
 use lib.ListN.{getD}
 use borrow.Author.Tests.{eqb-true}
-use Rattle.policy.proofs.Fronts.{inside}
+use Rattle.policy.proofs.CodeFronts.{inside}
 use borrow.Author.Needs.{needs}
 use Rattle.policy.proofs.behind_not.Statement.{statement}
 use Rattle.policy.proofs.behind_not.Tie as tie

@@ -1,5 +1,5 @@
 use native.Mathlib.Omega.{arith}
-use Rattle.policy.proofs.Parts.{close-none, close-off, close-within, close-on}
+use Rattle.policy.proofs.JoinedParts.{close-none, close-off, close-within, close-on}
 use borrow.Author.Needs.{needs}
 use Rattle.policy.proofs.close.Statement.{statement}
 use Rattle.policy.proofs.close.Tie as tie

@@ -1,5 +1,5 @@
 use mathlib.Core.Path.{_∙_}
-use Rattle.policy.proofs.Sets.{end-int, end-str}
+use Rattle.policy.proofs.VarsInCode.{end-int, end-str}
 use borrow.Author.Needs.{needs}
 use Rattle.policy.proofs.constant_end.Statement.{statement}
 use Rattle.policy.proofs.constant_end.Tie as tie

@@ -1,4 +1,4 @@
-use Rattle.policy.proofs.Parts.{join-none, join-on}
+use Rattle.policy.proofs.JoinedParts.{join-none, join-on}
 use borrow.Author.Needs.{needs}
 use Rattle.policy.proofs.join.Statement.{statement}
 use Rattle.policy.proofs.join.Tie as tie

@@ -1,5 +1,5 @@
 use mathlib.Core.Path.{refl}
-use Rattle.policy.proofs.Parts.{not-leaf, not-open, not-neither}
+use Rattle.policy.proofs.JoinedParts.{not-leaf, not-open, not-neither}
 use borrow.Author.Needs.{needs}
 use Rattle.policy.proofs.not_head.Statement.{statement}
 use Rattle.policy.proofs.not_head.Tie as tie

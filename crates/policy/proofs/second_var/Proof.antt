@@ -2,7 +2,7 @@ use native.Mathlib.Omega.{arith}
 use mathlib.Core.Path.{sym, _∙_}
 use mathlib.Core.Bool.{true≢false}
 use borrow.Author.Tests.{not-true, not-false}
-use Rattle.policy.proofs.Fronts.{inside}
+use Rattle.policy.proofs.CodeFronts.{inside}
 use Rattle.policy.proofs.Heads.{no-operator, an-operator, no-second-var, second-var}
 use borrow.Author.Needs.{needs}
 use Rattle.policy.proofs.second_var.Statement.{statement}

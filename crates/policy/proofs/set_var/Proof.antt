@@ -1,7 +1,7 @@
 use mathlib.Core.Logic.{⊎-elim}
 use native.Mathlib.Omega.{arith}
 use borrow.Author.Tests.{not-true, not-false}
-use Rattle.policy.proofs.Sets.{set-none, set-off, set-on}
+use Rattle.policy.proofs.VarsInCode.{set-none, set-off, set-on}
 use borrow.Author.Needs.{needs}
 use Rattle.policy.proofs.set_var.Statement.{statement}
 use Rattle.policy.proofs.set_var.Tie as tie

@@ -1,5 +1,5 @@
 use native.Mathlib.Omega.{arith}
-use Rattle.policy.proofs.Fronts.{inside}
+use Rattle.policy.proofs.CodeFronts.{inside}
 use Rattle.policy.proofs.Heads.{simple-open, simple-truth, simple-neither}
 use borrow.Author.Needs.{needs}
 use Rattle.policy.proofs.simple_head.Statement.{statement}

@@ -1,7 +1,7 @@
 use mathlib.Core.Logic.{⊎-elim}
 use mathlib.Core.Path.{_∙_}
 use native.Mathlib.Omega.{arith}
-use Rattle.policy.proofs.Sets.{var-within, var-constant, var-name, var-set, var-none}
+use Rattle.policy.proofs.VarsInCode.{var-within, var-constant, var-name, var-set, var-none}
 use borrow.Author.Needs.{needs}
 use Rattle.policy.proofs.var_at.Statement.{statement}
 use Rattle.policy.proofs.var_at.Tie as tie

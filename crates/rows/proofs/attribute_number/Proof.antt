@@ -6,7 +6,7 @@ use mathlib.Core.Bool.{false}
 use borrow.Author.Count.{below-more}
 use borrow.Author.Needs.{needs}
 use Rattle.rows.specs.Rows.{rowNamed, Numbered}
-use Rattle.rows.proofs.Attributes.{searched, found}
+use Rattle.rows.proofs.RowsOfAttributes.{searched, found}
 use Rattle.rows.proofs.attribute_number.Statement.{statement}
 use Rattle.rows.proofs.attribute_number.Tie as tie
 

@@ -4,7 +4,7 @@ use lib.ListN.{getD}
 use borrow.Author.Tests.{eq-eqb, ne-eqb}
 use borrow.Author.Needs.{needs}
 use Rattle.rows.specs.Rows.{rowNamed}
-use Rattle.rows.proofs.Attributes.{last-test}
+use Rattle.rows.proofs.RowsOfAttributes.{last-test}
 use Rattle.rows.proofs.is_named.Statement.{statement}
 use Rattle.rows.proofs.is_named.Tie as tie
 

@@ -3,7 +3,7 @@ use mathlib.Core.Path.{sym, ap, _∙_}
 use mathlib.Core.Bool.{Bool, _||_, or-false}
 use Rattle.bits.specs.Bits.{member}
 use Rattle.bits.proofs.Sets.{member-part}
-use Rattle.sets.proofs.Parts.{holds-past}
+use Rattle.sets.proofs.LentSets.{holds-past}
 use borrow.Author.Needs.{needs}
 use Rattle.sets.proofs.inherit.Statement.{statement}
 use native.Mathlib.Omega.{arith}

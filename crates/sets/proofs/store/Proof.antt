@@ -4,7 +4,7 @@ use Prim.Native.Nat.{_≤_, _+_, _*_}
 use lib.ListN.{length}
 use borrow.Rule.Slice.PartMut.{mid-len}
 use Rattle.bits.proofs.Sets.{member-part}
-use Rattle.sets.proofs.Parts.{holds-put, put-others}
+use Rattle.sets.proofs.LentSets.{holds-put, put-others}
 use Rattle.sets.proofs.Telling.{unlike-same, unlike-put}
 use native.Mathlib.Omega.{arith}
 use borrow.Author.Needs.{needs}

@@ -6,7 +6,7 @@ use borrow.Author.Tests.{not-true, not-false}
 use lib.ListN.{length, drop}
 use Rattle.model.specs.Notation.{all}
 use Rattle.text.specs.Parts.{inClass}
-use Rattle.text.proofs.Places.{all-on, all-off, all-end}
+use Rattle.text.proofs.LoopPlaces.{all-on, all-off, all-end}
 use Rattle.text.proofs.all_in.Statement.{statement}
 use Rattle.text.proofs.all_in.Tie as tie
 

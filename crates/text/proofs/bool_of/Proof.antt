@@ -5,9 +5,9 @@ use mathlib.Core.Bool.{true, false}
 use Rattle.model.specs.Notation.{if_then_else_}
 use Rattle.model.specs.Bytes.{Bytes, same}
 use Rattle.model.specs.Atoms.{boolWord, readBool}
-use Rattle.model.proofs.Words.{bools}
+use Rattle.model.proofs.WordTables.{bools}
 use Rattle.codes.specs.Codes.{boolCode}
-use Rattle.text.specs.Codes.{boolNumber}
+use Rattle.text.specs.ReadCodes.{boolNumber}
 use Rattle.codes.proofs.Codes.{selected, coded-one-of}
 use Rattle.text.proofs.bool_of.Statement.{statement}
 use Rattle.text.proofs.bool_of.Tie as tie

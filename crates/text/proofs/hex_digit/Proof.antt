@@ -1,6 +1,6 @@
 -- `text::hex_digit` meets its contract, range by range.
 use mathlib.Core.Path.{sym}
-use Rattle.text.proofs.Pairs.{below-digits, in-digits, between, in-letters, above-letters}
+use Rattle.text.proofs.HexPairs.{below-digits, in-digits, between, in-letters, above-letters}
 use borrow.Author.Needs.{needs}
 use Rattle.text.proofs.hex_digit.Statement.{statement}
 use Rattle.text.proofs.hex_digit.Tie as tie

@@ -9,7 +9,7 @@ use lib.ListN.{length, getD, take, drop}
 use lib.Seq.{take-all, split-at}
 use Rattle.model.specs.Bytes.{Bytes, cut}
 use Rattle.model.proofs.Cuts.{lacks, cut-joined}
-use Rattle.text.proofs.Places.{lacks-more, cut-lacks}
+use Rattle.text.proofs.LoopPlaces.{lacks-more, cut-lacks}
 use Rattle.text.specs.Parts.{FirstAt}
 use Rattle.text.proofs.index_of.Statement.{statement}
 use Rattle.text.proofs.index_of.Tie as tie

@@ -2,8 +2,8 @@
 use mathlib.Core.Path.{_≡_, sym, ap, _∙_}
 use mathlib.Core.Bool.{true, false}
 use borrow.Author.Needs.{needs}
-use Rattle.text.specs.Codes.{isDecimal, codedInt}
-use Rattle.text.proofs.Numbers.{int-decimal, int-other}
+use Rattle.text.specs.ReadCodes.{isDecimal, codedInt}
+use Rattle.text.proofs.DecimalDigits.{int-decimal, int-other}
 use Rattle.text.proofs.int_of.Statement.{statement}
 use Rattle.text.proofs.int_of.Tie as tie
 

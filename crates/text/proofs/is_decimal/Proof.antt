@@ -6,8 +6,8 @@ use borrow.Author.Needs.{needs}
 use borrow.Author.Tests.{le-leb, lt-leb, not-true, not-false}
 use Rattle.model.specs.Notation.{all}
 use Rattle.model.proofs.Decimals.{digit}
-use Rattle.text.specs.Codes.{isDecimal}
-use Rattle.text.proofs.Numbers.{lead-one, lead-more}
+use Rattle.text.specs.ReadCodes.{isDecimal}
+use Rattle.text.proofs.DecimalDigits.{lead-one, lead-more}
 use Rattle.text.proofs.is_decimal.Statement.{statement}
 use Rattle.text.proofs.is_decimal.Tie as tie
 

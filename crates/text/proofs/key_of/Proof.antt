@@ -5,7 +5,7 @@ use Rattle.model.specs.Notation.{if_then_else_}
 use Rattle.model.specs.Bytes.{Bytes, same}
 use Rattle.model.specs.Keys.{Key, keyWord, keys}
 use Rattle.codes.specs.Codes.{keyCode}
-use Rattle.text.specs.Codes.{keyNumber}
+use Rattle.text.specs.ReadCodes.{keyNumber}
 use Rattle.codes.proofs.Codes.{selected, coded-one-of}
 use Rattle.text.proofs.key_of.Statement.{statement}
 use Rattle.text.proofs.key_of.Tie as tie

@@ -4,7 +4,7 @@ use mathlib.Core.Path.{_≡_, refl, sym, ap, _∙_}
 use native.Mathlib.Omega.{arith}
 use lib.ListN.{length, getD, drop}
 use Rattle.model.specs.Atoms.{numberFrom}
-use Rattle.text.proofs.Numbers.{decimal-at, number-on, number-end, number-grows, limited-large, limited-small}
+use Rattle.text.proofs.DecimalDigits.{decimal-at, number-on, number-end, number-grows, limited-large, limited-small}
 use Rattle.text.proofs.number_of.Statement.{statement}
 use Rattle.text.proofs.number_of.Tie as tie
 

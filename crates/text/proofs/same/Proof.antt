@@ -3,7 +3,7 @@ use mathlib.Core.Path.{_≡_, refl, sym, _∙_}
 use native.Mathlib.Omega.{arith}
 use lib.ListN.{length, drop}
 use Rattle.model.specs.Bytes.{same}
-use Rattle.text.proofs.Places.{same-length, same-on, same-off, same-end}
+use Rattle.text.proofs.LoopPlaces.{same-length, same-on, same-off, same-end}
 use Rattle.text.proofs.same.Statement.{statement}
 use Rattle.text.proofs.same.Tie as tie
 use Rattle.text.proofs.same.Reads as reads

@@ -5,7 +5,7 @@ use Rattle.model.specs.Notation.{if_then_else_}
 use Rattle.model.specs.Bytes.{Bytes, same}
 use Rattle.model.specs.Attributes.{Source, sourceWord, sources}
 use Rattle.codes.specs.Codes.{sourceCode}
-use Rattle.text.specs.Codes.{sourceNumber}
+use Rattle.text.specs.ReadCodes.{sourceNumber}
 use Rattle.codes.proofs.Codes.{selected, coded-one-of}
 use Rattle.text.proofs.source_of.Statement.{statement}
 use Rattle.text.proofs.source_of.Tie as tie

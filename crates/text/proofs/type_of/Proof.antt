@@ -5,7 +5,7 @@ use Rattle.model.specs.Notation.{if_then_else_}
 use Rattle.model.specs.Bytes.{Bytes, same}
 use Rattle.model.specs.Attributes.{AtomType, typeWord, types}
 use Rattle.codes.specs.Codes.{typeCode}
-use Rattle.text.specs.Codes.{typeNumber}
+use Rattle.text.specs.ReadCodes.{typeNumber}
 use Rattle.codes.proofs.Codes.{selected, coded-one-of}
 use Rattle.text.proofs.type_of.Statement.{statement}
 use Rattle.text.proofs.type_of.Tie as tie

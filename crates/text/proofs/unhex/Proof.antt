@@ -10,7 +10,7 @@ use lib.Dec.{eqb}
 use Rattle.model.specs.Notation.{isNone}
 use Rattle.model.specs.Bytes.{Bytes}
 use Rattle.text.specs.Hex.{Unhexed}
-use Rattle.text.proofs.Pairs.{so-far, so-far-start, so-far-more, stops, ends, filled, pair-code, no-pair}
+use Rattle.text.proofs.HexPairs.{so-far, so-far-start, so-far-more, stops, ends, filled, pair-code, no-pair}
 use Rattle.text.proofs.unhex.Statement.{statement}
 use Rattle.text.proofs.unhex.Tie as tie
 

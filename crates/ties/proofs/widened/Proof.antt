@@ -6,14 +6,14 @@ use borrow.Author.Tests.{not-false}
 use Rattle.bits.specs.Bits.{bit, countBelow}
 use Rattle.bits.proofs.Bits.{bit-none, bit-not}
 use Rattle.bits.proofs.Walks.{fewer-left}
-use Rattle.ties.proofs.Widening.{Passed, pass-start, pass-end, pass-on, pass-off}
+use Rattle.ties.proofs.Widening.{SlotsPassed, pass-start, pass-end, pass-on, pass-off}
 use borrow.Author.Needs.{needs}
 use native.Mathlib.Omega.{arith}
 use Rattle.ties.proofs.widened.Statement.{statement}
 use Rattle.ties.proofs.widened.Tie as tie
 
 abbrev Inv-loop : tie.InvT-loop
-Inv-loop ups slots m e next₀ left₀ next left = Passed ups slots e m next (bit left)
+Inv-loop ups slots m e next₀ left₀ next left = SlotsPassed ups slots e m next (bit left)
 
 abbrev μ-loop : tie.MeasureT-loop
 μ-loop ups slots m e next₀ left₀ next left = countBelow 64 (bit left)

@@ -5,7 +5,7 @@ use Prim.Native.Nat.{ℕ, _-_, _<_, _≤_}
 use native.Mathlib.Decide.{ℕ-discrete, decLt}
 use lib.Dec.{eqb, ltb}
 use borrow.Author.Tests.{eq-eqb, ne-eqb, lt-ltb, le-ltb}
-use Rattle.ties.proofs.Widening.{Passed, pass-start, pass-end, pass-on, pass-off}
+use Rattle.ties.proofs.Widening.{SlotsPassed, pass-start, pass-end, pass-on, pass-off}
 use borrow.Author.Needs.{needs}
 use native.Mathlib.Omega.{arith}
 use Rattle.ties.proofs.widened_down.Statement.{statement}
@@ -21,7 +21,7 @@ lower q some j = go (ℕ-discrete j (q - 1)) (decLt j (q - 1))
     go (no n) (no l) = simp (le-ltb j (q - 1) (omega arith), le-ltb j q (omega arith))
 
 abbrev Inv-loop : tie.InvT-loop
-Inv-loop ups slots m e next₀ q₀ next q = (q ≤ 64) × Passed ups slots e m next (λ j. ltb j q)
+Inv-loop ups slots m e next₀ q₀ next q = (q ≤ 64) × SlotsPassed ups slots e m next (λ j. ltb j q)
 
 abbrev μ-loop : tie.MeasureT-loop
 μ-loop ups slots m e next₀ q₀ next q = q

@@ -6,7 +6,7 @@ use Rattle.model.specs.Bytes.{Bytes, bytes, same}
 use Rattle.model.specs.Tokens.{spelling, capitals}
 use Rattle.codes.proofs.Codes.{selected, coded-one-of}
 use Rattle.codes.specs.Codes.{kindOf}
-use Rattle.tokens.specs.Reading.{capitalKind}
+use Rattle.tokens.specs.TokenAt.{capitalKind}
 use Rattle.tokens.proofs.capital_of.Statement.{statement}
 use Rattle.tokens.proofs.capital_of.Tie as tie
 

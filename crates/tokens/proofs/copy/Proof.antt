@@ -6,7 +6,7 @@ use native.Mathlib.Numerals.{add-one}
 use lib.ListN.{length, getD, set}
 use lib.Seq.{paste, paste-zero, paste-suc, length-paste}
 use Rattle.model.specs.Bytes.{Bytes}
-use Rattle.tokens.proofs.Puts.{put-paste}
+use Rattle.tokens.proofs.CodePuts.{put-paste}
 use Rattle.tokens.proofs.copy.Statement.{statement}
 use Rattle.tokens.proofs.copy.Tie as tie
 

@@ -2,7 +2,7 @@
 use mathlib.Core.Path.{_≡_, sym, ap, _∙_}
 use mathlib.Core.Bool.{Bool}
 use Rattle.model.specs.Notation.{if_then_else_}
-use Rattle.tokens.specs.Reading.{plainCode, placed}
+use Rattle.tokens.specs.TokenAt.{plainCode, placed}
 use borrow.Author.Needs.{needs}
 use Rattle.tokens.proofs.either.Statement.{statement}
 use Rattle.tokens.proofs.either.Tie as tie

@@ -3,7 +3,7 @@ use Prim.Native.Nat.{ℕ, zero, suc}
 use mathlib.Core.Path.{_≡_, refl, sym, ap, _∙_}
 use borrow.Author.Needs.{needs}
 use Rattle.model.specs.Tokens.{wordByte}
-use Rattle.tokens.specs.Reading.{inRun}
+use Rattle.tokens.specs.TokenAt.{inRun}
 use Rattle.tokens.proofs.in_run.Statement.{statement}
 use Rattle.tokens.proofs.in_run.Tie as tie
 

@@ -11,9 +11,9 @@ use Rattle.model.specs.Names.{isName}
 use Rattle.text.specs.declared.Packed.{Packed}
 use Rattle.text.specs.Packing.{packedOf}
 use Rattle.text.proofs.Packing.{name-length}
-use Rattle.tokens.specs.Reading.{codeWith}
-use Rattle.tokens.proofs.Runs.{tail-part}
-use Rattle.tokens.proofs.Words.{no-dot, no-source, no-name, named}
+use Rattle.tokens.specs.TokenAt.{codeWith}
+use Rattle.tokens.proofs.ByteRuns.{tail-part}
+use Rattle.tokens.proofs.WordCodes.{no-dot, no-source, no-name, named}
 use borrow.Author.Needs.{needs}
 use Rattle.tokens.proofs.name_in.Statement.{statement}
 use Rattle.tokens.proofs.name_in.Tie as tie

@@ -4,8 +4,8 @@ use mathlib.Core.Path.{_≡_, refl, sym, _∙_}
 use native.Mathlib.Omega.{arith}
 use borrow.Author.Tests.{not-true, not-false}
 use lib.ListN.{length, drop}
-use Rattle.tokens.specs.Reading.{lead, inRun}
-use Rattle.tokens.proofs.Runs.{lead-on, lead-off, lead-end}
+use Rattle.tokens.specs.TokenAt.{lead, inRun}
+use Rattle.tokens.proofs.ByteRuns.{lead-on, lead-off, lead-end}
 use Rattle.tokens.proofs.run_length.Statement.{statement}
 use Rattle.tokens.proofs.run_length.Tie as tie
 

@@ -5,8 +5,8 @@ use mathlib.Core.Bool.{true, false}
 use native.Mathlib.Omega.{arith}
 use borrow.Author.Tests.{not-true, not-false}
 use lib.Seq.{length-take-le}
-use Rattle.tokens.specs.Reading.{codeWith, placed}
-use Rattle.tokens.proofs.Fronts.{no-end, no-text, text}
+use Rattle.tokens.specs.TokenAt.{codeWith, placed}
+use Rattle.tokens.proofs.TextFronts.{no-end, no-text, text}
 use borrow.Author.Needs.{needs}
 use Rattle.tokens.proofs.text_token.Statement.{statement}
 use Rattle.tokens.proofs.text_token.Tie as tie

@@ -4,9 +4,9 @@ use mathlib.Core.Path.{_≡_, sym, ap, _∙_}
 use native.Mathlib.Omega.{arith}
 use lib.ListN.{length, take, drop}
 use Rattle.model.specs.Bytes.{Bytes}
-use Rattle.text.proofs.Places.{done}
-use Rattle.tokens.specs.Reading.{tokenIn, tokenAt, unspaced, inRun}
-use Rattle.tokens.proofs.Runs.{lead-le, unspaced-lead, tail-part}
+use Rattle.text.proofs.LoopPlaces.{done}
+use Rattle.tokens.specs.TokenAt.{tokenIn, tokenAt, unspaced, inRun}
+use Rattle.tokens.proofs.ByteRuns.{lead-le, unspaced-lead, tail-part}
 use borrow.Author.Needs.{needs}
 use Rattle.tokens.proofs.token_at.Statement.{statement}
 use Rattle.tokens.proofs.token_at.Tie as tie

@@ -5,8 +5,8 @@ use mathlib.Core.Option.{none, some}
 use lib.ListN.{length, drop, length-drop}
 use Rattle.model.specs.Bytes.{Bytes}
 use Rattle.model.specs.Tokens.{operator, unequal, less, atMost, greater, atLeast, readText, readToken}
-use Rattle.tokens.specs.Reading.{plainCode, placed, codedRead, tokenIn}
-use Rattle.tokens.proofs.Runs.{tail-part}
+use Rattle.tokens.specs.TokenAt.{plainCode, placed, codedRead, tokenIn}
+use Rattle.tokens.proofs.ByteRuns.{tail-part}
 use Rattle.tokens.proofs.Signs.{at-end, at-sign, at-equals, at-text, at-word}
 use borrow.Author.Needs.{needs}
 use Rattle.tokens.proofs.token_in.Statement.{statement}

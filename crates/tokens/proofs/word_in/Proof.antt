@@ -3,7 +3,7 @@ use mathlib.Core.Path.{_≡_, sym, _∙_}
 use mathlib.Core.Option.{none}
 use Rattle.model.specs.Atoms.{readInt}
 use Rattle.text.proofs.Values.{no-int}
-use Rattle.tokens.proofs.Words.{capital, no-capital, number, attribute}
+use Rattle.tokens.proofs.WordCodes.{capital, no-capital, number, attribute}
 use borrow.Author.Needs.{needs}
 use Rattle.tokens.proofs.word_in.Statement.{statement}
 use Rattle.tokens.proofs.word_in.Tie as tie

@@ -5,9 +5,9 @@ use native.Mathlib.Omega.{arith}
 use lib.ListN.{length, take}
 use lib.Seq.{length-take-le}
 use Rattle.model.specs.Tokens.{readWord}
-use Rattle.tokens.specs.Reading.{codedToken, placed, inRun}
-use Rattle.tokens.proofs.Runs.{lead-le}
-use Rattle.tokens.proofs.Fronts.{no-word, word}
+use Rattle.tokens.specs.TokenAt.{codedToken, placed, inRun}
+use Rattle.tokens.proofs.ByteRuns.{lead-le}
+use Rattle.tokens.proofs.TextFronts.{no-word, word}
 use borrow.Author.Needs.{needs}
 use Rattle.tokens.proofs.word_token.Statement.{statement}
 use Rattle.tokens.proofs.word_token.Tie as tie

@@ -4,7 +4,7 @@ use mathlib.Core.List.{[], _∷_}
 use native.Mathlib.Omega.{arith}
 use lib.ListN.{length-set}
 use Rattle.tokens.specs.RuleCode.{lowBytes}
-use Rattle.tokens.proofs.Puts.{put-five, put-as}
+use Rattle.tokens.proofs.CodePuts.{put-five, put-as}
 use borrow.Author.Needs.{needs}
 use Rattle.tokens.proofs.write_int.Statement.{statement}
 use Rattle.tokens.proofs.write_int.Tie as tie

@@ -1,6 +1,6 @@
 -- `tokens::write_kind` meets its contract.
 use native.Mathlib.Omega.{arith}
-use Rattle.tokens.proofs.Puts.{put-one}
+use Rattle.tokens.proofs.CodePuts.{put-one}
 use borrow.Author.Needs.{needs}
 use Rattle.tokens.proofs.write_kind.Statement.{statement}
 use Rattle.tokens.proofs.write_kind.Tie as tie

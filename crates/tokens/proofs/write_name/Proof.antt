@@ -9,8 +9,8 @@ use Rattle.model.specs.Notation.{isNone}
 use Rattle.tokens.specs.declared.Written.{Written}
 use Rattle.model.specs.Declarations.{attributeNumber}
 use Rattle.rows.specs.Rows.{numberOr, AttributeRows}
-use Rattle.rows.proofs.Attributes.{number-small}
-use Rattle.tokens.proofs.Puts.{put-two}
+use Rattle.rows.proofs.RowsOfAttributes.{number-small}
+use Rattle.tokens.proofs.CodePuts.{put-two}
 use borrow.Author.Needs.{needs}
 use Rattle.tokens.proofs.write_name.Statement.{statement}
 use Rattle.tokens.proofs.write_name.Tie as tie

@@ -3,7 +3,7 @@ use Prim.Native.Nat.{_+_}
 use mathlib.Core.Path.{_≡_, refl}
 use native.Mathlib.Omega.{arith}
 use lib.ListN.{length, length-set}
-use Rattle.tokens.proofs.Puts.{put-two, put-put, put-length}
+use Rattle.tokens.proofs.CodePuts.{put-two, put-put, put-length}
 use borrow.Author.Needs.{needs}
 use Rattle.tokens.proofs.write_text.Statement.{statement}
 use Rattle.tokens.proofs.write_text.Tie as tie

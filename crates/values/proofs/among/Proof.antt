@@ -10,7 +10,7 @@ use Rattle.text.specs.declared.Words.{Words}
 use Rattle.text.specs.Values.{sameWords}
 use Rattle.values.specs.Operands.{lent, valuesFrom, valuesOf}
 use Rattle.values.specs.Compared.{isFalse, soughtFrom, amongOf}
-use Rattle.values.proofs.Walks.{fewer, sought-none, sought-here, sought-on}
+use Rattle.values.proofs.ValueWalks.{fewer, sought-none, sought-here, sought-on}
 use Rattle.values.proofs.among.Statement.{statement}
 use Rattle.values.proofs.among.Tie as tie
 use Rattle.values.proofs.among.Reads as reads

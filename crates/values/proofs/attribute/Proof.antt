@@ -1,5 +1,5 @@
 use mathlib.Core.Path.{ap, _∙_}
-use Rattle.values.proofs.Attributes.{no-number, no-row, in-words, in-entries}
+use Rattle.values.proofs.AttributeOperands.{no-number, no-row, in-words, in-entries}
 use borrow.Author.Needs.{needs}
 use Rattle.values.proofs.attribute.Statement.{statement}
 use Rattle.values.proofs.attribute.Tie as tie

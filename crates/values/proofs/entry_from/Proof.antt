@@ -1,7 +1,7 @@
 use native.Mathlib.Omega.{arith}
 use mathlib.Core.Path.{ap, _∙_}
 use Rattle.values.specs.Operands.{entryWords}
-use Rattle.values.proofs.Places.{entry-next, entry-end}
+use Rattle.values.proofs.AttributeValues.{entry-next, entry-end}
 use borrow.Author.Needs.{needs}
 use Rattle.values.proofs.entry_from.Statement.{statement}
 use Rattle.values.proofs.entry_from.Tie as tie

@@ -1,5 +1,5 @@
 use mathlib.Core.Path.{_∙_}
-use Rattle.values.proofs.Places.{entry-number, entry-true, entry-false}
+use Rattle.values.proofs.AttributeValues.{entry-number, entry-true, entry-false}
 use borrow.Author.Needs.{needs}
 use Rattle.values.proofs.entry_words.Statement.{statement}
 use Rattle.values.proofs.entry_words.Tie as tie

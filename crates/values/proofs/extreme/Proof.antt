@@ -7,7 +7,7 @@ use lib.ListN.{length}
 use Rattle.model.specs.Notation.{isEmpty}
 use Rattle.values.specs.Operands.{lent, valuesFrom, valuesOf}
 use Rattle.values.specs.Compared.{extremeFrom, worst}
-use Rattle.values.proofs.Walks.{fewer, some-none, some-more, best-none, best-on}
+use Rattle.values.proofs.ValueWalks.{fewer, some-none, some-more, best-none, best-on}
 use Rattle.values.proofs.extreme.Statement.{statement}
 use Rattle.values.proofs.extreme.Tie as tie
 use Rattle.values.proofs.extreme.Reads as reads

@@ -1,5 +1,5 @@
 use native.Mathlib.Omega.{arith}
-use Rattle.values.proofs.Places.{value-four}
+use Rattle.values.proofs.AttributeValues.{value-four}
 use borrow.Author.Needs.{needs}
 use Rattle.values.proofs.four.Statement.{statement}
 use Rattle.values.proofs.four.Tie as tie

@@ -1,5 +1,5 @@
 use native.Mathlib.Omega.{arith}
-use Rattle.values.proofs.Places.{no-words, words-next, words-end}
+use Rattle.values.proofs.AttributeValues.{no-words, words-next, words-end}
 use borrow.Author.Needs.{needs}
 use Rattle.values.proofs.pair_from.Statement.{statement}
 use Rattle.values.proofs.pair_from.Tie as tie

@@ -7,7 +7,7 @@ use lib.ListN.{length}
 use Rattle.text.specs.declared.Words.{Words}
 use Rattle.values.specs.Operands.{lent, valuesFrom, valuesOf}
 use Rattle.values.specs.Compared.{isFalse, asked, soughtFrom, amongOf, foundOf}
-use Rattle.values.proofs.Walks.{fewer, sought-none, sought-here, sought-on}
+use Rattle.values.proofs.ValueWalks.{fewer, sought-none, sought-here, sought-on}
 use Rattle.values.proofs.some_found.Statement.{statement}
 use Rattle.values.proofs.some_found.Tie as tie
 use Rattle.values.proofs.some_found.Reads as reads

@@ -1,5 +1,5 @@
 use Rattle.values.specs.Operands.{lent}
-use Rattle.values.proofs.Places.{in-session, in-block, in-code}
+use Rattle.values.proofs.AttributeValues.{in-session, in-block, in-code}
 use borrow.Author.Needs.{needs}
 use Rattle.values.proofs.value_from.Statement.{statement}
 use Rattle.values.proofs.value_from.Tie as tie

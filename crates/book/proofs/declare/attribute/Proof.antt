@@ -1,7 +1,7 @@
 -- `book::declare::attribute` meets its contract. Assumes nothing.
 use native.Mathlib.Omega.{arith}
-use Rattle.book.proofs.Attributes.{attribute-same-length, attribute-sorted, attribute-repeated, attribute-full, attribute-step}
-use Rattle.book.proofs.Tests.{left, written}
+use Rattle.book.proofs.AttributeLines.{attribute-same-length, attribute-sorted, attribute-repeated, attribute-full, attribute-step}
+use Rattle.book.proofs.DeclarationTests.{left, written}
 use borrow.Author.Needs.{needs}
 use Rattle.book.proofs.declare.attribute.Statement.{statement}
 use Rattle.book.proofs.declare.attribute.Tie as tie

@@ -3,7 +3,7 @@ use mathlib.Core.Path.{_∙_}
 use native.Mathlib.Omega.{arith}
 use Rattle.book.proofs.Holders.{holder-same-length, group-same-length}
 use Rattle.book.proofs.HolderSteps.{holder-repeated, holder-full, holder-step, group-full, group-step}
-use Rattle.book.proofs.Tests.{left, written}
+use Rattle.book.proofs.DeclarationTests.{left, written}
 use borrow.Author.Needs.{needs}
 use Rattle.book.proofs.declare.holder.Statement.{statement}
 use Rattle.book.proofs.declare.holder.Tie as tie

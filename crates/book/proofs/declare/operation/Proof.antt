@@ -1,7 +1,7 @@
 -- `book::declare::operation` meets its contract. Assumes nothing.
 use native.Mathlib.Omega.{arith}
 use Rattle.book.proofs.Operations.{operation-same-length, operation-repeated, operation-full, operation-step}
-use Rattle.book.proofs.Tests.{left, written}
+use Rattle.book.proofs.DeclarationTests.{left, written}
 use borrow.Author.Needs.{needs}
 use Rattle.book.proofs.declare.operation.Statement.{statement}
 use Rattle.book.proofs.declare.operation.Tie as tie

@@ -1,8 +1,8 @@
 -- `book::declare::pair` meets its contract. Assumes nothing.
 use native.Mathlib.Omega.{arith}
-use Rattle.book.proofs.Pairs.{pair-same-length}
+use Rattle.book.proofs.PairLines.{pair-same-length}
 use Rattle.book.proofs.PairSteps.{pair-undeclared, pair-of-block, pair-of-type, pair-repeated, pair-full, pair-step}
-use Rattle.book.proofs.Tests.{left, written}
+use Rattle.book.proofs.DeclarationTests.{left, written}
 use borrow.Author.Needs.{needs}
 use Rattle.book.proofs.declare.pair.Statement.{statement}
 use Rattle.book.proofs.declare.pair.Tie as tie

@@ -1,7 +1,7 @@
 -- `book::declare::put_pair` meets its contract. Assumes nothing.
 use native.Mathlib.Omega.{arith}
 use lib.ListN.{length-set}
-use Rattle.book.proofs.Pairs.{wrote-pair, wrote-long, pair-same-length}
+use Rattle.book.proofs.PairLines.{wrote-pair, wrote-long, pair-same-length}
 use borrow.Author.Needs.{needs}
 use Rattle.book.proofs.declare.put_pair.Statement.{statement}
 use Rattle.book.proofs.declare.put_pair.Tie as tie

@@ -8,7 +8,7 @@ use borrow.Author.Needs.{needs}
 use Rattle.model.specs.Bytes.{linesOf}
 use Rattle.model.specs.State.{empty}
 use Rattle.model.specs.Load.{readOn}
-use Rattle.text.proofs.Places.{done}
+use Rattle.text.proofs.LoopPlaces.{done}
 use Rattle.book.specs.Sections.{bookWords, ruleBytes}
 use Rattle.book.specs.Held.{Holds}
 use Rattle.book.proofs.Files.{Onward, onward-starts, onward-ends, turn-within, turn-ended, turn-refused, turn-next}

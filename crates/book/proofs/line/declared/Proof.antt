@@ -1,6 +1,6 @@
 -- `line::declared` meets its contract: each key by its step. Assumes nothing.
 use Rattle.model.specs.Keys.{Key}
-use Rattle.book.proofs.Lines.{at-key, holder-keys}
+use Rattle.book.proofs.FileLines.{at-key, holder-keys}
 use borrow.Author.Needs.{needs}
 use Rattle.book.proofs.line.declared.Statement.{statement}
 use Rattle.book.proofs.line.declared.Tie as tie

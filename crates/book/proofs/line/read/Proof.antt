@@ -1,5 +1,5 @@
 -- `line::read` meets its contract: 4, 5 and the step of the key, in their order. Assumes nothing.
-use Rattle.book.proofs.Lines.{line-unframed, line-early, line-fields, line-stepped}
+use Rattle.book.proofs.FileLines.{line-unframed, line-early, line-fields, line-stepped}
 use borrow.Author.Needs.{needs}
 use Rattle.book.proofs.line.read.Statement.{statement}
 use Rattle.book.proofs.line.read.Tie as tie

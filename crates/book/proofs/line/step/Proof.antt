@@ -1,7 +1,7 @@
 -- `line::step` meets its contract: each key by its step. Assumes nothing.
 use native.Mathlib.Omega.{arith}
 use Rattle.model.specs.Keys.{Key}
-use Rattle.book.proofs.Lines.{at-key, two-keys}
+use Rattle.book.proofs.FileLines.{at-key, two-keys}
 use borrow.Author.Needs.{needs}
 use Rattle.book.proofs.line.step.Statement.{statement}
 use Rattle.book.proofs.line.step.Tie as tie

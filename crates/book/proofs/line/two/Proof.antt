@@ -7,7 +7,7 @@ use Rattle.model.specs.Lines.{Line, parent, member, readTwo}
 use Rattle.model.proofs.Lines.{fields-said}
 use Rattle.fields.specs.declared.TwoFields.{TwoFields}
 use Rattle.book.specs.TieSteps.{tieBy}
-use Rattle.book.specs.Reading.{KeyRead}
+use Rattle.book.specs.LineSteps.{KeyRead}
 use Rattle.book.proofs.LineReading.{unread, fields-unread, two-read}
 use borrow.Author.Needs.{needs}
 use Rattle.book.proofs.line.two.Statement.{statement}

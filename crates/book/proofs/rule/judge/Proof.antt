@@ -1,6 +1,6 @@
 -- `rule::judge` meets its contract: the bytes of rule k are lent to the judge. Assumes nothing.
 use native.Mathlib.Omega.{arith}
-use Rattle.book.proofs.Rules.{judged-into, judged-beyond}
+use Rattle.book.proofs.RuleLines.{judged-into, judged-beyond}
 use borrow.Author.Needs.{needs}
 use Rattle.book.proofs.rule.judge.Statement.{statement}
 use Rattle.book.proofs.rule.judge.Tie as tie

@@ -1,6 +1,6 @@
 -- `rule::put` meets its contract. Assumes nothing.
 use mathlib.Core.Path.{refl}
-use Rattle.book.specs.Reading.{rulePut}
+use Rattle.book.specs.LineSteps.{rulePut}
 use borrow.Author.Needs.{needs}
 use Rattle.book.proofs.rule.put.Statement.{statement}
 use Rattle.book.proofs.rule.put.Tie as tie

@@ -1,6 +1,6 @@
 -- `rule::refusal` meets its contract, each way by its law. Assumes nothing.
 use native.Mathlib.Omega.{arith}
-use Rattle.book.proofs.Rules.{refused-policy, refused-large, refused-operation, refused-name, refused-full, not-refused}
+use Rattle.book.proofs.RuleLines.{refused-policy, refused-large, refused-operation, refused-name, refused-full, not-refused}
 use Rattle.book.proofs.rule.refusal.Statement.{statement}
 use Rattle.book.proofs.rule.refusal.Tie as tie
 

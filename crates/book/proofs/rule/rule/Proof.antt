@@ -2,8 +2,8 @@
 use borrow.Author.Tests.{not-true, not-false}
 use mathlib.Core.Path.{ap, sym, _∙_}
 use native.Mathlib.Omega.{arith}
-use Rattle.book.specs.Reading.{fieldsRefusal}
-use Rattle.book.proofs.Rules.{rule-unread, rule-refused, rule-room, rule-accepted}
+use Rattle.book.specs.LineSteps.{fieldsRefusal}
+use Rattle.book.proofs.RuleLines.{rule-unread, rule-refused, rule-room, rule-accepted}
 use borrow.Author.Needs.{needs}
 use Rattle.book.proofs.rule.rule.Statement.{statement}
 use Rattle.book.proofs.rule.rule.Tie as tie

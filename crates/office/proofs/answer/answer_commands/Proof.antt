@@ -6,9 +6,9 @@ use lib.ListN.{length, take, drop, length-drop}
 use lib.Seq.{length-take-le}
 use borrow.Author.Needs.{needs}
 use Rattle.model.specs.Bytes.{Bytes}
-use Rattle.text.proofs.Places.{tail-part}
-use Rattle.office.specs.Input.{FirstLine}
-use Rattle.office.specs.Answers.{lent, AnsweredTo}
+use Rattle.text.proofs.LoopPlaces.{tail-part}
+use Rattle.office.specs.Input.{LineLength}
+use Rattle.office.specs.Answers.{memory, AnsweredTo}
 use Rattle.office.proofs.Answers.{none-answered, next-room, next-place, more-answered, line-as, all-length, all-answered}
 use Rattle.office.proofs.answer.answer_commands.Statement.{statement}
 use Rattle.office.proofs.answer.answer_commands.Tie as tie
@@ -18,14 +18,14 @@ use Rattle.office.proofs.answer.answer_line.Reads as answer-line-reads
 use Rattle.office.proofs.input.line_length.Reads as line-length-reads
 
 abbrev Inv-loop : tie.InvT-loop
-Inv-loop commands book₀ rules table₀ out₀ at i₀ n₀ book table out i n = AnsweredTo commands i (lent book₀ rules table₀) (lent book rules table) out₀ at out n
+Inv-loop commands book₀ rules table₀ out₀ at i₀ n₀ book table out i n = AnsweredTo commands i (memory book₀ rules table₀) (memory book rules table) out₀ at out n
 
 abbrev μ-loop : tie.MeasureT-loop
 μ-loop commands book₀ rules table₀ out₀ at i₀ n₀ book table out i n = length commands - i
 
 -- the line that was measured is the first of what is left
-first : (c : tie.After-line-length Inv-loop μ-loop) → FirstLine (drop (c .before .before .before .loop .i) (c .before .before .before .before .before .before .before .args .commands .now)) (c .line-length .result)
-first c = subst (λ (s : Bytes). FirstLine s (c .line-length .result)) (tail-part (c .before .before .before .loop .i) (c .before .before .before .before .before .before .before .args .commands .now)) (c .line-length .ensures)
+first : (c : tie.After-line-length Inv-loop μ-loop) → LineLength (drop (c .before .before .before .loop .i) (c .before .before .before .before .before .before .before .args .commands .now)) (c .line-length .result)
+first c = subst (λ (s : Bytes). LineLength s (c .line-length .result)) (tail-part (c .before .before .before .loop .i) (c .before .before .before .before .before .before .before .args .commands .now)) (c .line-length .ensures)
 
 next : (c : tie.After-line-length Inv-loop μ-loop) →
     let i = c .before .before .before .loop .i in
@@ -35,7 +35,7 @@ next c = next-place (c .before .before .before .loop .inv) (c .before .before .b
 loop-holds : tie.Need-loop-holds Inv-loop μ-loop
 loop-holds c =
     let a = c .before .before .before .args in
-    none-answered (a .commands .now) (lent (a .book .now) (a .rules .now) (a .table .now)) (a .out .now) (a .at)
+    none-answered (a .commands .now) (memory (a .book .now) (a .rules .now) (a .table .now)) (a .out .now) (a .at)
 
 sub-line-length : tie.Need-sub-line-length Inv-loop μ-loop
 sub-line-length c = search needs

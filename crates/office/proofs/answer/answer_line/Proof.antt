@@ -1,5 +1,5 @@
 -- `answer::answer_line` meets its contract, by the kind of command.
-use Rattle.office.specs.Answers.{lent}
+use Rattle.office.specs.Answers.{memory}
 use Rattle.office.proofs.Answering.{told-as, edit-answered, bad-answered}
 use borrow.Author.Needs.{needs}
 use Rattle.office.proofs.answer.answer_line.Statement.{statement}
@@ -65,7 +65,7 @@ returns-3 : tie.Need-returns-3
 returns-3 c =
     let a = c .before .before .before .before .before .before .before .before .before .before .args in
     let t = told-as (a .line .now) (c .before .before .before .before .before .before .read .ensures) (c .before .before .before .before .enum-told2 .given .1) in
-    bad-answered (a .line .now) (lent (a .book .now) (a .rules .now) (a .table .now)) t (c .before .before .put-bad .ensures)
+    bad-answered (a .line .now) (memory (a .book .now) (a .rules .now) (a .table .now)) t (c .before .before .put-bad .ensures)
 
 pub answer-line-spec : {M : Type 1} → statement M
 answer-line-spec =

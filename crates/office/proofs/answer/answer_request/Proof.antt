@@ -1,7 +1,7 @@
 -- `answer::answer_request` meets its contract.
 use mathlib.Core.Path.{sym}
 use lib.Seq.{length-take-le}
-use Rattle.office.specs.Answers.{lent}
+use Rattle.office.specs.Answers.{memory}
 use Rattle.office.proofs.Answering.{hex-within, hex-refused, block-decided}
 use borrow.Author.Needs.{needs}
 use Rattle.office.proofs.answer.answer_request.Statement.{statement}
@@ -38,7 +38,7 @@ returns : tie.Need-returns
 returns c =
     let a = c .before .before .before .before .before .before .before .before .before .before .before .before .before .args in
     let u = c .before .before .before .before .before .before .before .unhex in
-    hex-refused (a .line .now) (a .start) (a .end) (lent (a .book .now) (a .rules .now) (a .table .now)) _ _ (u .result) (u .ensures) (c .before .before .before .before .if1 .taken) (c .before .before .put-bad .ensures)
+    hex-refused (a .line .now) (a .start) (a .end) (memory (a .book .now) (a .rules .now) (a .table .now)) _ _ (u .result) (u .ensures) (c .before .before .before .before .if1 .taken) (c .before .before .put-bad .ensures)
 
 slice-aggregate-bytes : tie.Need-slice-aggregate-bytes
 slice-aggregate-bytes c = search needs
@@ -62,7 +62,7 @@ returns-2 c =
     let a = c .before .before .before .before .before .before .before .before .before .before .before .before .before .before .before .before .args in
     let u = c .before .before .before .before .before .before .before .before .before .before .unhex in
     let d = c .before .before .before .before .decide in
-    block-decided (a .line .now) (a .start) (a .end) (lent (a .book .now) (a .rules .now) (a .table .now)) _ _ (u .result) (u .ensures) (c .before .before .before .before .before .before .before .if1 .left) (d .result) (d .ensures) (c .before .before .put-decision .ensures)
+    block-decided (a .line .now) (a .start) (a .end) (memory (a .book .now) (a .rules .now) (a .table .now)) _ _ (u .result) (u .ensures) (c .before .before .before .before .before .before .before .if1 .left) (d .result) (d .ensures) (c .before .before .put-decision .ensures)
 
 pub answer-request-spec : {M : Type 1} → statement M
 answer-request-spec =

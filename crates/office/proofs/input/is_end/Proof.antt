@@ -1,6 +1,6 @@
 -- `input::is_end` meets its contract.
 use mathlib.Core.Path.{sym, _∙_}
-use Rattle.office.proofs.Lines.{end-line, end-alone}
+use Rattle.office.proofs.InputLines.{end-line, end-alone}
 use borrow.Author.Needs.{needs}
 use Rattle.office.proofs.input.is_end.Statement.{statement}
 use Rattle.office.proofs.input.is_end.Tie as tie

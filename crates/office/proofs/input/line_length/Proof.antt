@@ -1,5 +1,5 @@
 -- `input::line_length` meets its contract.
-use Rattle.office.proofs.Lines.{line-ends, line-runs-out}
+use Rattle.office.proofs.InputLines.{line-ends, line-runs-out}
 use borrow.Author.Needs.{needs}
 use Rattle.office.proofs.input.line_length.Statement.{statement}
 use Rattle.office.proofs.input.line_length.Tie as tie

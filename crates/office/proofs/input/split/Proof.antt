@@ -6,9 +6,9 @@ use native.Mathlib.Omega.{arith}
 use lib.ListN.{length, take, drop}
 use Rattle.model.specs.Bytes.{Bytes}
 use Rattle.model.specs.Gate.{isEnd}
-use Rattle.text.proofs.Places.{tail-part}
-use Rattle.office.specs.Input.{FirstLine}
-use Rattle.office.proofs.Lines.{SoFar, so-far-start, next-within, next-further, so-far-more, splits, all-file}
+use Rattle.text.proofs.LoopPlaces.{tail-part}
+use Rattle.office.specs.Input.{LineLength}
+use Rattle.office.proofs.InputLines.{SoFar, so-far-start, next-within, next-further, so-far-more, splits, all-file}
 use Rattle.office.proofs.input.split.Statement.{statement}
 use Rattle.office.proofs.input.split.Tie as tie
 
@@ -19,11 +19,11 @@ abbrev μ-loop : tie.MeasureT-loop
 μ-loop input i₀ i = length input - i
 
 -- the line that was measured is the first of what is left
-first : (c : tie.After-line-length Inv-loop μ-loop) → FirstLine (drop (c .before .before .before .loop .i) (c .before .before .before .before .before .args .input .now)) (c .line-length .result)
+first : (c : tie.After-line-length Inv-loop μ-loop) → LineLength (drop (c .before .before .before .loop .i) (c .before .before .before .before .before .args .input .now)) (c .line-length .result)
 first c =
     let input = c .before .before .before .before .before .args .input .now in
     let i = c .before .before .before .loop .i in
-    subst (λ (s : Bytes). FirstLine s (c .line-length .result)) (tail-part i input) (c .line-length .ensures)
+    subst (λ (s : Bytes). LineLength s (c .line-length .result)) (tail-part i input) (c .line-length .ensures)
 
 next : (c : tie.After-line-length Inv-loop μ-loop) →
     let i = c .before .before .before .loop .i in

@@ -5,7 +5,7 @@ use native.Mathlib.Omega.{arith}
 use lib.ListN.{length, getD, set}
 use lib.Seq.{paste, paste-zero, paste-suc, length-paste}
 use Rattle.model.specs.Bytes.{Bytes}
-use Rattle.office.proofs.Puts.{put-paste}
+use Rattle.office.proofs.OutputPuts.{put-paste}
 use Rattle.office.proofs.output.put.Statement.{statement}
 use Rattle.office.proofs.output.put.Tie as tie
 

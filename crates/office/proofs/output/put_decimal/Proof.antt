@@ -2,8 +2,8 @@
 use mathlib.Core.Path.{sym, ap, _∙_}
 use native.Mathlib.Omega.{arith}
 use lib.ListN.{length}
-use Rattle.text.proofs.Places.{tail-part}
-use Rattle.office.proofs.Puts.{put-as}
+use Rattle.text.proofs.LoopPlaces.{tail-part}
+use Rattle.office.proofs.OutputPuts.{put-as}
 use borrow.Author.Needs.{needs}
 use Rattle.office.proofs.output.put_decimal.Statement.{statement}
 use Rattle.office.proofs.output.put_decimal.Tie as tie

@@ -13,12 +13,12 @@ use lib.Dec.{eqb}
 use Rattle.model.specs.Notation.{if_then_else_, _>>=_}
 use Rattle.model.specs.Bytes.{Bytes, bytes, newline, same, cut, begun, linesOf, content}
 use Rattle.model.specs.Gate.{bare, isEnd, fileOf, commandsOf}
-use Rattle.model.proofs.Words.{false-is-true, none-is-some, same-eq, same-refl}
+use Rattle.model.proofs.WordTables.{false-is-true, none-is-some, same-eq, same-refl}
 use Rattle.model.proofs.Lists.{all-parts, same-truth}
 use Rattle.model.proofs.Cuts.{isnt, lacks, cut-parts, content-exact}
 use Rattle.text.specs.Parts.{FirstAt}
-use Rattle.text.proofs.Places.{done}
-use Rattle.office.specs.Input.{FirstLine, Split}
+use Rattle.text.proofs.LoopPlaces.{done}
+use Rattle.office.specs.Input.{LineLength, Split}
 
 -- bytes without byte 10 and a byte 10 are a line; so are bytes without one at the end
 lines-joined : (l r : Bytes) → lacks newline l ≡ true → linesOf (l ++ newline ∷ r) ≡ (l ++ newline ∷ []) ∷ linesOf r
@@ -50,7 +50,7 @@ lone-some [] h = absurd (omega arith)
 lone-some (x ∷ s) h = refl
 
 -- the first line by the place of the first byte 10
-pub line-ends : (s : Bytes) (i : ℕ) → FirstAt 10 s i → i < length s → FirstLine s (i + 1)
+pub line-ends : (s : Bytes) (i : ℕ) → FirstAt 10 s i → i < length s → LineLength s (i + 1)
 line-ends s i first h =
     let (m, j) = cut-parts newline s (first .found h) in
     let l : length (take i s ++ newline ∷ []) ≡ i + 1 = simp (length-append, length-take-le i s (omega arith)) in
@@ -62,7 +62,7 @@ line-ends s i first h =
       lines = λ _. ap linesOf j ∙ lines-joined (take i s) (drop (i + 1) s) m ∙ ap (λ (l : Bytes). l ∷ linesOf (drop (i + 1) s)) (sym t);
     }
 
-pub line-runs-out : (s : Bytes) (i : ℕ) → FirstAt 10 s i → length s ≤ i → FirstLine s i
+pub line-runs-out : (s : Bytes) (i : ℕ) → FirstAt 10 s i → length s ≤ i → LineLength s i
 line-runs-out s i first h =
     record {
       within = first .within;
@@ -88,7 +88,7 @@ end-alone line n = same-truth (same (bare line) (bytes "end=")) (same line (byte
         false-is-true (sym n ∙ ap (λ (k : Bytes). same k (bytes "end=\n")) j)
 
 -- the file and the commands of what is left, with the first line read
-module _ (s : Bytes) (n : ℕ) (first : FirstLine s n) (h : 1 ≤ length s) where
+module _ (s : Bytes) (n : ℕ) (first : LineLength s n) (h : 1 ≤ length s) where
   file-line : fileOf (linesOf s) ≡ (if isEnd (take n s) then [] else take n s ++ fileOf (linesOf (drop n s)))
   file-line = ap fileOf (first .lines h)
 
@@ -104,7 +104,7 @@ pub record SoFar (input : Bytes) (i : ℕ) : Type 0 where
 pub so-far-start : (input : Bytes) → SoFar input 0
 so-far-start input = record { within = omega arith; file = refl; commands = refl }
 
-module _ (input : Bytes) (i n : ℕ) (first : FirstLine (drop i input) n) (left : i < length input) (so : SoFar input i) where
+module _ (input : Bytes) (i n : ℕ) (first : LineLength (drop i input) n) (left : i < length input) (so : SoFar input i) where
   some-left : 1 ≤ length (drop i input)
   some-left = omega (arith, length-drop i input)
 

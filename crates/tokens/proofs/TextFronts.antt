@@ -12,8 +12,8 @@ use Rattle.model.specs.Atoms.{isText}
 use Rattle.model.specs.Tokens.{Token, wordByte, run, readWord, readText}
 use Rattle.tokens.specs.declared.Code.{Code}
 use Rattle.text.specs.Parts.{FirstAt}
-use Rattle.tokens.specs.Reading.{codeWith, plainCode, codedToken, placed, codedRead, lead, wordToken}
-use Rattle.tokens.proofs.Runs.{run-lead}
+use Rattle.tokens.specs.TokenAt.{codeWith, plainCode, codedToken, placed, codedRead, lead, wordToken}
+use Rattle.tokens.proofs.ByteRuns.{run-lead}
 use Rattle.codes.proofs.TokenKinds.{kind-range}
 
 -- a str, by the place of its second quote

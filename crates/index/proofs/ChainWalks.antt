@@ -11,7 +11,7 @@ use native.Mathlib.Nat.{eq-or-lt-of-le}
 use lib.Dec.{eqb}
 use lib.ListN.{length, getD}
 use borrow.Author.Tests.{eqb-true, eq-eqb, le-leb}
-use Rattle.model.proofs.Words.{false-is-true, none-is-some}
+use Rattle.model.proofs.WordTables.{false-is-true, none-is-some}
 use Rattle.model.proofs.Options.{parts}
 use Rattle.index.specs.Index.{chains, rowsIn, nextPlace, rowPlace, Row, hashOf, isAt, linkOf, Rows, InChain, Greatest, Written, Indexed, Found}
 

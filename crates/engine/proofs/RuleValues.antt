@@ -16,7 +16,7 @@ use Rattle.model.specs.Block.{Block}
 use Rattle.model.specs.Meaning.{meaningOf}
 use Rattle.model.specs.Session.{readBy}
 use Rattle.model.specs.Decision.{permit, deny, undefined, verdicts, isTrue, isUndef, decided}
-use Rattle.model.proofs.Words.{false-is-true, none-is-some, same-eq, same-refl}
+use Rattle.model.proofs.WordTables.{false-is-true, none-is-some, same-eq, same-refl}
 use Rattle.model.proofs.Options.{is-some}
 use Rattle.model.proofs.Lists.{place-nth, nth-lt, lt-nth}
 use Rattle.model.proofs.Decision.{Verdict, verdicts-rise, verdict-exact, decided-permit, decided-undefined, decided-deny}
@@ -25,7 +25,7 @@ use Rattle.bits.proofs.Counts.{any-more, any-none, any-find}
 use Rattle.truth.specs.declared.Truth as k3
 use Rattle.truth.specs.Truths.{truthOf}
 use Rattle.tokens.specs.RuleCode.{Coded}
-use Rattle.session.proofs.Names.{reads-number}
+use Rattle.session.proofs.NamedOperands.{reads-number}
 use Rattle.policy.specs.Readers.{lending}
 use Rattle.policy.specs.Judgements.{Evaluated}
 use Rattle.book.specs.Held.{RuleHeld}

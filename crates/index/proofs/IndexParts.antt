@@ -7,9 +7,9 @@ use native.Mathlib.Decide.{decLt}
 use native.Mathlib.Omega.{arith}
 use lib.ListN.{length, getD, take, drop, List·getD-eq-default}
 use lib.Seq.{getD-take, getD-drop}
-use Rattle.model.proofs.Words.{none-is-some}
+use Rattle.model.proofs.WordTables.{none-is-some}
 use Rattle.index.specs.Index.{chains, rowPlace, Row, Rows, Indexed}
-use Rattle.index.proofs.Chains.{there-below}
+use Rattle.index.proofs.ChainWalks.{there-below}
 
 -- a section whose words are all 0 is the index of no rows
 module _ (s : List ℕ) (n : ℕ) (size : length s ≡ chains + 5 * n) (zeros : (i : ℕ) → i < length s → getD s i 0 ≡ 0) where

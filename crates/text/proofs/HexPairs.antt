@@ -13,11 +13,11 @@ use lib.Dec.{leb, eqb}
 use Rattle.model.specs.Notation.{_>>=_, _or-else_, isNone, onlyIf}
 use Rattle.model.specs.Bytes.{Bytes, inRange}
 use Rattle.model.specs.Gate.{hexDigit, hexPairs}
-use Rattle.model.proofs.Words.{none-is-some}
+use Rattle.model.proofs.WordTables.{none-is-some}
 use Rattle.model.proofs.Options.{parts, bound, condition, choice}
 use Rattle.text.specs.declared.Hex.{Hex}
 use Rattle.text.specs.Hex.{digitCode, pairOf, pairCode, leading, Unhexed}
-use Rattle.text.proofs.Places.{next, done}
+use Rattle.text.proofs.LoopPlaces.{next, done}
 
 -- the ranges of digits
 module _ (x : ℕ) where

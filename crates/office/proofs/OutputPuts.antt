@@ -6,9 +6,9 @@ use native.Mathlib.Omega.{arith}
 use lib.ListN.{length, take, drop, length-append, length-drop}
 use lib.Seq.{length-take-le, take-all, drop-drop, take-at, drop-at, paste}
 use Rattle.model.specs.Bytes.{Bytes}
-use Rattle.office.specs.Output.{Put}
+use Rattle.office.specs.Output.{PutUpTo}
 
-module _ {before : Bytes} {at : ℕ} {bytes after : Bytes} {r : ℕ} (p : Put before at bytes after r) (h : at + length bytes ≤ length before) where
+module _ {before : Bytes} {at : ℕ} {bytes after : Bytes} {r : ℕ} (p : PutUpTo before at bytes after r) (h : at + length bytes ≤ length before) where
   front-length : length (take at before ++ bytes) ≡ r
   front-length = length-append (take at before) bytes ∙ ap (λ (k : ℕ). k + length bytes) (length-take-le at before (omega arith)) ∙ sym (p .behind)
 
@@ -24,8 +24,8 @@ module _ {before : Bytes} {at : ℕ} {bytes after : Bytes} {r : ℕ} (p : Put be
       omega (arith, ap length (p .is) ∙ length-append (take at before ++ bytes) (drop (at + length bytes) before), front-length, p .behind, length-drop (at + length bytes) before)
 
 -- some bytes, and others behind them
-pub put-put : {before : Bytes} {at : ℕ} {bytes middle : Bytes} {n : ℕ} {others after : Bytes} {r : ℕ} → Put before at bytes middle n
-    → at + length (bytes ++ others) ≤ length before → Put middle n others after r → Put before at (bytes ++ others) after r
+pub put-put : {before : Bytes} {at : ℕ} {bytes middle : Bytes} {n : ℕ} {others after : Bytes} {r : ℕ} → PutUpTo before at bytes middle n
+    → at + length (bytes ++ others) ≤ length before → PutUpTo middle n others after r → PutUpTo before at (bytes ++ others) after r
 put-put {before} {at} {bytes} {middle} {n} {others} {after} {r} p h q =
     let e : at + length (bytes ++ others) ≡ n + length others = omega (arith, length-append bytes others, p .behind) in
     let f : at + length bytes ≤ length before = omega (arith, length-append bytes others) in
@@ -38,22 +38,22 @@ put-put {before} {at} {bytes} {middle} {n} {others} {after} {r} p h q =
     }
 
 -- there is room for the others
-pub put-room : {before : Bytes} {at : ℕ} {bytes middle : Bytes} {n : ℕ} (others : Bytes) → Put before at bytes middle n
+pub put-room : {before : Bytes} {at : ℕ} {bytes middle : Bytes} {n : ℕ} (others : Bytes) → PutUpTo before at bytes middle n
     → at + length (bytes ++ others) ≤ length before → n + length others ≤ length middle
 put-room {bytes = bytes} others p h =
     let l = length-append bytes others in
     omega (arith, p .behind, put-length p (omega arith))
 
 -- a copy that is done
-pub put-paste : (before : Bytes) (at : ℕ) (s after : Bytes) (n : ℕ) → n ≡ length s → after ≡ paste before at s n → Put before at s after (at + n)
+pub put-paste : (before : Bytes) (at : ℕ) (s after : Bytes) (n : ℕ) → n ≡ length s → after ≡ paste before at s n → PutUpTo before at s after (at + n)
 put-paste before at s after n e f =
     record {
       is = f ∙ ap₂ (λ (x : Bytes) (k : ℕ). take at before ++ x ++ drop k before) (take-all n s (omega arith)) (ap (λ (k : ℕ). at + k) e);
       behind = ap (λ (k : ℕ). at + k) e;
     }
 
-pub put-as : {before : Bytes} {at : ℕ} {bytes others after : Bytes} {r : ℕ} → bytes ≡ others → Put before at bytes after r → Put before at others after r
-put-as {before} {at} {after = after} {r} e p = subst (λ (bytes : Bytes). Put before at bytes after r) e p
+pub put-as : {before : Bytes} {at : ℕ} {bytes others after : Bytes} {r : ℕ} → bytes ≡ others → PutUpTo before at bytes after r → PutUpTo before at others after r
+put-as {before} {at} {after = after} {r} e p = subst (λ (bytes : Bytes). PutUpTo before at bytes after r) e p
 
 -- what fits with others behind it fits alone
 pub fits-front : (at : ℕ) (bytes others : Bytes) {n : ℕ} → at + length (bytes ++ others) ≤ n → at + length bytes ≤ n

@@ -13,7 +13,7 @@ use Rattle.model.specs.Tokens.{Token, name, int, str, truth, operator, mark, Ma
 use Rattle.model.specs.Grammar.{isMark, behindMark, readOperator}
 use Rattle.model.specs.Refusals.{unknownName}
 use Rattle.model.proofs.Lists.{all-parts}
-use Rattle.model.proofs.Words.{false-is-true, same-word, marks, reads-mark, same-refl}
+use Rattle.model.proofs.WordTables.{false-is-true, same-word, marks, reads-mark, same-refl}
 use Rattle.codes.specs.Codes.{kindOf, markCode, operatorCode}
 use Rattle.codes.proofs.TokenKinds.{operator-range}
 use Rattle.tokens.specs.RuleCode.{size}
@@ -36,7 +36,7 @@ none-passes p x xs e = go (p x) refl e
     go false f g = (f, g)
 
 -- the first token, and the tokens behind it
-pub record Told (code : Bytes) (A : Asked) (at : ℕ) (t : Token) (ts : List Token) : Type 0 where
+pub record FrontToken (code : Bytes) (A : Asked) (at : ℕ) (t : Token) (ts : List Token) : Type 0 where
   pub kind-is : getD code at 0 ≡ kindOf t
   pub within : at + size t < length code
   pub written : A .valued ≡ true → isToken t ≡ true
@@ -47,7 +47,7 @@ module _ {code : Bytes} {A : Asked} {at : ℕ} where
   pub ended : From code A at [] → getD code at 0 ≡ 0
   ended f = coded-end (f .coded) .kind
 
-  pub told : {t : Token} {ts : List Token} → From code A at (t ∷ ts) → Told code A at t ts
+  pub told : {t : Token} {ts : List Token} → From code A at (t ∷ ts) → FrontToken code A at t ts
   told {t} {ts} f =
       let c = coded-front (f .coded) in
       record {
@@ -76,13 +76,13 @@ pub behind-mark : (m : Mark) (rest : List Token) → behindMark m (mark m ∷ re
 behind-mark m rest = ap (λ (b : Bool). onlyIf b rest) (same-refl (markWord m))
 
 -- a mark at the front, by its number
-pub record Marked (m : Mark) (code : Bytes) (A : Asked) (at : ℕ) (ts : List Token) : Type 0 where
+pub record FrontMark (m : Mark) (code : Bytes) (A : Asked) (at : ℕ) (ts : List Token) : Type 0 where
   pub rest : List Token
   pub split : ts ≡ mark m ∷ rest
   pub behind : From code A (at + 1) rest
 
 module _ (m : Mark) (code : Bytes) (A : Asked) (at : ℕ) where
-  pub mark-on : (ts : List Token) → From code A at ts → getD code at 0 ≡ markCode m → Marked m code A at ts
+  pub mark-on : (ts : List Token) → From code A at ts → getD code at 0 ≡ markCode m → FrontMark m code A at ts
   mark-on ts f e =
       let (us, g, c) = fixed-here (f .coded) (mark m) refl e in
       record { rest = us; split = g; behind = told (subst (From code A at) g f) .behind }

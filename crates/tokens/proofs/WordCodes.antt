@@ -14,7 +14,7 @@ use Rattle.model.specs.Names.{isName, readName}
 use Rattle.model.specs.Attributes.{Source, readSource, user, object, admin, env, connect}
 use Rattle.model.specs.Atoms.{readInt}
 use Rattle.model.specs.Tokens.{Token, name, int, spelling, capitals, readAttributeName, readWord}
-use Rattle.model.proofs.Words.{none-is-some}
+use Rattle.model.proofs.WordTables.{none-is-some}
 use Rattle.model.proofs.Options.{parts}
 use Rattle.model.proofs.Lists.{all-parts}
 use Rattle.text.specs.declared.Int.{Int}
@@ -22,9 +22,9 @@ use Rattle.text.specs.declared.Int.the-variants.{Number}
 use Rattle.text.specs.Parts.{FirstAt}
 use Rattle.codes.specs.Codes.{coded, kindOf, sourceCode}
 use Rattle.codes.proofs.TokenKinds.{kind-range}
-use Rattle.text.specs.Codes.{sourceNumber, codedInt}
+use Rattle.text.specs.ReadCodes.{sourceNumber, codedInt}
 use Rattle.text.specs.Packing.{packedOf}
-use Rattle.tokens.specs.Reading.{codeWith, plainCode, sourceIn, lowIn, highIn, codeOf, codedToken, capitalKind}
+use Rattle.tokens.specs.TokenAt.{codeWith, plainCode, sourceIn, lowIn, highIn, codeOf, codedToken, capitalKind}
 
 -- what is read among the words of a table passes what all of the table pass
 pub one-of-all : {A : Type 0} (word : A → Bytes) (p : A → Bool) (table : List A) (s : Bytes) (a : A) → all p table ≡ true → oneOf word table s ≡ some a → p a ≡ true

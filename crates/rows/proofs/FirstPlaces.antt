@@ -6,7 +6,7 @@ use mathlib.Core.Bool.{Bool, true, false}
 use mathlib.Core.List.{List, [], _∷_}
 use mathlib.Core.Option.{Option, none, some, Option·some-injective}
 use Rattle.model.specs.Notation.{_>>=_, place, nth}
-use Rattle.model.proofs.Words.{none-is-some}
+use Rattle.model.proofs.WordTables.{none-is-some}
 
 module _ {A : Type 0} (p : A → Bool) where
   pub place-none : (xs : List A) → ((i : ℕ) (x : A) → nth xs i ≡ some x → p x ≡ false) → place p xs ≡ none

@@ -20,7 +20,7 @@ use Rattle.policy.specs.declared.Head.{Head}
 use Rattle.policy.specs.declared.Head.the-variants.{Leaf, Open, Neither}
 use Rattle.policy.specs.Starts.{Start, whole, opened, neither, negatedStart, negatedIf, closedBy, joinOf, joinedTo}
 use Rattle.policy.specs.Readers.{Lending, Asked, From, Reads, Answers, Closes, Joins, Negated, NegatedHead, ClosedPart, JoinedPart, Starts, Further}
-use Rattle.policy.proofs.Fronts.{inside, mark-on, mark-off, behind-mark}
+use Rattle.policy.proofs.CodeFronts.{inside, mark-on, mark-off, behind-mark}
 
 module _ (code : Bytes) (L : Lending) (A : Asked) where
   negated-reads : (x y : Part) (p : Policy) (rest : List model.Token) → Negated x y → Reads code L A x p rest → Reads code L A y (not p) rest

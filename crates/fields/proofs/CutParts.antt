@@ -9,7 +9,7 @@ use lib.ListN.{length, take, drop}
 use lib.Seq.{take-nil}
 use Rattle.model.specs.Bytes.{Bytes, cut}
 use Rattle.text.specs.Parts.{FirstAt}
-use Rattle.text.proofs.Places.{tail-part}
+use Rattle.text.proofs.LoopPlaces.{tail-part}
 
 -- what is cut at the place of a byte, the second part as it is lent
 pub cut-there : (b : ℕ) (s : Bytes) (d : ℕ) → FirstAt b s d → d < length s → cut b s ≡ some (take d s, take (length s - (d + 1)) (drop (d + 1) s))

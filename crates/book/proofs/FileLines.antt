@@ -26,7 +26,7 @@ use Rattle.fields.specs.Told.{numbersOr}
 use Rattle.fields.specs.Frames.{part, noFrame, frameNumbers, FrameTold}
 use Rattle.book.specs.Held.{Holds}
 use Rattle.book.specs.Steps.{laterTests}
-use Rattle.book.specs.Reading.{fieldsRefusal, FieldsRead, KeyRead, TwoRead, HolderRead, KeyFields, FieldsOf, LineRead}
+use Rattle.book.specs.LineSteps.{fieldsRefusal, FieldsRead, KeyRead, TwoRead, HolderRead, KeyFields, FieldsOf, LineRead}
 
 -- ---- the frame
 

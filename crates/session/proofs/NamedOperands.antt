@@ -19,7 +19,7 @@ use Rattle.model.specs.State.{State}
 use Rattle.model.specs.Block.{Block, activated}
 use Rattle.model.specs.Session.{pairsOf, held, given, entryValue, entered, userValues, readBy}
 use Rattle.model.specs.Standing.{WellDeclared}
-use Rattle.model.proofs.Words.{none-is-some}
+use Rattle.model.proofs.WordTables.{none-is-some}
 use Rattle.model.proofs.Lists.{place-nth, nth-lt, same-truth}
 use Rattle.bits.specs.Bits.{holds}
 use Rattle.codes.specs.Codes.{sourceCode, typeCode}
@@ -27,13 +27,13 @@ use Rattle.text.specs.declared.Words.{Words}
 use Rattle.text.specs.Values.{words, atomWords}
 use Rattle.model.proofs.Declared.{PairDeclared, pair-declared}
 use Rattle.rows.specs.Rows.{pairOf, numberOr, PairRows}
-use Rattle.rows.proofs.Attributes.{named-eq, eq-named, number-small, number-injective}
+use Rattle.rows.proofs.RowsOfAttributes.{named-eq, eq-named, number-small, number-injective}
 use Rattle.values.specs.declared.Operand.{Operand}
 use Rattle.values.specs.Operands.{Lent, lent, chosen, pairWords, rowType, attributeOperand, operand, Stands}
-use Rattle.values.proofs.Attributes.{no-number, in-words, in-entries}
+use Rattle.values.proofs.AttributeOperands.{no-number, in-words, in-entries}
 use Rattle.values.proofs.Stands.{session-values, block-values, none-stand}
 use Rattle.session.specs.Opened.{readsPair, mayRead, SessionOf}
-use Rattle.session.proofs.Held.{heldFrom, held-each, held-none, At, held-all}
+use Rattle.session.proofs.HeldValues.{heldFrom, held-each, held-none, At, held-all}
 use Rattle.session.proofs.Entries.{nothing-entered, entered-each, entered-values}
 
 -- no place: none passes

@@ -9,11 +9,11 @@ use Rattle.model.specs.Notation.{_>>=_, isNone}
 use Rattle.model.specs.Attributes.{readSource, readType}
 use Rattle.model.specs.Atoms.{Atom, typeOf}
 use Rattle.model.specs.Bytes.{Bytes}
-use Rattle.model.proofs.Words.{false-is-true}
+use Rattle.model.proofs.WordTables.{false-is-true}
 use Rattle.codes.specs.Codes.{coded, sourceCode, typeCode}
 use Rattle.codes.proofs.Codes.{source-some, type-some}
 use Rattle.text.specs.declared.Value.{Value}
-use Rattle.text.specs.Codes.{sourceNumber, typeNumber}
+use Rattle.text.specs.ReadCodes.{sourceNumber, typeNumber}
 use Rattle.text.specs.Values.{codedAtom}
 use Rattle.fields.specs.declared.NameField.{NameField}
 use Rattle.fields.specs.Told.{Told}

@@ -15,7 +15,7 @@ use Rattle.model.specs.Atoms.{Atom, isAtom, typeOf}
 use Rattle.model.specs.Tokens.{Token, name, int, str, truth, operator, mark, Mark, asConstant, isToken}
 use Rattle.model.specs.Declarations.{Declarations, attributeNumber}
 use Rattle.model.specs.Grammar.{constants, oneType, behindMark, readItems, readSet, readVar}
-use Rattle.model.proofs.Words.{false-is-true, none-is-some}
+use Rattle.model.proofs.WordTables.{false-is-true, none-is-some}
 use Rattle.model.proofs.Lists.{all-cons}
 use Rattle.codes.specs.Codes.{kindOf, typeCode}
 use Rattle.codes.proofs.TokenKinds.{truth-range, operator-range, mark-range}
@@ -30,7 +30,7 @@ use Rattle.values.proofs.RuleConstants.{step, none-behind}
 use Rattle.policy.specs.declared.Var.{Var}
 use Rattle.policy.specs.declared.Constants.{Constants}
 use Rattle.policy.specs.Readers.{Lending, lentWith, Asked, From, VarReads, VarAnswers, Vars, SetVars, ConstantEnds, ofKind, ItemsAnswers, ItemsFrom}
-use Rattle.policy.proofs.Fronts.{inside, told, ended, mark-on, mark-off, constant-off}
+use Rattle.policy.proofs.CodeFronts.{inside, told, ended, mark-on, mark-off, constant-off}
 
 -- ---- one constant
 

@@ -12,7 +12,7 @@ use lib.Seq.{drop-cons, take-suc, take-all}
 use lib.Dec.{eqb}
 use Rattle.model.specs.Notation.{all, _>>=_}
 use Rattle.model.specs.Bytes.{Bytes, cut, same}
-use Rattle.model.proofs.Words.{false-is-true, same-eq}
+use Rattle.model.proofs.WordTables.{false-is-true, same-eq}
 use Rattle.model.proofs.Lists.{all-parts, all-cons, all-append}
 use Rattle.model.proofs.Cuts.{isnt, lacks}
 

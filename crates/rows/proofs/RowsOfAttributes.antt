@@ -15,7 +15,7 @@ use Rattle.model.specs.Bytes.{Bytes, same}
 use Rattle.model.specs.Names.{isName}
 use Rattle.model.specs.Attributes.{Source, sources, sourceWord, sameSource}
 use Rattle.model.specs.Declarations.{Declarations, Attribute, isNamed, attributeNumber}
-use Rattle.model.proofs.Words.{same-eq, same-refl, same-word, reads-source}
+use Rattle.model.proofs.WordTables.{same-eq, same-refl, same-word, reads-source}
 use Rattle.model.proofs.Options.{parts, both}
 use Rattle.model.proofs.Lists.{nth-lt, lt-nth, place-nth}
 use Rattle.codes.specs.Codes.{sourceCode}
@@ -25,7 +25,7 @@ use Rattle.text.specs.Packing.{packedOf}
 use Rattle.text.proofs.Packing.{name-same}
 use Rattle.model.specs.Standing.{WellDeclared}
 use Rattle.rows.specs.Rows.{rowNamed, AttributeRows, Numbered, numberOr}
-use Rattle.rows.proofs.Places.{place-none, place-first}
+use Rattle.rows.proofs.FirstPlaces.{place-none, place-first}
 
 -- the last of three tests, behind those that were passed
 pub last-test : (a b c d e f : ℕ) → a ≡ b → c ≡ d → eqb e f ≡ (eqb a b && (eqb c d && eqb e f))

@@ -6,7 +6,7 @@ use Rattle.model.specs.Bytes.{Bytes}
 use Rattle.model.specs.Ledger.{Outcome, loaded}
 use Rattle.engine.specs.Calls.{Gives}
 use Rattle.engine.specs.EditSteps.{EditCall}
-use Rattle.host.specs.Answers.{high, Packs}
+use Rattle.host.specs.AnswerNumbers.{high, Packs}
 
 unpacked : (P : ℕ → ℕ → Type 0) {number carried r : ℕ} → Packs number carried r → P number carried → P (r % high) (r / high)
 unpacked P {number} {carried} {r} packs p = subst (λ (n : ℕ). P n (r / high)) (sym (packs .low-bits)) (subst (λ (c : ℕ). P number c) (sym (packs .high-bits)) p)

@@ -35,7 +35,7 @@ use Rattle.book.specs.Held.{CountsOf, OperationRows, SortRows, RuleRows,
 use Rattle.book.specs.Declaring.{attributePlace, blockText, attributePut, AttributeStep}
 use Rattle.book.proofs.Writes.{apart, word-beside, word-inside, section-long, section-word, word-at}
 use Rattle.book.proofs.Kept.{length-more, AttributesStay, rules-kept, sorts-kept, groups-kept}
-use Rattle.book.proofs.Tests.{refused-9, refused-10, refused-11, accepted, number-there, number-nowhere, place-few}
+use Rattle.book.proofs.DeclarationTests.{refused-9, refused-10, refused-11, accepted, number-there, number-nowhere, place-few}
 
 -- ---- what is written, by sections
 

@@ -14,10 +14,10 @@ use Rattle.model.specs.Bytes.{Bytes, inRange}
 use Rattle.model.specs.Atoms.{numberFrom, noLeadingZero, readInt}
 use Rattle.model.proofs.Options.{parts}
 use Rattle.model.proofs.Decimals.{digit, digit-range}
-use Rattle.text.specs.Codes.{isDecimal, limited, codedInt}
+use Rattle.text.specs.ReadCodes.{isDecimal, limited, codedInt}
 use Rattle.text.specs.declared.Int.{Int}
 use Rattle.text.specs.declared.Int.the-variants.{Number, Malformed}
-use Rattle.text.proofs.Places.{next, done, all-at}
+use Rattle.text.proofs.LoopPlaces.{next, done, all-at}
 
 module _ (s : Bytes) where
   -- two ways in which the front digit is no leading zero

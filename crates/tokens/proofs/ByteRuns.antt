@@ -8,8 +8,8 @@ use lib.ListN.{length, getD, take, drop, length-drop}
 use lib.Seq.{take-all}
 use Rattle.model.specs.Bytes.{Bytes, isByte}
 use Rattle.model.specs.Tokens.{wordByte, run}
-use Rattle.text.proofs.Places.{next, done}
-use Rattle.tokens.specs.Reading.{lead, inRun, unspaced}
+use Rattle.text.proofs.LoopPlaces.{next, done}
+use Rattle.tokens.specs.TokenAt.{lead, inRun, unspaced}
 
 -- the run from place i on
 module _ (p : ℕ → Bool) (s : Bytes) (i : ℕ) where

@@ -38,17 +38,17 @@ use Rattle.fields.specs.declared.RuleFields.{RuleFields}
 use Rattle.fields.specs.Forms.{noRule, ruleNumbers, ruleOf, RuleTold}
 use Rattle.fields.specs.Told.{numbersOr}
 use Rattle.text.specs.Packing.{packedOf}
-use Rattle.text.proofs.Places.{tail-part}
+use Rattle.text.proofs.LoopPlaces.{tail-part}
 use Rattle.book.specs.Sections as section
 use Rattle.book.specs.Sections.{Section, part, bookWords, codeBytes, ruleBytes}
 use Rattle.book.specs.Held.{CountsOf, OperationRows, SortRows, GroupSlots, RuleHeld, RuleRows, Holds, pairRow, holderRow}
 use Rattle.book.specs.Finding.{OperationFound}
 use Rattle.book.specs.Steps.{laterTests}
-use Rattle.book.specs.Reading.{fieldsRefusal, FieldsRead, codeOf, RuleJudged, ruleTests, rulePut}
+use Rattle.book.specs.LineSteps.{fieldsRefusal, FieldsRead, codeOf, RuleJudged, ruleTests, rulePut}
 use Rattle.book.proofs.Sections.{mid-inside, mid-before}
 use Rattle.book.proofs.Writes.{apart, word-beside, word-inside, section-long, section-word, word-at}
 use Rattle.book.proofs.Kept.{length-more, sorts-kept, groups-kept, attributes-kept}
-use Rattle.book.proofs.Tests.{number-is, place-few}
+use Rattle.book.proofs.DeclarationTests.{number-is, place-few}
 
 -- ---- the bytes of a rule
 
