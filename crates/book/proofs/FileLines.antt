@@ -1,14 +1,14 @@
 -- A line of a file: its tests, by its frame, its key and its fields. Assumes nothing.
-use Prim.Native.Nat.{ℕ, suc, _+_, _-_, _≤_, _<_}
+use Prim.Native.Nat.{ℕ, _-_, _≤_, _<_}
 use mathlib.Core.Path.{_≡_, refl, sym, ap, subst, _∙_}
-use mathlib.Core.Bool.{Bool, true, false, true≢false}
-use mathlib.Core.List.{List, [], _∷_, _++_}
+use mathlib.Core.Bool.{Bool, true, false}
+use mathlib.Core.List.{List, [], _∷_}
 use mathlib.Core.Option.{Option, none, some}
 use native.Mathlib.Omega.{arith}
 use lib.Dec.{ltb}
-use lib.ListN.{length, take, drop, length-append}
+use lib.ListN.{length, length-append}
 use borrow.Author.Tests.{lt-ltb, le-ltb}
-use Rattle.model.specs.Notation.{if_then_else_, _>>=_, _is_, isNone}
+use Rattle.model.specs.Notation.{_>>=_, _is_, isNone}
 use Rattle.model.specs.Limits.{lineBytes}
 use Rattle.model.specs.Bytes.{Bytes}
 use Rattle.model.specs.Keys.{Key, keyWord, rank}
@@ -16,8 +16,7 @@ use Rattle.model.specs.Lines.{Line, framed, readFields, readLine}
 use Rattle.model.specs.Declarations.{Sort}
 use Rattle.model.specs.State.{State}
 use Rattle.model.specs.Refusals.{_if_, first, unframed, outOfOrder, malformed, overLimits, undeclared, wrongSort, repeated, full, circular, lineRefusal}
-use Rattle.model.specs.Load.{stepped, keyOf}
-use Rattle.model.specs.Standing.{Standing}
+use Rattle.model.specs.Load.{stepped}
 use Rattle.model.proofs.Lines.{framed-exact}
 use Rattle.codes.specs.Codes.{coded, keyCode}
 use Rattle.codes.proofs.Codes.{key-injective}
@@ -25,7 +24,6 @@ use Rattle.fields.specs.declared.Framed.{Framed}
 use Rattle.fields.specs.Told.{numbersOr}
 use Rattle.fields.specs.Frames.{part, noFrame, frameNumbers, FrameTold}
 use Rattle.book.specs.Held.{Holds}
-use Rattle.book.specs.Steps.{laterTests}
 use Rattle.book.specs.LineSteps.{fieldsRefusal, FieldsRead, KeyRead, TwoRead, HolderRead, KeyFields, FieldsOf, LineRead}
 
 -- ---- the frame

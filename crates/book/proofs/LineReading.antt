@@ -5,17 +5,16 @@ use mathlib.Core.Bool.{Bool, true, false, _&&_, true≢false}
 use mathlib.Core.List.{List, [], _∷_}
 use mathlib.Core.Option.{Option, none, some, Option·some-injective}
 use native.Mathlib.Omega.{arith}
-use Rattle.model.specs.Notation.{_>>=_, _is_, isNone}
+use Rattle.model.specs.Notation.{_>>=_, _is_}
 use Rattle.model.specs.Bytes.{Bytes}
 use Rattle.model.specs.Names.{isName, readName}
 use Rattle.model.specs.Atoms.{isAtom}
 use Rattle.model.specs.Keys.{Key}
 use Rattle.model.specs.Lines.{Line, attr, op, atom, holder, parent, member, value, rule, readAttr, readOp, readPair, readHolder, readTwo, readValue}
-use Rattle.model.specs.Declarations.{Sort, holderNumbersOf}
-use Rattle.model.specs.Ties.{Tie, Ties, added}
+use Rattle.model.specs.Declarations.{holderNumbersOf}
+use Rattle.model.specs.Ties.{Tie, added}
 use Rattle.model.specs.State.{State, tieOf, after}
-use Rattle.model.specs.Refusals.{_if_, first, overLimits, undeclared, wrongSort, stands, repeated, full, circular, tieCloses}
-use Rattle.model.specs.Load.{stepped}
+use Rattle.model.specs.Refusals.{_if_, first, undeclared, wrongSort, stands, circular, tieCloses}
 use Rattle.model.specs.Standing.{Standing, TieFits}
 use Rattle.model.proofs.WordTables.{false-is-true}
 use Rattle.model.proofs.Options.{parts, bind-some}
@@ -33,7 +32,7 @@ use Rattle.fields.specs.Forms.{codedName, TwoTold, ValueTold, AttrTold, PairTol
 use Rattle.book.specs.Held.{Holds}
 use Rattle.book.specs.Steps.{laterTests, Steps}
 use Rattle.book.specs.Declaring.{AttributeStep, OperationStep, PairStep, HolderStep}
-use Rattle.book.specs.TieSteps.{tieTests, TieOfLine, TwoNamed, ValueNamed, TieStands, TieCloses, TiePut}
+use Rattle.book.specs.TieSteps.{TieOfLine, ValueNamed, TieStands, TieCloses, TiePut}
 use Rattle.book.specs.LineSteps.{fieldsRefusal, FieldsRead, KeyRead, HolderRead, isTie, TieAdded}
 
 -- ---- fields that read, and fields that do not

@@ -1,5 +1,5 @@
 -- A rule more: what its line is refused for, and that the book with it holds the state with it. Assumes nothing.
-use Prim.Native.Nat.{ℕ, suc, _+_, _-_, _*_, _≤_, _<_}
+use Prim.Native.Nat.{ℕ, _+_, _-_, _*_, _≤_, _<_}
 use mathlib.Core.Path.{_≡_, refl, sym, ap, ap₂, subst, _∙_}
 use mathlib.Core.Logic.{⊎-elim}
 use mathlib.Core.Bool.{Bool, true, false, _&&_, _||_, not, true≢false}
@@ -20,7 +20,7 @@ use Rattle.model.specs.Tokens.{Token, name, int, str, truth, operator, mark, is
 use Rattle.model.specs.Grammar.{Policy, readPolicy, tooLarge}
 use Rattle.model.specs.Keys.{Key}
 use Rattle.model.specs.Lines.{Line, rule, readRule}
-use Rattle.model.specs.Declarations.{Declarations, Rule, attributeNumber, operationNumber, holderNumbersOf, groups, sortOf}
+use Rattle.model.specs.Declarations.{Declarations, Rule, attributeNumber, operationNumber, holderNumbersOf, groups}
 use Rattle.model.specs.State.{State, after, withRule}
 use Rattle.model.specs.Refusals.{_if_, first, unknownName, circular}
 use Rattle.model.specs.Load.{stepped}
@@ -29,9 +29,8 @@ use Rattle.model.proofs.Options.{parts, bind-some}
 use Rattle.model.proofs.Lists.{nth-lt}
 use Rattle.model.proofs.Lines.{fields-said}
 use Rattle.model.proofs.Growing.{nth-last}
-use Rattle.codes.specs.Codes.{kindOf}
 use Rattle.rows.specs.Rows.{AttributeRows, pairOf, numberOr}
-use Rattle.tokens.specs.RuleCode.{encodeToken, ruleCode, Coded}
+use Rattle.tokens.specs.RuleCode.{encodeToken, Coded}
 use Rattle.index.specs.Index.{Indexed}
 use Rattle.policy.specs.Judgements.{Judges, judged}
 use Rattle.fields.specs.declared.RuleFields.{RuleFields}
@@ -40,10 +39,9 @@ use Rattle.fields.specs.Told.{numbersOr}
 use Rattle.text.specs.Packing.{packedOf}
 use Rattle.text.proofs.LoopPlaces.{tail-part}
 use Rattle.book.specs.Sections as section
-use Rattle.book.specs.Sections.{Section, part, bookWords, codeBytes, ruleBytes}
-use Rattle.book.specs.Held.{CountsOf, OperationRows, SortRows, GroupSlots, RuleHeld, RuleRows, Holds, pairRow, holderRow}
+use Rattle.book.specs.Sections.{Section, part, ruleBytes}
+use Rattle.book.specs.Held.{CountsOf, OperationRows, SortRows, RuleHeld, RuleRows, Holds, pairRow, holderRow}
 use Rattle.book.specs.Finding.{OperationFound}
-use Rattle.book.specs.Steps.{laterTests}
 use Rattle.book.specs.LineSteps.{fieldsRefusal, FieldsRead, codeOf, RuleJudged, ruleTests, rulePut}
 use Rattle.book.proofs.Sections.{mid-inside, mid-before}
 use Rattle.book.proofs.Writes.{apart, word-beside, word-inside, section-long, section-word, word-at}

@@ -8,7 +8,7 @@ use lib.ListN.{length, getD, take, drop}
 use Rattle.model.specs.Notation.{_>>=_, nth}
 use Rattle.model.specs.Limits.{operationLimit, pairLimit, holderNumbers, groupLimit}
 use Rattle.model.specs.Bytes.{Bytes}
-use Rattle.model.specs.Declarations.{Declarations, Holder, Rule, Sort, attributeNumber, operationNumber, holderOf, sortOf, holderNumbersOf, isGroup, groups}
+use Rattle.model.specs.Declarations.{Declarations, Holder, Rule, Sort, attributeNumber, operationNumber, sortOf, holderNumbersOf, isGroup, groups}
 use Rattle.model.specs.State.{State}
 use Rattle.codes.specs.Codes.{coded}
 use Rattle.text.specs.Packing.{packedOf}

@@ -1,8 +1,8 @@
 -- The sections of a book: its words lie one section after another.
-use Prim.Native.Nat.{ℕ, _+_, _*_}
+use Prim.Native.Nat.{ℕ, _*_}
 use mathlib.Core.List.{List}
 use lib.ListN.{take, drop}
-use Rattle.model.specs.Limits.{attributeLimit, operationLimit, pairLimit, holderNumbers, groupLimit, ruleLimit, setWords}
+use Rattle.model.specs.Limits.{ruleLimit}
 
 pub record Section : Type 0 where
   pub start : ℕ

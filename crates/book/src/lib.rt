@@ -6,12 +6,22 @@ pub mod line;
 pub mod rule;
 pub mod tie;
 
-// Where sections begin; each ends where the next begins.
+// How many words a book has, how many bytes of code its rules have together, and each of them alone.
+pub const BOOK_WORDS: usize = 5240;
+
+pub const RULES_BYTES: usize = 24576;
+
+pub const RULE_BYTES: usize = 768;
+
+// Where sections begin; each ends where the next begins, the last with the book.
 pub const ATTRIBUTES_AT: usize = 8;
 
 pub const OPERATIONS_AT: usize = 264;
 
 pub const PAIRS_AT: usize = 280;
+
+// The rows of pairs, behind the chains of their index.
+pub const PAIR_ROWS_AT: usize = 792;
 
 pub const HOLDERS_AT: usize = 1816;
 

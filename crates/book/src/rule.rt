@@ -32,7 +32,7 @@ fn judge(s: &[u8], attributes: &[u64], code: &mut [u8], k: usize) -> u8
     ensures { λ n. ⌜ RuleJudged (now (s .entry)) (now (attributes .entry)) k (now (code .entry)) (now (code .exit)) n ⌝ }
 {
     if k >= RULES {
-        let mut unkept: [u8; 768] = [0; 768];
+        let mut unkept: [u8; CODE] = [0; CODE];
         return policy::judge(s, attributes, &mut unkept);
     }
     let start = CODE * k;

@@ -1,6 +1,5 @@
 -- The numbers of a block, looked up in the sections of a book. Assumes nothing.
-use Prim.Native.Nat.{ℕ, _+_, _*_, _≤_, _<_}
-use native.Mathlib.Omega.{arith}
+use Prim.Native.Nat.{ℕ, _≤_, _<_}
 use mathlib.Core.Path.{_≡_, refl, sym, ap, ap₂, _∙_}
 use mathlib.Core.Bool.{Bool, true, false, not, _||_}
 use mathlib.Core.List.{List}
@@ -11,7 +10,7 @@ use borrow.Author.Tests.{le-leb, lt-leb}
 use Rattle.model.specs.Notation.{_is_, all}
 use Rattle.model.specs.Bytes.{Bytes}
 use Rattle.model.specs.Declarations.{Declarations, Sort, sortOf, isSort}
-use Rattle.model.specs.Block.{Block, Entry, entriesOf}
+use Rattle.model.specs.Block.{Block}
 use Rattle.model.specs.Refusals.{entryFits, wrongNumber}
 use Rattle.codes.specs.Codes.{coded}
 use Rattle.book.specs.Held.{sortCode}

@@ -1,8 +1,7 @@
 -- What a book and a table that stand for a state lend to a request. Assumes nothing.
-use Prim.Native.Nat.{ℕ, _+_, _-_, _*_, _/_, _%_, _^_, _≤_, _<_}
+use Prim.Native.Nat.{ℕ, _+_, _-_, _*_, _≤_, _<_}
 use native.Mathlib.Omega.{arith}
-use mathlib.Core.Path.{_≡_, refl, sym, ap, subst, _∙_}
-use mathlib.Core.Bool.{Bool}
+use mathlib.Core.Path.{_≡_, refl, sym, ap, _∙_}
 use mathlib.Core.List.{List}
 use mathlib.Core.Option.{Option, none, some}
 use lib.ListN.{length, getD, take, drop}
@@ -13,7 +12,7 @@ use Rattle.model.specs.Bytes.{Bytes}
 use Rattle.model.specs.Declarations.{Declarations, Pair, attributeNumber}
 use Rattle.model.specs.State.{State}
 use Rattle.model.specs.Block.{Block, readBlock}
-use Rattle.model.specs.Table.{table, effectiveSet}
+use Rattle.model.specs.Table.{table}
 use Rattle.model.specs.Standing.{Standing, WellDeclared}
 use Rattle.model.proofs.Options.{no-result}
 use Rattle.model.proofs.Lists.{nth-lt}

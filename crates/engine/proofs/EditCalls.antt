@@ -18,7 +18,7 @@ use Rattle.model.specs.Edits.{editedTie, adds, editedTies, changes, accepting, 
 use Rattle.model.specs.Ledger.{Call, Answer, edited, step, withTable, withoutTable, tableAfter, Outcome, outcome}
 use Rattle.model.specs.Standing.{Standing}
 use Rattle.book.specs.Held.{Holds}
-use Rattle.engine.specs.Calls.{Gives, Edits}
+use Rattle.engine.specs.Calls.{Gives}
 use Rattle.engine.specs.EditSteps.{LineTie, TieJudged, Applied, Untouched, EditCall}
 use Rattle.engine.proofs.EditRefusals.{SignedLine, tie-fitting, tie-refusal, edited-tie, adds-is}
 

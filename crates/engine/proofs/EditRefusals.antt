@@ -16,7 +16,7 @@ use Rattle.model.specs.Ties.{Tie}
 use Rattle.model.specs.State.{State, tieOf}
 use Rattle.model.specs.Refusals.{Test, _if_, first, unframed, otherKey, malformed, undeclared, wrongSort, stands, repeated, tieCloses, circular, plusLine, minusLine, notStanding, editRefusal}
 use Rattle.model.specs.Edits.{editedTie, adds}
-use Rattle.model.specs.Standing.{Standing, TieFits}
+use Rattle.model.specs.Standing.{TieFits}
 use Rattle.model.proofs.WordTables.{none-is-some}
 use Rattle.model.proofs.Options.{parts, bind-some, some-not}
 use Rattle.model.proofs.Tests.{allNumbered, none-holds}

@@ -1,26 +1,25 @@
 -- What an edit does in a run: "No edit changes the set of a holder that is neither the edited one nor below it; a refused edit changes none; the reported
 -- count is exact". Assumes nothing.
 use Prim.Native.Nat.{ℕ, _<_}
-use mathlib.Core.Path.{_≡_, refl, sym, ap, ap₂, subst, _∙_}
+use mathlib.Core.Path.{_≡_, refl, sym, ap, subst, _∙_}
 use mathlib.Core.Bool.{Bool, true, false, not}
 use mathlib.Core.List.{List}
 use mathlib.Core.Option.{some}
 use native.Mathlib.Omega.{arith}
 use lib.ListN.{length, replicate}
 use lib.Dec.{eqb}
-use borrow.Author.Tests.{eqb-true}
 use Rattle.model.specs.Notation.{if_then_else_, count, below}
-use Rattle.model.specs.Limits.{holderNumbers, tableWords, setWords}
+use Rattle.model.specs.Limits.{holderNumbers, setWords}
 use Rattle.model.specs.Bytes.{Bytes}
 use Rattle.model.specs.Declarations.{Declarations, isHolder}
 use Rattle.model.specs.Ties.{Tie, Ties, edited, Below}
-use Rattle.model.specs.Table.{wordsOf, effectiveSet, storedSet, table}
+use Rattle.model.specs.Table.{effectiveSet, storedSet, table}
 use Rattle.model.specs.State.{State}
 use Rattle.model.specs.Refusals.{wrongTable, editRefusal}
 use Rattle.model.specs.Edits as model
 use Rattle.model.specs.Edits.{editedTie}
 use Rattle.model.specs.Ledger as ledger
-use Rattle.model.specs.Ledger.{Call, Answer, Step, step, withTable, withoutTable, tableAfter, Outcome, outcome}
+use Rattle.model.specs.Ledger.{Call, Answer, Step, step, withTable, withoutTable, tableAfter, outcome}
 use Rattle.model.proofs.WordTables.{same-refl}
 use Rattle.model.proofs.Lists.{count-below}
 use Rattle.model.proofs.Ledger.{edit-standing, edit-elsewhere, refused-edit}

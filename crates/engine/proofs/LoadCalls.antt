@@ -1,15 +1,14 @@
 -- The ways out of a load: a table of another length, a refused file, an accepted one. Assumes nothing.
 use Prim.Native.Nat.{ℕ}
 use mathlib.Core.Path.{_≡_, refl, sym, ap, ap₂, subst, _∙_}
-use mathlib.Core.Bool.{Bool, true, false, not, true≢false}
+use mathlib.Core.Bool.{Bool, true, false, not}
 use mathlib.Core.List.{List}
 use native.Mathlib.Omega.{arith}
 use lib.ListN.{length, getD, replicate, length-replicate, getD-replicate}
-use lib.Dec.{eqb}
 use lib.Seq.{ext-getD}
 use borrow.Author.Tests.{eq-eqb, ne-eqb}
 use Rattle.model.specs.Notation.{if_then_else_}
-use Rattle.model.specs.Limits.{tableWords, holderNumbers}
+use Rattle.model.specs.Limits.{tableWords}
 use Rattle.model.specs.Bytes.{Bytes}
 use Rattle.model.specs.Table.{table}
 use Rattle.model.specs.State.{State, empty}
@@ -20,7 +19,7 @@ use Rattle.model.proofs.Table.{empty-table}
 use Rattle.model.proofs.Loads.{load-refused, refused-load}
 use Rattle.model.proofs.Ledger.{load-standing}
 use Rattle.book.specs.Sections as section
-use Rattle.book.specs.Sections.{part, bookWords}
+use Rattle.book.specs.Sections.{bookWords}
 use Rattle.book.specs.Held.{Holds}
 use Rattle.book.specs.LineSteps.{LoadedAs}
 use Rattle.book.proofs.TieSections.{part-size}

@@ -4,18 +4,16 @@ use mathlib.Core.Path.{_≡_, refl, sym, ap, _∙_}
 use mathlib.Core.Bool.{Bool, true, false, true≢false}
 use mathlib.Core.List.{List}
 use lib.ListN.{length}
-use lib.Dec.{eqb}
 use borrow.Author.Tests.{eq-eqb}
 use Rattle.model.specs.Notation.{if_then_else_}
 use Rattle.model.specs.Limits.{tableWords}
 use Rattle.model.specs.Bytes.{Bytes}
 use Rattle.model.specs.Table.{table}
-use Rattle.model.specs.State.{State}
 use Rattle.model.specs.Refusals.{wrongTable}
-use Rattle.model.specs.Ledger.{Call, Step, step, withTable, withoutTable, tableAfter}
+use Rattle.model.specs.Ledger.{Call, step, withTable, withoutTable, tableAfter}
 use Rattle.engine.specs.declared.Decision.{Decision}
 use Rattle.engine.specs.Decisions.{decisionOf, Decides}
-use Rattle.engine.specs.Calls.{Together, Loads}
+use Rattle.engine.specs.Calls.{Loads}
 use Rattle.engine.specs.EditSteps.{EditCall}
 use Rattle.engine.specs.Runs.{Memory, Does, loads, edits, decides, AnswersRequest}
 use Rattle.model.specs.Ledger.{loaded, edited, decided}

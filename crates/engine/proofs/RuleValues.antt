@@ -3,9 +3,9 @@ use Prim.Native.Nat.{ℕ, _+_, _-_, _*_, _≤_, _<_}
 use native.Mathlib.Omega.{arith}
 use native.Mathlib.Decide.{decLt}
 use mathlib.Core.Path.{_≡_, refl, sym, ap, ap₂, subst, _∙_}
-use mathlib.Core.Bool.{Bool, true, false, not, _||_, true≢false}
+use mathlib.Core.Bool.{Bool, true, false, _||_, true≢false}
 use mathlib.Core.List.{List}
-use mathlib.Core.Option.{Option, none, some, Option·some-injective}
+use mathlib.Core.Option.{Option, none, some}
 use lib.ListN.{length, getD, take, drop}
 use Rattle.model.specs.Notation.{if_then_else_, _is_, nth}
 use Rattle.model.specs.Bytes.{Bytes, same}
@@ -16,7 +16,7 @@ use Rattle.model.specs.Block.{Block}
 use Rattle.model.specs.Meaning.{meaningOf}
 use Rattle.model.specs.Session.{readBy}
 use Rattle.model.specs.Decision.{permit, deny, undefined, verdicts, isTrue, isUndef, decided}
-use Rattle.model.proofs.WordTables.{false-is-true, none-is-some, same-eq, same-refl}
+use Rattle.model.proofs.WordTables.{false-is-true, same-eq, same-refl}
 use Rattle.model.proofs.Options.{is-some}
 use Rattle.model.proofs.Lists.{place-nth, nth-lt, lt-nth}
 use Rattle.model.proofs.Decision.{Verdict, verdicts-rise, verdict-exact, decided-permit, decided-undefined, decided-deny}

@@ -6,7 +6,6 @@ use mathlib.Core.Bool.{Bool, true, false}
 use mathlib.Core.List.{List, [], _∷_}
 use lib.ListN.{length}
 use Rattle.model.specs.Notation.{if_then_else_, map}
-use Rattle.model.specs.Limits.{tableWords}
 use Rattle.model.specs.Bytes.{Bytes}
 use Rattle.model.specs.Table.{table}
 use Rattle.model.specs.State.{State, empty}
@@ -16,7 +15,7 @@ use Rattle.model.specs.Standing.{Standing}
 use Rattle.model.proofs.Standing.{empty-standing}
 use Rattle.model.proofs.Ledger.{step-standing, request-keeps}
 use Rattle.book.specs.Held.{Holds}
-use Rattle.engine.specs.Calls.{Gives, Together, Loads, Edits}
+use Rattle.engine.specs.Calls.{Gives, Together}
 use Rattle.engine.specs.Runs.{Memory, Does, loads, edits, decides, CallSeen, Run, end, next, Leads, from-load, from-there}
 
 -- what is compared after a call: "the answer with all it carries …, and all 1,024 words"

@@ -8,6 +8,7 @@ ghost use Rattle.book.specs.Sections.{bookWords};
 ghost use Rattle.book.specs.TieSteps.{tieBy};
 ghost use Rattle.engine.specs.EditSteps.{FieldsTie, TwoFieldsTie, KeyTie, LineTie, TieJudged, TieChanged, TableKept, Applied, EditCall};
 use crate::TABLE_WORDS;
+use book::BOOK_WORDS;
 use book::OWN_AT;
 use book::RULES_AT;
 use book::SLOTS_AT;
@@ -181,7 +182,7 @@ fn apply(words: &mut [u64], table: &mut [u64], plus: bool, t: Tie) -> u32
 }
 
 // An edit: its line with the sign, on the book and the table that go together.
-pub fn edit(line: &[u8], book: &mut [u64; 5240], table: &mut [u64]) -> Edited
+pub fn edit(line: &[u8], book: &mut [u64; BOOK_WORDS], table: &mut [u64]) -> Edited
     ensures { λ r. ⌜ EditCall (now (line .entry)) (now (book .entry)) (now (table .entry)) (r .number) (r .count) (now (table .exit)) (now (book .exit)) ⌝ }
 {
     if table.len() != TABLE_WORDS {

@@ -1,7 +1,7 @@
 // The calls. A request is decided on the book, the code of its rules and the table, all lent; nothing is written.
 ghost use mathlib.Core.Path.{_≡_};
 ghost use mathlib.Core.Bool.{_||_};
-ghost use Prim.Native.Nat.{ℕ, _+_, _*_, _≤_, _<_};
+ghost use Prim.Native.Nat.{_+_, _*_, _≤_, _<_};
 ghost use lib.Dec.{eqb};
 ghost use lib.ListN.{length, getD};
 ghost use Rattle.model.specs.Block.{isBlock};
@@ -9,6 +9,19 @@ ghost use Rattle.model.specs.Decision.{isTrue, isUndef};
 ghost use Rattle.truth.specs.Truths.{truthOf};
 ghost use Rattle.engine.specs.Requests.{EntryFits, EntriesFit, WrongNumber, Sizes, RuleValued};
 ghost use Rattle.engine.specs.Decisions.{Decided, Answered, Decides};
+use book::ATTRIBUTE_COUNT;
+use book::ATTRIBUTES_AT;
+use book::BOOK_WORDS;
+use book::HOLDERS_AT;
+use book::OPERATION_COUNT;
+use book::OPERATIONS_AT;
+use book::PAIR_ROWS_AT;
+use book::RULE_BYTES;
+use book::RULE_COUNT;
+use book::RULES_AT;
+use book::RULES_BYTES;
+use book::SEATS_AT;
+use book::SORTS_AT;
 use codes::ADMIN;
 use codes::BOOL;
 use codes::KEY_OBJECT;
@@ -112,7 +125,7 @@ fn wrong_number(
     if !is_sort(sorts, block[2], KEY_OBJECT) {
         return true;
     }
-    if counts[1] <= wide(block[3]) as u64 {
+    if counts[OPERATION_COUNT] <= wide(block[3]) as u64 {
         return true;
     }
     !entries_fit(attributes, entries)
@@ -135,8 +148,8 @@ fn rule_value(
     if operations[k] != operation as u64 {
         return Truth::False;
     }
-    let start = 768 * k;
-    let end = 768 * k + 768;
+    let start = RULE_BYTES * k;
+    let end = RULE_BYTES * k + RULE_BYTES;
     policy::evaluate(&code[start..end], attributes, pairs, session, entries)
 }
 
@@ -226,7 +239,7 @@ fn answered(
     let user = wide(block[1]);
     let object = wide(block[2]);
     let mask = values::four(block, 4) as u32;
-    let declared = in_room(counts[0]);
+    let declared = in_room(counts[ATTRIBUTE_COUNT]);
     let mut session: [u64; 128] = [0; 128];
     session::open(
         attributes,
@@ -240,7 +253,7 @@ fn answered(
     if session::unheld(attributes, &session, mask) {
         return Decision::Refused(17);
     }
-    let rules = in_room(counts[5]);
+    let rules = in_room(counts[RULE_COUNT]);
     decided(
         operations,
         code,
@@ -254,7 +267,12 @@ fn answered(
 }
 
 // Decides a request: its block, on a book with the code of its rules, and the table.
-pub fn decide(block: &[u8], book: &[u64; 5240], rules: &[u8; 24576], table: &[u64]) -> Decision
+pub fn decide(
+    block: &[u8],
+    book: &[u64; BOOK_WORDS],
+    rules: &[u8; RULES_BYTES],
+    table: &[u64],
+) -> Decision
     ensures { λ r. ⌜ Decides (now (block .entry)) (now (book .entry)) (now (rules .entry)) (now (table .entry)) r ⌝ }
 {
     if table.len() != TABLE_WORDS {
@@ -264,15 +282,15 @@ pub fn decide(block: &[u8], book: &[u64; 5240], rules: &[u8; 24576], table: &[u6
         return Decision::Refused(15);
     }
     let words = &book[..];
-    let counts = &words[0..8];
-    let attributes = &words[8..264];
-    let sorts = &words[3352..3608];
+    let counts = &words[0..ATTRIBUTES_AT];
+    let attributes = &words[ATTRIBUTES_AT..OPERATIONS_AT];
+    let sorts = &words[SORTS_AT..SEATS_AT];
     let entries = &block[10..];
     if wrong_number(counts, sorts, attributes, block, entries) {
         return Decision::Refused(16);
     }
-    let pairs = &words[792..1816];
-    let operations = &words[5208..5240];
+    let pairs = &words[PAIR_ROWS_AT..HOLDERS_AT];
+    let operations = &words[RULES_AT..BOOK_WORDS];
     let code = &rules[..];
     answered(
         counts,

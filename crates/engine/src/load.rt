@@ -8,8 +8,10 @@ ghost use Rattle.book.specs.Held.{Holds};
 ghost use Rattle.engine.specs.Calls.{Loads};
 ghost use Rattle.engine.specs.LoadSteps.{TableFilled};
 use crate::TABLE_WORDS;
+use book::BOOK_WORDS;
 use book::OWN_AT;
 use book::RULES_AT;
+use book::RULES_BYTES;
 use book::SLOTS_AT;
 use book::UPS_AT;
 use book::file::Loaded;
@@ -38,8 +40,8 @@ fn empty(words: &mut [u64], code: &[u8])
 // Loads a file. "Book empty, table all 0" after a refusal; on a table of another length the book is emptied, and the table keeps its words.
 pub fn load(
     file: &[u8],
-    book: &mut [u64; 5240],
-    rules: &mut [u8; 24576],
+    book: &mut [u64; BOOK_WORDS],
+    rules: &mut [u8; RULES_BYTES],
     table: &mut [u64],
 ) -> Loaded
     ensures { λ r. ⌜ Loads (now (file .entry)) (now (table .entry)) (r .number) (r .line) (now (table .exit)) (now (book .exit)) (now (rules .exit)) ⌝ }

@@ -1,6 +1,6 @@
 -- What holds of a number and of what it carries holds of the parts of the one number that has both. Assumes nothing.
 use Prim.Native.Nat.{ℕ, _/_, _%_}
-use mathlib.Core.Path.{_≡_, sym, subst}
+use mathlib.Core.Path.{sym, subst}
 use mathlib.Core.List.{List}
 use Rattle.model.specs.Bytes.{Bytes}
 use Rattle.model.specs.Ledger.{Outcome, loaded}

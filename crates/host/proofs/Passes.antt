@@ -1,27 +1,26 @@
 -- A load and then a decision are the call of the specification. Assumes nothing.
 use Prim.Native.Nat.{ℕ}
 use mathlib.Core.Path.{_≡_, refl, sym, ap, _∙_}
-use mathlib.Core.Bool.{Bool, true, false, true≢false}
+use mathlib.Core.Bool.{Bool, true, false}
 use mathlib.Core.List.{List}
 use native.Mathlib.Omega.{arith}
 use lib.ListN.{length}
 use lib.Dec.{eqb}
 use borrow.Author.Tests.{eq-eqb, ne-eqb}
 use Rattle.model.specs.Notation.{if_then_else_}
-use Rattle.model.specs.Limits.{tableWords}
 use Rattle.model.specs.Bytes.{Bytes}
 use Rattle.model.specs.Table.{table}
-use Rattle.model.specs.State.{State, empty}
+use Rattle.model.specs.State.{empty}
 use Rattle.model.specs.Refusals.{wrongTable}
 use Rattle.model.specs.Load as model
 use Rattle.model.specs.Decision.{numberAndValues}
 use Rattle.model.specs.Decision as decision
-use Rattle.model.specs.Ledger.{Call, Answer, loaded, step, withTable, withoutTable, tableAfter, outcome}
+use Rattle.model.specs.Ledger.{Call, loaded, step, withTable, withoutTable, tableAfter, outcome}
 use Rattle.model.specs.Host.{hostCall, hostTable}
 use Rattle.model.proofs.Ledger.{load-standing}
 use Rattle.engine.specs.declared.Decision.{Decision}
-use Rattle.engine.specs.Decisions.{decisionOf, numberAndValuesOf, Decides}
-use Rattle.engine.specs.Calls.{Gives, Loads}
+use Rattle.engine.specs.Decisions.{numberAndValuesOf, Decides}
+use Rattle.engine.specs.Calls.{Loads}
 
 module _ (file block : Bytes) (words words′ book : List ℕ) (code : Bytes) (number line : ℕ) (given : Loads file words number line words′ book code) where
   -- the answer, by whether the table is wrong

@@ -7,6 +7,8 @@ ghost use Rattle.engine.specs.Decisions.{numberAndValuesOf};
 ghost use Rattle.engine.specs.Calls.{Loads};
 ghost use Rattle.engine.specs.EditSteps.{EditCall};
 ghost use Rattle.host.specs.AnswerNumbers.{high, carried, Packs, RequestNumber};
+use book::BOOK_WORDS;
+use book::RULES_BYTES;
 use engine::Decision;
 
 // "0 permit, 64 deny, 65 undefined, else the refusal."
@@ -46,8 +48,8 @@ fn pack(number: u32, carried: u32) -> u64
 pub extern "C" fn zhul_pass(file: &[u8], block: &[u8], table: &mut [u64]) -> u32
     ensures { λ r. ⌜ (r ≡ hostCall (now (file .entry)) (now (block .entry)) (length (now (table .entry)))) × (now (table .exit) ≡ hostTable (now (file .entry)) (now (table .entry))) ⌝ }
 {
-    let mut book = [0u64; 5240];
-    let mut rules = [0u8; 24576];
+    let mut book = [0u64; BOOK_WORDS];
+    let mut rules = [0u8; RULES_BYTES];
     let loaded = engine::load::load(file, &mut book, &mut rules, table);
     if loaded.number != 0 {
         return loaded.number as u32;
@@ -59,8 +61,8 @@ pub extern "C" fn zhul_pass(file: &[u8], block: &[u8], table: &mut [u64]) -> u32
 #[no_mangle]
 pub extern "C" fn zhul_load(
     file: &[u8],
-    book: &mut [u64; 5240],
-    rules: &mut [u8; 24576],
+    book: &mut [u64; BOOK_WORDS],
+    rules: &mut [u8; RULES_BYTES],
     table: &mut [u64],
 ) -> u64
     ensures { λ r. ⌜ Loads (now (file .entry)) (now (table .entry)) (r % high) (r / high) (now (table .exit)) (now (book .exit)) (now (rules .exit)) ⌝ }
@@ -71,7 +73,7 @@ pub extern "C" fn zhul_load(
 
 // An edit of the host's own book: the number, and the count in the high bits.
 #[no_mangle]
-pub extern "C" fn zhul_edit(line: &[u8], book: &mut [u64; 5240], table: &mut [u64]) -> u64
+pub extern "C" fn zhul_edit(line: &[u8], book: &mut [u64; BOOK_WORDS], table: &mut [u64]) -> u64
     ensures { λ r. ⌜ EditCall (now (line .entry)) (now (book .entry)) (now (table .entry)) (r % high) (r / high) (now (table .exit)) (now (book .exit)) ⌝ }
 {
     let edited = engine::edit::edit(line, book, table);
@@ -82,8 +84,8 @@ pub extern "C" fn zhul_edit(line: &[u8], book: &mut [u64; 5240], table: &mut [u6
 #[no_mangle]
 pub extern "C" fn zhul_decide(
     block: &[u8],
-    book: &[u64; 5240],
-    rules: &[u8; 24576],
+    book: &[u64; BOOK_WORDS],
+    rules: &[u8; RULES_BYTES],
     table: &[u64],
 ) -> u64
     ensures { λ r. ⌜ RequestNumber (now (block .entry)) (now (book .entry)) (now (rules .entry)) (now (table .entry)) r ⌝ }

@@ -81,19 +81,19 @@ unfolding policyWithin
 term-read us rest p f n h = above (λ k. termWithin k (us ++ rest) ≡ some (p, rest)) (3 * length us) n (omega arith) f
 
 -- parts joined by a mark: G reads what F reads, and goes on behind the mark
-record Level (F G : ℕ → List Token → Reading) (m : Mark) (join : Policy → Policy → Policy) : Type 0 where
+record GrammarLevel (F G : ℕ → List Token → Reading) (m : Mark) (join : Policy → Policy → Policy) : Type 0 where
   step : (n : ℕ) (ts : List Token) → G (suc n) ts ≡ (F n ts >>= joinedBy m join (λ rest. G n rest))
 
-and-level : Level (λ n ts. termWithin n ts) (λ n ts. conjunctionWithin n ts) Mark.AND and
+and-level : GrammarLevel (λ n ts. termWithin n ts) (λ n ts. conjunctionWithin n ts) Mark.AND and
 unfolding policyWithin
 and-level = record { step = λ n ts. refl }
 
-or-level : Level (λ n ts. conjunctionWithin n ts) (λ n ts. policyWithin n ts) Mark.OR or
+or-level : GrammarLevel (λ n ts. conjunctionWithin n ts) (λ n ts. policyWithin n ts) Mark.OR or
 unfolding policyWithin
 or-level = record { step = λ n ts. refl }
 
 -- a part alone, and one that the mark and more follow
-module _ {F G : ℕ → List Token → Reading} {m : Mark} {join : Policy → Policy → Policy} (L : Level F G m join) (us rest : List Token) (p : Policy) (b : ℕ) where
+module _ {F G : ℕ → List Token → Reading} {m : Mark} {join : Policy → Policy → Policy} (L : GrammarLevel F G m join) (us rest : List Token) (p : Policy) (b : ℕ) where
   alone : ((n : ℕ) → 3 * length us + b ≤ n → F n (us ++ rest) ≡ some (p, rest)) → behindMark m rest ≡ none
       → (n : ℕ) → 3 * length us + (b + 1) ≤ n → G n (us ++ rest) ≡ some (p, rest)
   alone f e n h =

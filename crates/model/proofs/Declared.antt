@@ -1,8 +1,8 @@
 -- Declarations stay well declared when an accepted line adds to them. Assumes nothing.
-use Prim.Native.Nat.{ℕ, zero, suc, _+_, _≤_, _<_}
+use Prim.Native.Nat.{ℕ, zero, suc, _+_, _≤_}
 use mathlib.Core.Path.{_≡_, refl, sym, ap, _∙_}
 use mathlib.Core.Logic.{⊎-elim}
-use mathlib.Core.Bool.{Bool, true, false, _&&_, _||_, not, true≢false}
+use mathlib.Core.Bool.{Bool, true, false, _&&_, not, true≢false}
 use mathlib.Core.List.{List, [], _∷_, _++_}
 use mathlib.Core.Option.{Option, none, some, Option·some-injective}
 use native.Mathlib.Omega.{arith}
@@ -16,15 +16,15 @@ use Rattle.model.specs.Names.{isName}
 use Rattle.model.specs.Attributes.{Source, AtomType, sourceWord, sources, sameSource, typeWord, types, fromBlock, sameType}
 use Rattle.model.specs.Atoms.{Atom, typeOf, isAtom, sameAtom, boolWord}
 use Rattle.model.specs.Tokens.{Token, isToken, asName}
-use Rattle.model.specs.Grammar.{Policy, readPolicy, tooLarge}
+use Rattle.model.specs.Grammar.{readPolicy, tooLarge}
 use Rattle.model.specs.Lines.{Line, attr, op, atom, holder, parent, member, value, rule, isLine}
 use Rattle.model.specs.Declarations.{Declarations, Attribute, Pair, Holder, Rule, Sort, isNamed, attributeNumber, attributeOf, operationNumber, pairNumber, holderNumber, holderOf, holderNumbersOf, groups, isSort, isGroup, nothingDeclared}
 use Rattle.model.specs.State.{State, declare, withAttribute, withOperation, withPair, withHolder, withRule}
 use Rattle.model.specs.Refusals.{unknownName, overLimits, undeclared, wrongSort, repeated, full}
-use Rattle.model.specs.Standing.{Each, Unique, PairStands, PairsStand, HoldersStand, RuleStands, RulesStand, WellDeclared}
+use Rattle.model.specs.Standing.{PairStands, PairsStand, HoldersStand, RuleStands, RulesStand, WellDeclared}
 use Rattle.model.proofs.WordTables.{none-is-some, false-is-true, same-eq, same-refl, same-word, reads-source, reads-type, bools, reads-bool}
 use Rattle.model.proofs.Options.{parts, both, bind-some, some-not}
-use Rattle.model.proofs.Lists.{true-or-false, or-none, nth-append, nth-lt, place-nth, length-below, count-last}
+use Rattle.model.proofs.Lists.{true-or-false, or-none, nth-append, place-nth, length-below, count-last}
 use Rattle.model.proofs.Growing.{nth-last, each-more, unique-more, place-append, place-nowhere, any-none-by, one-longer}
 
 -- ---- tests that tell what is alike

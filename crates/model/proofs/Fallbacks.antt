@@ -1,10 +1,10 @@
 -- Clauses that no state in a ledger meets: the value of tokens that are no policy, and the value of a str entry. Assumes nothing.
 use Prim.Native.Nat.{ℕ}
 use mathlib.Core.Path.{_≡_, ap, sym, _∙_}
-use mathlib.Core.Bool.{true, false, _&&_, not, true≢false}
+use mathlib.Core.Bool.{true, _&&_, not, true≢false}
 use mathlib.Core.Option.{Option, none, some}
 use Rattle.model.specs.Notation.{_is_, nth}
-use Rattle.model.specs.Attributes.{AtomType, fromBlock, sameType}
+use Rattle.model.specs.Attributes.{AtomType, fromBlock}
 use Rattle.model.specs.Grammar.{Policy, readPolicy}
 use Rattle.model.specs.Meaning.{Values, meaning, meaningOf}
 use Rattle.model.specs.Declarations.{Attribute, Rule}

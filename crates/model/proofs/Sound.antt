@@ -12,7 +12,7 @@ use Rattle.model.specs.Grammar.{constants, Policy, and, or}
 use Rattle.model.specs.Grammar.{oneType, Items, last, next, IsVar, a-constant, a-set, an-attribute}
 use Rattle.model.specs.Grammar.{Part, simple, term, conjunction, policy, Obeys, a-truth, a-lone, in-parentheses, plain, negation, comparison, one-term, joined-by-and, one-conjunction, joined-by-or}
 use Rattle.model.specs.Grammar.{isMark, behindMark, readOperator, readItems, readSet, readVar, Reading, readComparison, readSimple, readTerm, joinedBy, policyWithin, conjunctionWithin, termWithin, wholly, readPolicy}
-use Rattle.model.proofs.Results.{Whenever, result, bind-so, case-so, map-so, if-so, only-so, else-so}
+use Rattle.model.proofs.Results.{Whenever, result, bind-so, case-so, map-so, only-so, else-so}
 use Rattle.model.proofs.WordTables.{same-word, marks, reads-mark}
 
 -- marks of one word are equal
@@ -153,17 +153,17 @@ module _ (inner : List Token → Reading) (inner-so : (ts : List Token) → When
       (map-so (ReadFront (Obeys simple) ts) Q (readSimple inner ts) (simple-so ts) λ x f. record { used = f .used; split = f .split; is = plain (f .is) }))
 
 -- parts of one kind, alone or joined by a mark, make one of another
-record Joins (part whole : Part) (m : Mark) (join : Policy → Policy → Policy) : Type 0 where
+record JoinedBy (part whole : Part) (m : Mark) (join : Policy → Policy → Policy) : Type 0 where
   alone : {ts : List Token} {p : Policy} → Obeys part ts p → Obeys whole ts p
   joined : {ts us : List Token} {p q : Policy} → Obeys part ts p → Obeys whole us q → Obeys whole (ts ++ Token.mark m ∷ us) (join p q)
 
-by-and : Joins term conjunction Mark.AND and
+by-and : JoinedBy term conjunction Mark.AND and
 by-and = record { alone = one-term; joined = joined-by-and }
 
-by-or : Joins conjunction policy Mark.OR or
+by-or : JoinedBy conjunction policy Mark.OR or
 by-or = record { alone = one-conjunction; joined = joined-by-or }
 
-joined-so : {part whole : Part} {m : Mark} {join : Policy → Policy → Policy} → Joins part whole m join → (first more : List Token → Reading)
+joined-so : {part whole : Part} {m : Mark} {join : Policy → Policy → Policy} → JoinedBy part whole m join → (first more : List Token → Reading)
     → ((ts : List Token) → Whenever (ReadFront (Obeys part) ts) (first ts)) → ((ts : List Token) → Whenever (ReadFront (Obeys whole) ts) (more ts))
     → (ts : List Token) → Whenever (ReadFront (Obeys whole) ts) (first ts >>= joinedBy m join more)
 joined-so {part} {whole} {m} {join} J first more first-so more-so ts =

@@ -201,11 +201,11 @@ module _ {S : State} (standing : Standing S) where
 -- ---- declarations that grow
 
 -- what had a number keeps it
-record Grows (D E : Declarations) : Type 0 where
+record DeclaresMore (D E : Declarations) : Type 0 where
   holders-stay : (k : ℕ) (h : Holder) → nth (D .holders) k ≡ some h → nth (E .holders) k ≡ some h
   pairs-stay : (k : ℕ) (p : Pair) → nth (D .pairs) k ≡ some p → nth (E .pairs) k ≡ some p
 
-module _ {D E : Declarations} (grows : Grows D E) where
+module _ {D E : Declarations} (grows : DeclaresMore D E) where
   sort-stays : (k : ℕ) (s : Sort) → sortOf D k ≡ some s → sortOf E k ≡ some s
   unfolding sortOf
   sort-stays k s e =
@@ -232,7 +232,7 @@ module _ {D E : Declarations} (grows : Grows D E) where
     source-is = f .source-is;
   }
 
-grown-standing : {D : Declarations} {T : Ties} → Standing (record { declared = D; ties = T }) → (E : Declarations) → Grows D E → WellDeclared E
+grown-standing : {D : Declarations} {T : Ties} → Standing (record { declared = D; ties = T }) → (E : Declarations) → DeclaresMore D E → WellDeclared E
     → Standing (record { declared = E; ties = T })
 grown-standing standing E g well = record {
   declarations = well;
@@ -247,10 +247,10 @@ tied-standing : {S : State} → Standing S → (o : Option Tie) → ((t : Tie) �
 tied-standing standing none f e = standing
 tied-standing standing (some t) f e = added-standing standing t (f t refl) e
 
-same-declared : {D : Declarations} → Grows D D
+same-declared : {D : Declarations} → DeclaresMore D D
 same-declared = record { holders-stay = λ k h e. e; pairs-stay = λ k p e. e }
 
-declared-grows : (D : Declarations) (l : Line) → Grows D (declare l D)
+declared-grows : (D : Declarations) (l : Line) → DeclaresMore D (declare l D)
 declared-grows D (attr s n y) = record { holders-stay = λ k h e. e; pairs-stay = λ k p e. e }
 declared-grows D (op n) = record { holders-stay = λ k h e. e; pairs-stay = λ k p e. e }
 declared-grows D (atom s n a) = record { holders-stay = λ k h e. e; pairs-stay = λ k p e. nth-append (D .pairs) _ k e }

@@ -1,7 +1,7 @@
 -- A command answered prints what the model's output has for it, and leaves what goes together with the state behind it. Assumes nothing.
-use Prim.Native.Nat.{ℕ, _+_, _*_, _≤_}
+use Prim.Native.Nat.{ℕ, _+_, _≤_}
 use mathlib.Core.Path.{_≡_, refl, sym, ap, subst, _∙_}
-use mathlib.Core.List.{List, [], _∷_, _++_}
+use mathlib.Core.List.{List, _∷_, _++_}
 use mathlib.Core.Option.{Option, none, some}
 use mathlib.Core.Bool.{Bool, true, false, not}
 use native.Mathlib.Omega.{arith}
@@ -22,7 +22,7 @@ use Rattle.text.specs.declared.Hex.{Hex}
 use Rattle.text.specs.Hex.{Unhexed, leading}
 use Rattle.office.specs.Command.{Requests, part, CommandTold}
 use Rattle.office.specs.declared.command.Command.{Command}
-use Rattle.office.specs.Output.{PutUpTo, PutShort}
+use Rattle.office.specs.Output.{PutShort}
 use Rattle.office.specs.Answers.{memory, MemoryOf, Prints, EditAnswered, CommandAnswered}
 use Rattle.office.proofs.Commands.{request-read, request-bad}
 

@@ -5,15 +5,14 @@ use mathlib.Core.Bool.{Bool, true, false}
 use mathlib.Core.List.{List, [], _∷_, _++_, append-nil, append-assoc}
 use mathlib.Core.Option.{Option, none, some}
 use native.Mathlib.Omega.{arith}
-use native.Mathlib.Numerals.{add-one}
-use borrow.Author.Tests.{eqb-true, not-true}
+use borrow.Author.Tests.{not-true}
 use lib.ListN.{length, take, drop, length-drop, length-append}
 use lib.Seq.{take-add, drop-drop, take-all, length-take-le, take-at, append-snoc}
 use lib.Dec.{eqb}
 use Rattle.model.specs.Notation.{if_then_else_, _>>=_}
 use Rattle.model.specs.Bytes.{Bytes, bytes, newline, same, cut, begun, linesOf, content}
 use Rattle.model.specs.Gate.{bare, isEnd, fileOf, commandsOf}
-use Rattle.model.proofs.WordTables.{false-is-true, none-is-some, same-eq, same-refl}
+use Rattle.model.proofs.WordTables.{false-is-true, none-is-some, same-eq}
 use Rattle.model.proofs.Lists.{all-parts, same-truth}
 use Rattle.model.proofs.Cuts.{isnt, lacks, cut-parts, content-exact}
 use Rattle.text.specs.Parts.{FirstAt}

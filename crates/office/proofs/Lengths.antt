@@ -1,25 +1,23 @@
 -- How long printed answers are, by the digits of their numbers; an answer to a command has at most five bytes for each of the command's. Assumes nothing.
-use Prim.Native.Nat.{ℕ, zero, suc, _+_, _*_, _^_, _≤_, _<_}
-use mathlib.Core.Path.{_≡_, refl, sym, ap, _∙_}
+use Prim.Native.Nat.{ℕ, suc, _+_, _*_, _^_, _≤_, _<_}
+use mathlib.Core.Path.{_≡_, refl, ap}
 use mathlib.Core.Bool.{Bool, true, false, _&&_}
-use mathlib.Core.List.{List, [], _∷_, _++_}
+use mathlib.Core.List.{List, [], _∷_}
 use mathlib.Core.Option.{Option, none, some}
 use native.Mathlib.Omega.{arith}
 use borrow.Author.Tests.{ltb-true, eqb-true, eqb-false}
 use lib.ListN.{length, length-append}
 use lib.Dec.{ltb, eqb}
 use Rattle.model.specs.Notation.{_>>=_}
-use Rattle.model.specs.Bytes.{Bytes, bytes, newline, behind, content}
-use Rattle.model.specs.Atoms.{decimal}
+use Rattle.model.specs.Bytes.{Bytes, bytes, behind, content}
 use Rattle.model.specs.Keys.{Key, keyWord}
 use Rattle.model.specs.Lines.{framed, readLine}
-use Rattle.model.specs.State.{State, tieOf}
+use Rattle.model.specs.State.{State}
 use Rattle.model.specs.Refusals.{Test, _if_, first, plusLine, signedLine, editTests, editRefusal}
 use Rattle.model.specs.Edits.{edit, editedTie}
 use Rattle.model.specs.Decision.{Decision, permit, deny, undefined, refused}
 use Rattle.model.specs.Ledger.{Call, loaded, edited, decided}
-use Rattle.model.specs.Gate.{bare, hexPairs, callOf, printed}
-use Rattle.model.proofs.WordTables.{none-is-some}
+use Rattle.model.specs.Gate.{bare, callOf, printed}
 use Rattle.model.proofs.Options.{parts, bound, choice}
 use Rattle.model.proofs.Cuts.{behind-parts, content-exact}
 use Rattle.model.proofs.Lines.{framed-exact}

@@ -2,8 +2,8 @@
 use Prim.Native.Nat.{ℕ, _+_, _*_, _-_, _≤_, _<_}
 use mathlib.Core.Path.{_≡_, refl, sym, ap, ap₂, subst, _∙_}
 use mathlib.Core.Bool.{Bool}
-use mathlib.Core.List.{List, [], _∷_, _++_, append-assoc, append-nil}
-use mathlib.Core.Option.{Option, some}
+use mathlib.Core.List.{List, [], _∷_, _++_, append-nil}
+use mathlib.Core.Option.{some}
 use native.Mathlib.Omega.{arith}
 use borrow.Author.Tests.{le-ltb}
 use lib.ListN.{length, take, drop, length-append, length-drop}
@@ -20,7 +20,7 @@ use Rattle.engine.specs.Runs.{Memory}
 use Rattle.office.specs.declared.input.Places.{Places}
 use Rattle.office.specs.Input.{Split}
 use Rattle.office.specs.Output.{answerBytes, PutShort}
-use Rattle.office.specs.Answers.{Prints, AnsweredTo}
+use Rattle.office.specs.Answers.{AnsweredTo}
 use Rattle.office.proofs.OutputPuts.{put-front, put-length, put-put}
 use Rattle.office.proofs.Answering.{outcome-prints}
 

@@ -1,5 +1,4 @@
 // The answers: each command's call made, and what it answers printed.
-ghost use mathlib.Core.Path.{_≡_};
 ghost use Prim.Native.Nat.{_+_, _≤_, _*_};
 ghost use lib.ListN.{length};
 ghost use Rattle.model.specs.Limits.{inputBytes};
@@ -10,6 +9,8 @@ ghost use Rattle.office.specs.Command.{Requests};
 ghost use Rattle.office.specs.Output.{answerBytes, PutShort};
 ghost use Rattle.office.specs.Answers.{memory, EditAnswered, CommandAnswered, AnsweredTo};
 use crate::command::Command;
+use book::BOOK_WORDS;
+use book::RULES_BYTES;
 use engine::Decision;
 
 // The bytes of the longest block that an input has room for.
@@ -29,7 +30,7 @@ pub fn put_decision(out: &mut [u8], at: usize, decision: Decision) -> usize
 
 pub fn answer_edit(
     line: &[u8],
-    book: &mut [u64; 5240],
+    book: &mut [u64; BOOK_WORDS],
     table: &mut [u64],
     out: &mut [u8],
     at: usize,
@@ -46,8 +47,8 @@ pub fn answer_request(
     line: &[u8],
     start: usize,
     end: usize,
-    book: &[u64; 5240],
-    rules: &[u8; 24576],
+    book: &[u64; BOOK_WORDS],
+    rules: &[u8; RULES_BYTES],
     table: &[u64],
     out: &mut [u8],
     at: usize,
@@ -67,8 +68,8 @@ pub fn answer_request(
 
 pub fn answer_line(
     line: &[u8],
-    book: &mut [u64; 5240],
-    rules: &[u8; 24576],
+    book: &mut [u64; BOOK_WORDS],
+    rules: &[u8; RULES_BYTES],
     table: &mut [u64],
     out: &mut [u8],
     at: usize,
@@ -88,8 +89,8 @@ pub fn answer_line(
 // The commands one after another, each on the book and the table that the one before it left.
 pub fn answer_commands(
     commands: &[u8],
-    book: &mut [u64; 5240],
-    rules: &[u8; 24576],
+    book: &mut [u64; BOOK_WORDS],
+    rules: &[u8; RULES_BYTES],
     table: &mut [u64],
     out: &mut [u8],
     at: usize,

@@ -1,5 +1,4 @@
 // One command: an edit, a request with its block in hex, or neither.
-ghost use mathlib.Core.Path.{_≡_};
 ghost use Rattle.office.specs.Command.{Bare, CommandTold};
 
 // The hex of a request stands between two places of the line.

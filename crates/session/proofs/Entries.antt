@@ -3,25 +3,25 @@ use Prim.Native.Nat.{ℕ, zero, suc, _+_, _-_, _*_, _/_, _^_, _≤_, _<_}
 use native.Mathlib.Nat.{pow-suc}
 use native.Mathlib.Omega.{arith}
 use mathlib.Core.Path.{_≡_, refl, sym, ap, ap₂, subst, _∙_}
-use mathlib.Core.Bool.{Bool, true, false, _&&_}
+use mathlib.Core.Bool.{Bool, true, false}
 use mathlib.Core.List.{List, [], _∷_, _++_}
 use mathlib.Core.Option.{Option, none, some}
 use lib.Dec.{eqb}
 use lib.ListN.{length, getD, take, drop}
 use lib.Seq.{getD-drop, drop-drop}
-use borrow.Author.Tests.{eqb-true, eqb-false, le-leb}
+use borrow.Author.Tests.{eqb-true, eqb-false}
 use Rattle.model.specs.Notation.{if_then_else_, map, filter, each, all, nth}
 use Rattle.model.specs.Limits.{largestInt}
 use Rattle.model.specs.Bytes.{Bytes}
 use Rattle.model.specs.Attributes.{Source, AtomType}
-use Rattle.model.specs.Atoms.{Atom, int, bool, typeOf, isAtom}
+use Rattle.model.specs.Atoms.{Atom, int, bool}
 use Rattle.model.specs.Declarations.{Attribute, isNamed}
 use Rattle.model.specs.Block.{Entry, number, byteAt, valueAt, entriesOf}
 use Rattle.model.specs.Session.{given, entryValue}
 use Rattle.model.proofs.Lists.{all-cons, all-append}
 use Rattle.codes.specs.Codes.{typeCode}
 use Rattle.text.specs.declared.Words.{Words}
-use Rattle.text.specs.Values.{words, truthBit, atomWords}
+use Rattle.text.specs.Values.{atomWords}
 use Rattle.rows.proofs.RowsOfAttributes.{named-eq, eq-named}
 use Rattle.values.specs.Operands.{upFrom, chosen, entryWords, entriesFrom}
 use Rattle.values.proofs.Chosen.{filter-keep, filter-drop}

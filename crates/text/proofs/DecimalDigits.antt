@@ -1,21 +1,20 @@
 -- Decimal digits on the way through a list.
 use Prim.Native.Nat.{ℕ, _+_, _-_, _*_, _≤_, _<_}
-use mathlib.Core.Path.{_≡_, refl, sym, ap, _∙_}
+use mathlib.Core.Path.{_≡_, refl, ap}
 use mathlib.Core.Bool.{Bool, true, false, _&&_, not}
 use mathlib.Core.List.{[], _∷_}
-use mathlib.Core.Option.{none, some}
+use mathlib.Core.Option.{none}
 use native.Mathlib.Omega.{arith}
-use borrow.Author.Tests.{eq-eqb, ne-eqb, le-leb, lt-leb}
+use borrow.Author.Tests.{le-leb, lt-leb}
 use lib.ListN.{length, getD, drop}
 use lib.Dec.{eqb, leb}
 use Rattle.model.specs.Notation.{all, onlyIf}
 use Rattle.model.specs.Limits.{largestInt}
-use Rattle.model.specs.Bytes.{Bytes, inRange}
+use Rattle.model.specs.Bytes.{Bytes}
 use Rattle.model.specs.Atoms.{numberFrom, noLeadingZero, readInt}
 use Rattle.model.proofs.Options.{parts}
 use Rattle.model.proofs.Decimals.{digit, digit-range}
 use Rattle.text.specs.ReadCodes.{isDecimal, limited, codedInt}
-use Rattle.text.specs.declared.Int.{Int}
 use Rattle.text.specs.declared.Int.the-variants.{Number, Malformed}
 use Rattle.text.proofs.LoopPlaces.{next, done, all-at}
 

@@ -1,8 +1,8 @@
 -- Hex pairs, one after the other.
-use Prim.Native.Nat.{ℕ, suc, _+_, _-_, _*_, _/_, _≤_, _<_}
+use Prim.Native.Nat.{ℕ, _+_, _-_, _*_, _/_, _≤_, _<_}
 use mathlib.Core.Path.{_≡_, refl, sym, ap, _∙_}
 use mathlib.Core.Bool.{Bool, true, false, not, _&&_}
-use mathlib.Core.List.{List, [], _∷_, _++_, append-nil}
+use mathlib.Core.List.{[], _∷_, _++_, append-nil}
 use mathlib.Core.Option.{Option, none, some, Option·some-injective}
 use native.Mathlib.Numerals.{add-one}
 use native.Mathlib.Omega.{arith}
@@ -10,12 +10,11 @@ use borrow.Author.Tests.{le-leb, lt-leb, leb-true, eqb-true, eqb-false}
 use lib.ListN.{length, getD, take, drop, set, take-append-drop}
 use lib.Seq.{length-take-le, take-suc-set, append-snoc}
 use lib.Dec.{leb, eqb}
-use Rattle.model.specs.Notation.{_>>=_, _or-else_, isNone, onlyIf}
+use Rattle.model.specs.Notation.{_>>=_, isNone, onlyIf}
 use Rattle.model.specs.Bytes.{Bytes, inRange}
 use Rattle.model.specs.Gate.{hexDigit, hexPairs}
 use Rattle.model.proofs.WordTables.{none-is-some}
 use Rattle.model.proofs.Options.{parts, bound, condition, choice}
-use Rattle.text.specs.declared.Hex.{Hex}
 use Rattle.text.specs.Hex.{digitCode, pairOf, pairCode, leading, Unhexed}
 use Rattle.text.proofs.LoopPlaces.{next, done}
 

@@ -1,8 +1,8 @@
 -- Laws for a loop that has come to place i of a list of bytes: what is left from there on. Assumes nothing.
 use Prim.Native.Nat.{ℕ, zero, suc, _+_, _-_, _≤_, _<_}
-use mathlib.Core.Path.{_≡_, refl, sym, ap, _∙_}
+use mathlib.Core.Path.{_≡_, refl, ap}
 use mathlib.Core.Bool.{Bool, true, false, not}
-use mathlib.Core.List.{List, [], _∷_, _++_}
+use mathlib.Core.List.{[], _∷_}
 use mathlib.Core.Option.{none}
 use native.Mathlib.Numerals.{add-one}
 use native.Mathlib.Omega.{arith}
@@ -10,9 +10,9 @@ use borrow.Author.Tests.{eq-eqb, ne-eqb, not-true}
 use lib.ListN.{length, getD, take, drop, length-drop, drop-of-length-le}
 use lib.Seq.{drop-cons, take-suc, take-all}
 use lib.Dec.{eqb}
-use Rattle.model.specs.Notation.{all, _>>=_}
+use Rattle.model.specs.Notation.{all}
 use Rattle.model.specs.Bytes.{Bytes, cut, same}
-use Rattle.model.proofs.WordTables.{false-is-true, same-eq}
+use Rattle.model.proofs.WordTables.{same-eq}
 use Rattle.model.proofs.Lists.{all-parts, all-cons, all-append}
 use Rattle.model.proofs.Cuts.{isnt, lacks}
 

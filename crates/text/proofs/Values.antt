@@ -1,21 +1,18 @@
 -- Atoms as numbers: how each is read, and that the numbers tell the atom.
 use Prim.Native.Nat.{ℕ, _≤_}
-use mathlib.Core.Path.{_≡_, refl, sym, ap, _∙_}
-use mathlib.Core.Bool.{Bool, true, false, _&&_}
-use mathlib.Core.List.{[], _∷_}
-use mathlib.Core.Option.{Option, none, some, Option·some-injective}
+use mathlib.Core.Path.{_≡_, refl, ap}
+use mathlib.Core.Bool.{Bool, true, false}
+use mathlib.Core.Option.{Option, none, some}
 use native.Mathlib.Omega.{arith}
 use borrow.Author.Tests.{eqb-true, eq-eqb}
 use lib.ListN.{length}
-use lib.Dec.{eqb}
 use Rattle.model.specs.Notation.{_>>=_, _or-else_}
-use Rattle.model.specs.Bytes.{Bytes, same}
-use Rattle.model.specs.Atoms.{Atom, int, str, bool, readInt, readStr, readBool, readAtom, isAtom, isText, typeOf, sameAtom, boolWord}
+use Rattle.model.specs.Bytes.{Bytes}
+use Rattle.model.specs.Atoms.{Atom, int, str, bool, readInt, readStr, readBool, readAtom, isAtom, typeOf, sameAtom, boolWord}
 use Rattle.model.proofs.WordTables.{same-eq, same-refl, same-word, bools, reads-bool}
 use Rattle.model.proofs.Options.{parts, both}
 use Rattle.model.proofs.Lists.{same-truth}
-use Rattle.model.proofs.Atoms.{atom-exact, str-exact}
-use Rattle.text.specs.declared.Int.{Int}
+use Rattle.model.proofs.Atoms.{str-exact}
 use Rattle.text.specs.declared.Int.the-variants.{Number, Malformed}
 use Rattle.text.specs.declared.Value.{Value}
 use Rattle.codes.specs.Codes.{coded, typeCode, boolCode}

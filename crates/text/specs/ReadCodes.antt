@@ -1,5 +1,5 @@
 -- What was read, as numbers: sources, types, keys, truth values and ints; 0 stands for none.
-use Prim.Native.Nat.{ℕ, zero}
+use Prim.Native.Nat.{ℕ}
 use mathlib.Core.Bool.{Bool, _&&_}
 use mathlib.Core.Option.{Option, none, some}
 use lib.ListN.{length}

@@ -1,20 +1,20 @@
 -- How long the code of a policy is at most: three bytes for each of its bytes, and three.
 use Prim.Native.Nat.{ℕ, zero, suc, _+_, _-_, _*_, _≤_, _<_}
-use mathlib.Core.Path.{_≡_, refl, sym, ap, _∙_}
-use mathlib.Core.List.{List, [], _∷_, _++_}
-use mathlib.Core.Option.{Option, none, some, Option·some-injective}
+use mathlib.Core.Path.{_≡_, sym, ap, _∙_}
+use mathlib.Core.List.{List, [], _∷_}
+use mathlib.Core.Option.{some, Option·some-injective}
 use native.Mathlib.Omega.{arith}
 use lib.ListN.{length, drop, length-append}
-use Rattle.model.specs.Notation.{_>>=_, each}
+use Rattle.model.specs.Notation.{each}
 use Rattle.model.specs.Bytes.{Bytes}
 use Rattle.model.specs.Tokens.{Token, tokensWithin, tokensOf}
 use Rattle.model.specs.Declarations.{Declarations}
 use Rattle.model.proofs.WordTables.{none-is-some}
 use Rattle.model.proofs.Options.{bound}
 use Rattle.codes.specs.Codes.{endCode}
-use Rattle.tokens.specs.RuleCode.{carried, encodeToken, ruleCode, size}
+use Rattle.tokens.specs.RuleCode.{encodeToken, ruleCode, size}
 use Rattle.tokens.proofs.RuleCode.{size-carried}
-use Rattle.tokens.proofs.Seen.{CodeRoom, ReadAt, Seen, ended, refused, read, seen}
+use Rattle.tokens.proofs.Seen.{CodeRoom, Seen, ended, refused, read, seen}
 
 module _ (D : Declarations) (s : Bytes) where
   -- the code of the tokens from a place on, behind what is written when the place is reached

@@ -5,7 +5,7 @@ use mathlib.Core.Bool.{Bool, true, false, _||_}
 use mathlib.Core.List.{List, [], _∷_, _++_, append-assoc, append-nil}
 use mathlib.Core.Option.{Option, none, some, Option·some-injective}
 use native.Mathlib.Omega.{arith}
-use lib.ListN.{length, set, take, drop, length-append, length-drop, length-set, drop-of-length-le}
+use lib.ListN.{length, set, take, drop, length-append, length-set, drop-of-length-le}
 use lib.Seq.{length-take-le, drop-drop, append-snoc, set-split, drop-set-lt}
 use Rattle.model.specs.Notation.{_>>=_, isNone, any, each}
 use Rattle.model.specs.Bytes.{Bytes}
@@ -16,12 +16,10 @@ use Rattle.model.proofs.WordTables.{none-is-some}
 use Rattle.codes.proofs.TokenKinds.{kind-range}
 use Rattle.model.specs.Standing.{WellDeclared}
 use Rattle.rows.specs.Rows.{AttributeRows}
-use Rattle.tokens.specs.declared.Code.{Code}
 use Rattle.tokens.specs.declared.Token.{Token as Placed}
 use Rattle.tokens.specs.declared.Written.{Written}
-use Rattle.tokens.specs.declared.Encoded.{Encoded}
 use Rattle.tokens.specs.RuleCode.{encodeToken, ruleCode, size, Encodes, CodeOf}
-use Rattle.tokens.specs.TokenAt.{plainCode, codeOf, placed, tokenAt, lead}
+use Rattle.tokens.specs.TokenAt.{codeOf, placed, tokenAt, lead}
 use Rattle.tokens.specs.Writing.{TokenStands, Given, Wrote}
 use Rattle.tokens.proofs.CodePuts.{put-front, put-behind, put-length}
 use Rattle.tokens.proofs.Seen.{within-enough, within-nil, CodeRoom, ReadAt, Seen, ended, refused, read, seen}

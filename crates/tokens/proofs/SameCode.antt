@@ -1,21 +1,19 @@
 -- Equal code is equal tokens, for tokens that can be written and names that are declared.
-use Prim.Native.Nat.{ℕ, _+_, _≤_}
+use Prim.Native.Nat.{ℕ, _+_}
 use mathlib.Core.Path.{_≡_, refl, sym, ap, ap₂, subst, _∙_}
 use mathlib.Core.Bool.{Bool, true, false, true≢false}
-use mathlib.Core.List.{List, [], _∷_, _++_, append-nil}
+use mathlib.Core.List.{List, [], _∷_, append-nil}
 use mathlib.Core.Option.{Option, none, some}
 use native.Mathlib.Omega.{arith}
 use borrow.Author.Tests.{leb-true}
-use lib.ListN.{length, getD, take, drop}
+use lib.ListN.{length, take, drop}
 use Rattle.model.specs.Notation.{all, any, isNone}
 use Rattle.model.specs.Limits.{largestInt}
 use Rattle.model.specs.Bytes.{Bytes}
-use Rattle.model.specs.Attributes.{Source}
 use Rattle.model.specs.Tokens.{Token, name, int, str, truth, operator, mark, isToken}
 use Rattle.model.specs.Declarations.{Declarations, attributeNumber}
 use Rattle.model.specs.Refusals.{unknownName}
 use Rattle.model.proofs.Lists.{all-parts}
-use Rattle.codes.specs.Codes.{kindOf}
 use Rattle.codes.proofs.TokenKinds.{kind-range, same-kind, int-kind, str-kind, name-kind}
 use Rattle.rows.specs.Rows.{numberOr}
 use Rattle.rows.proofs.RowsOfAttributes.{number-injective}

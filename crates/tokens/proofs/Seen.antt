@@ -10,14 +10,12 @@ use lib.ListN.{length, take, drop, length-append, length-drop}
 use lib.Seq.{drop-drop, drop-at, take-at}
 use Rattle.model.specs.Notation.{_>>=_, isEmpty, all}
 use Rattle.model.specs.Bytes.{Bytes, isByte}
-use Rattle.model.specs.Atoms.{quoted}
 use Rattle.model.specs.Tokens.{Token, str, Read, wordByte, readToken, tokensWithin, tokensOf, isToken}
 use Rattle.model.proofs.Options.{bound, condition}
 use Rattle.model.proofs.Lists.{all-cons}
-use Rattle.tokens.specs.declared.Token.{Token as Placed}
 use Rattle.tokens.specs.RuleCode.{size}
 use Rattle.tokens.specs.TokenAt.{plainCode, codeOf, placed, codedRead, unspaced, tokenIn, tokenAt, lead, inRun}
-use Rattle.tokens.proofs.ByteRuns.{lead-le, unspaced-lead}
+use Rattle.tokens.proofs.ByteRuns.{unspaced-lead}
 use Rattle.tokens.proofs.Taken.{Taken, taken, Cost, word, other}
 
 -- a token leaves fewer bytes

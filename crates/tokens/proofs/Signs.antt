@@ -1,6 +1,6 @@
 -- The token at the front, by its first byte.
-use Prim.Native.Nat.{ℕ, suc, _+_, _-_, _≤_, _<_}
-use mathlib.Core.Path.{_≡_, refl, sym, ap, subst, _∙_}
+use Prim.Native.Nat.{ℕ, suc, _-_, _≤_, _<_}
+use mathlib.Core.Path.{_≡_, refl, sym, ap, _∙_}
 use mathlib.Core.Bool.{Bool, true, false}
 use mathlib.Core.List.{List, [], _∷_}
 use mathlib.Core.Option.{Option, none, some}
@@ -10,7 +10,7 @@ use lib.ListN.{length, getD, drop}
 use lib.Dec.{eqb}
 use Rattle.model.specs.Notation.{_>>=_, _or-else_, isEmpty, if_then_else_}
 use Rattle.model.specs.Bytes.{Bytes, bytes, behind}
-use Rattle.model.specs.Tokens.{Token, Read, wordByte, run, readWord, readText, readSign, signs, readToken, readAttributeName, operator, mark, unequal, atMost, atLeast, equal, less, greater, lparen, rparen, lbrace, rbrace, comma}
+use Rattle.model.specs.Tokens.{Token, Read, run, readWord, readText, readSign, signs, readToken, readAttributeName, operator, mark, unequal, atMost, atLeast, equal, less, greater, lparen, rparen, lbrace, rbrace, comma}
 use Rattle.model.specs.Atoms.{readInt}
 use Rattle.tokens.specs.declared.Code.{Code}
 use Rattle.tokens.specs.declared.Token.{Token as Placed}

@@ -3,17 +3,17 @@ use Prim.Native.Nat.{ℕ, _+_, _*_, _≤_, _<_}
 use mathlib.Core.Path.{_≡_, refl, sym, ap, _∙_}
 use mathlib.Core.Bool.{Bool, true, false, _&&_, not, true≢false}
 use mathlib.Core.List.{List, [], _∷_, _++_, append-assoc}
-use mathlib.Core.Option.{Option, none, some, Option·some-injective}
+use mathlib.Core.Option.{some, Option·some-injective}
 use native.Mathlib.Omega.{arith}
 use borrow.Author.Tests.{leb-true, le-leb}
-use lib.ListN.{length, take, drop, length-append, take-append-drop}
+use lib.ListN.{length, length-append, take-append-drop}
 use lib.Seq.{length-take-le}
 use lib.Dec.{leb, eqb}
-use Rattle.model.specs.Notation.{_>>=_, _or-else_, onlyIf, isEmpty, all}
+use Rattle.model.specs.Notation.{_>>=_, _or-else_, isEmpty, all}
 use Rattle.model.specs.Limits.{largestInt}
 use Rattle.model.specs.Bytes.{Bytes, bytes, cutAt, behind, oneOf}
 use Rattle.model.specs.Names.{readName}
-use Rattle.model.specs.Attributes.{Source, readSource}
+use Rattle.model.specs.Attributes.{readSource}
 use Rattle.model.specs.Atoms.{isText, readInt, quoted}
 use Rattle.model.specs.Tokens.{Token, Read, name, int, str, truth, operator, mark, spelling, capitals, signs, wordByte, run, readAttributeName, readWord, readText, readSign, readToken, isToken}
 use Rattle.model.proofs.WordTables.{none-is-some}

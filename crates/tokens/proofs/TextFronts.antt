@@ -9,7 +9,7 @@ use lib.Seq.{length-take-le}
 use Rattle.model.specs.Notation.{_>>=_}
 use Rattle.model.specs.Bytes.{Bytes}
 use Rattle.model.specs.Atoms.{isText}
-use Rattle.model.specs.Tokens.{Token, wordByte, run, readWord, readText}
+use Rattle.model.specs.Tokens.{Token, wordByte, readWord, readText}
 use Rattle.tokens.specs.declared.Code.{Code}
 use Rattle.text.specs.Parts.{FirstAt}
 use Rattle.tokens.specs.TokenAt.{codeWith, plainCode, codedToken, placed, codedRead, lead, wordToken}

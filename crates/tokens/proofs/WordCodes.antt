@@ -8,7 +8,7 @@ use native.Mathlib.Omega.{arith}
 use borrow.Author.Tests.{eqb-true}
 use lib.ListN.{length, take, drop}
 use lib.Dec.{eqb}
-use Rattle.model.specs.Notation.{_>>=_, _or-else_, onlyIf, all}
+use Rattle.model.specs.Notation.{_>>=_, _or-else_, all}
 use Rattle.model.specs.Bytes.{Bytes, oneOf, same}
 use Rattle.model.specs.Names.{isName, readName}
 use Rattle.model.specs.Attributes.{Source, readSource, user, object, admin, env, connect}
@@ -17,7 +17,6 @@ use Rattle.model.specs.Tokens.{Token, name, int, spelling, capitals, readAttrib
 use Rattle.model.proofs.WordTables.{none-is-some}
 use Rattle.model.proofs.Options.{parts}
 use Rattle.model.proofs.Lists.{all-parts}
-use Rattle.text.specs.declared.Int.{Int}
 use Rattle.text.specs.declared.Int.the-variants.{Number}
 use Rattle.text.specs.Parts.{FirstAt}
 use Rattle.codes.specs.Codes.{coded, kindOf, sourceCode}

@@ -1,7 +1,7 @@
 -- What is written for a token, by its kind.
 use Prim.Native.Nat.{ℕ, _+_, _-_, _≤_}
 use mathlib.Core.Path.{_≡_, refl, sym, ap, ap₂, _∙_}
-use mathlib.Core.Bool.{Bool, true, false}
+use mathlib.Core.Bool.{false}
 use mathlib.Core.List.{List, [], _∷_, _++_, append-nil}
 use native.Mathlib.Omega.{arith}
 use lib.ListN.{length, take, drop, take-append-drop}
@@ -11,14 +11,13 @@ use Rattle.model.specs.Declarations.{Declarations}
 use Rattle.model.specs.Refusals.{unknownName}
 use Rattle.codes.specs.Codes.{kindOf}
 use Rattle.codes.proofs.TokenKinds.{kind-range, int-kind, str-kind, name-kind}
-use Rattle.text.specs.declared.Packed.{Packed}
 use Rattle.text.specs.Packing.{packedOf}
 use Rattle.text.proofs.Packing.{text-length}
 use Rattle.tokens.specs.declared.Code.{Code}
 use Rattle.tokens.specs.declared.Token.{Token as Placed}
 use Rattle.tokens.specs.declared.Written.{Written}
 use Rattle.tokens.specs.RuleCode.{lowBytes, encodeToken, size}
-use Rattle.tokens.specs.TokenAt.{plainCode, codeOf, sourceIn, lowIn, highIn}
+use Rattle.tokens.specs.TokenAt.{plainCode, sourceIn, lowIn, highIn}
 use Rattle.tokens.specs.Writing.{upTo, Put, NamePut, TokenStands, Given, ended, token, Wrote}
 
 -- tokens take a byte at least

@@ -1,16 +1,11 @@
 -- Rule code: the tokens of a policy as bytes, each its kind and what it carries, and a byte that ends them.
 use Prim.Native.Nat.{ℕ, zero, suc, _+_, _*_, _/_, _%_, _≤_}
 use mathlib.Core.Path.{_≡_}
-use mathlib.Core.Bool.{Bool, true}
 use mathlib.Core.List.{List, [], _∷_, _++_}
-use mathlib.Core.Option.{Option, none, some}
+use mathlib.Core.Option.{some}
 use lib.ListN.{length, drop}
-use lib.Dec.{leb}
 use Rattle.model.specs.Notation.{isNone, any, each}
-use Rattle.model.specs.Limits.{largestInt}
 use Rattle.model.specs.Bytes.{Bytes}
-use Rattle.model.specs.Names.{isName}
-use Rattle.model.specs.Atoms.{isText}
 use Rattle.model.specs.Tokens.{Token, name, int, str, truth, operator, mark, tokensOf}
 use Rattle.model.specs.Declarations.{Declarations, attributeNumber}
 use Rattle.model.specs.Refusals.{unknownName}

@@ -4,7 +4,6 @@ use mathlib.Core.Path.{_≡_, sym, ap, _∙_}
 use mathlib.Core.List.{List}
 use lib.ListN.{getD}
 use borrow.Author.Tests.{eq-eqb, ne-eqb, le-leb, lt-leb, lt-ltb, le-ltb}
-use Rattle.values.specs.declared.Operand.{Operand}
 use Rattle.values.specs.Operands.{operand, noValues, rowType, attributeOperand}
 
 module _ (rows : List ℕ) (k : ℕ) where

@@ -1,9 +1,9 @@
 -- The values of an attribute, in the session's words and in the entries. Assumes nothing.
 use Prim.Native.Nat.{ℕ, suc, _+_, _-_, _*_, _/_, _≤_, _<_}
 use native.Mathlib.Omega.{arith}
-use mathlib.Core.Path.{_≡_, refl, sym, ap, ap₂, subst, _∙_}
-use mathlib.Core.Bool.{Bool, true, false}
-use mathlib.Core.List.{List, [], _∷_}
+use mathlib.Core.Path.{_≡_, sym, ap, ap₂, subst, _∙_}
+use mathlib.Core.Bool.{Bool}
+use mathlib.Core.List.{List, _∷_}
 use lib.Dec.{eqb}
 use lib.ListN.{length, getD, take, drop, length-take, length-drop}
 use lib.Seq.{drop-cons}
@@ -11,7 +11,7 @@ use borrow.Author.Tests.{eq-eqb, ne-eqb, lt-ltb, le-ltb}
 use Rattle.model.specs.Notation.{if_then_else_}
 use Rattle.model.specs.Bytes.{Bytes}
 use Rattle.model.specs.Block.{number, byteAt, valueAt}
-use Rattle.bits.specs.Bits.{holds, member}
+use Rattle.bits.specs.Bits.{holds}
 use Rattle.bits.specs.Lowest.{FirstFrom}
 use Rattle.bits.proofs.Sets.{member-part}
 use Rattle.text.specs.declared.Words.{Words}

@@ -8,7 +8,7 @@ use native.Mathlib.Omega.{arith}
 use native.Mathlib.Decide.{decLt}
 use lib.Dec.{eqb, leb, ltb}
 use borrow.Author.Tests.{eq-eqb, ne-eqb, eqb-true, eqb-false, le-leb, lt-leb}
-use Rattle.model.specs.Notation.{if_then_else_, any, all, map, isEmpty}
+use Rattle.model.specs.Notation.{if_then_else_, any, map, isEmpty}
 use Rattle.model.specs.Attributes.{sameType}
 use Rattle.model.specs.Atoms.{Atom, int, str, bool, typeOf, isAtom}
 use Rattle.model.specs.Truth as model

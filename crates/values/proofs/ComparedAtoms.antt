@@ -1,10 +1,9 @@
 -- Values are compared by their words: they are equal, and so ordered, exactly when their atoms are. Assumes nothing.
 use Prim.Native.Nat.{ℕ, _≤_}
-use mathlib.Core.Path.{_≡_, refl, sym, ap, ap₂, _∙_}
+use mathlib.Core.Path.{_≡_, refl, sym, ap, _∙_}
 use mathlib.Core.Bool.{Bool, true, false, not, Bool·beq}
 use mathlib.Core.List.{List, [], _∷_, List·Memᴰ·head as here, List·Memᴰ·tail as there}
 use native.Mathlib.Omega.{arith}
-use lib.Dec.{eqb}
 use borrow.Author.Tests.{leb-true}
 use Rattle.model.specs.Notation.{any, all, map}
 use Rattle.model.specs.Limits.{largestInt}
@@ -14,7 +13,6 @@ use Rattle.model.specs.Comparison.{ordered}
 use Rattle.model.proofs.Lists.{_∈_, any-ext, any-in, in-any, all-parts, same-truth}
 use Rattle.codes.specs.Codes.{typeCode}
 use Rattle.codes.proofs.Codes.{type-injective}
-use Rattle.text.specs.declared.Words.{Words}
 use Rattle.text.specs.Values.{atomWords, sameWords}
 use Rattle.text.proofs.Values.{words-same}
 use Rattle.values.specs.Compared.{amongValues, someFound}

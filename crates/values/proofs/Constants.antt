@@ -5,7 +5,7 @@ use mathlib.Core.Path.{_≡_, refl, sym, ap, ap₂, subst, _∙_}
 use mathlib.Core.Bool.{Bool, true, false, _&&_, true≢false}
 use mathlib.Core.List.{List, [], _∷_}
 use lib.Dec.{eqb, leb}
-use lib.ListN.{length, getD, take, drop}
+use lib.ListN.{length, take, drop}
 use borrow.Author.Tests.{eq-eqb, ne-eqb, le-leb, lt-leb, leb-true}
 use Rattle.model.specs.Notation.{if_then_else_}
 use Rattle.model.specs.Bytes.{Bytes}
@@ -16,7 +16,6 @@ use Rattle.text.specs.Packing.{threeWords}
 use Rattle.text.specs.Values.{words}
 use Rattle.values.specs.declared.Found.{Found}
 use Rattle.values.specs.Operands.{Finds, found, nothing, intAt, strAt, constantAt, constantsWithin, constantsFrom}
-use Rattle.values.proofs.Chosen.{finds-one, finds-none}
 
 -- an int, by the tests of the code
 module _ (code : Bytes) (end i : ℕ) where

@@ -1,14 +1,12 @@
 -- What operands stand for. Assumes nothing.
-use Prim.Native.Nat.{ℕ, _+_, _-_, _≤_, _<_}
+use Prim.Native.Nat.{ℕ, _-_, _<_}
 use native.Mathlib.Omega.{arith}
 use mathlib.Core.Path.{_≡_, refl, sym, ap, _∙_}
-use mathlib.Core.Bool.{Bool, true, false}
-use mathlib.Core.List.{List, [], _∷_}
-use lib.ListN.{length}
+use mathlib.Core.Bool.{Bool, false}
+use mathlib.Core.List.{[]}
 use borrow.Author.Tests.{lt-ltb}
 use Rattle.model.specs.Notation.{if_then_else_}
 use Rattle.bits.specs.Bits.{holds}
-use Rattle.text.specs.declared.Words.{Words}
 use Rattle.values.specs.declared.Found.{Found}
 use Rattle.values.specs.Operands.{Lent, chosen, pairWords, wordsFrom, entriesFrom, constantAt, valuesFrom, firstOf, valuesOf, Stands, operand, noValues}
 use Rattle.values.proofs.Constants.{int-short, as-int, constants-find}

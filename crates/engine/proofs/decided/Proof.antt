@@ -1,5 +1,5 @@
 use borrow.Author.Needs.{needs}
-use Prim.Native.Nat.{ℕ, _-_, _≤_}
+use Prim.Native.Nat.{_-_, _≤_}
 use native.Mathlib.Omega.{arith}
 use mathlib.Core.Path.{_≡_, sym, _∙_}
 use lib.ListN.{length}
@@ -10,11 +10,6 @@ use Rattle.engine.specs.Requests.{RulesOf}
 use Rattle.engine.proofs.RuleValues.{NoneTrue, none-yet, one-more, permits, undefines, denies}
 use Rattle.engine.proofs.decided.Statement.{statement}
 use Rattle.engine.proofs.decided.Tie as tie
-use Rattle.engine.proofs.decided.Reads as reads
-use Rattle.engine.proofs.decided.Lts as lts
-use Rattle.engine.proofs.is_true.Reads as is-true-reads
-use Rattle.engine.proofs.or_undef.Reads as or-undef-reads
-use Rattle.engine.proofs.rule_value.Reads as rule-value-reads
 
 abbrev Inv-loop : tie.InvT-loop
 Inv-loop operations code attributes pairs session entries operation count undefined₀ k₀ undefined k = (k ≤ count)

@@ -1,7 +1,7 @@
 use borrow.Author.Tests.{not-true, not-false}
-use Prim.Native.Nat.{ℕ, _+_, _*_, _-_, _/_, _≤_, _<_}
+use Prim.Native.Nat.{ℕ, _-_, _/_, _≤_, _<_}
 use native.Mathlib.Omega.{arith}
-use mathlib.Core.Path.{_≡_, sym, ap, _∙_}
+use mathlib.Core.Path.{_≡_}
 use mathlib.Core.Bool.{true, false}
 use lib.ListN.{length}
 use Rattle.model.specs.Declarations.{Declarations}
@@ -10,10 +10,6 @@ use Rattle.rows.specs.Rows.{AttributeRows}
 use Rattle.engine.proofs.EntryTests.{entryAt, all-fit, one-does-not, so-far, told-of}
 use Rattle.engine.proofs.entries_fit.Statement.{statement}
 use Rattle.engine.proofs.entries_fit.Tie as tie
-use Rattle.engine.proofs.entries_fit.Reads as reads
-use Rattle.engine.proofs.entries_fit.Lts as lts
-use Rattle.engine.proofs.entry_fits.Reads as entry-fits-reads
-use Rattle.values.proofs.four.Reads as four-reads
 
 abbrev Inv-loop : tie.InvT-loop
 Inv-loop attributes entries n i₀ i = (i ≤ length entries / 5) × ((D : Declarations) → AttributeRows attributes D → (j : ℕ) → j < i → entryFits D (entryAt entries j) ≡ true)

@@ -3,8 +3,6 @@ use Rattle.engine.proofs.EntryTests.{no-number, not-from-block, no-bool
 use borrow.Author.Needs.{needs}
 use Rattle.engine.proofs.entry_fits.Statement.{statement}
 use Rattle.engine.proofs.entry_fits.Tie as tie
-use Rattle.engine.proofs.entry_fits.Reads as reads
-use Rattle.engine.proofs.entry_fits.Lts as lts
 
 returns : tie.Need-returns
 returns c = λ D ar. no-number (c .before .args .attributes .now) (c .before .args .k) (c .before .args .value) D ar (omega arith)

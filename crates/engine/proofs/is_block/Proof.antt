@@ -3,9 +3,6 @@ use Rattle.engine.proofs.Blocks.{block-short, block-edition, block-many
 use borrow.Author.Needs.{needs}
 use Rattle.engine.proofs.is_block.Statement.{statement}
 use Rattle.engine.proofs.is_block.Tie as tie
-use Rattle.engine.proofs.is_block.Reads as reads
-use Rattle.engine.proofs.is_block.Lts as lts
-use Rattle.engine.proofs.wide.Reads as wide-reads
 
 returns : tie.Need-returns
 returns c = block-short (c .before .before .args .block .now) (omega arith)

@@ -6,8 +6,6 @@ use Rattle.engine.proofs.RuleValues.{as-before, now-undef}
 use borrow.Author.Needs.{needs}
 use Rattle.engine.proofs.or_undef.Statement.{statement}
 use Rattle.engine.proofs.or_undef.Tie as tie
-use Rattle.engine.proofs.or_undef.Reads as reads
-use Rattle.engine.proofs.or_undef.Lts as lts
 
 enum-told : tie.Need-enum-told
 enum-told c = search needs

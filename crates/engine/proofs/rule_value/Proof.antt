@@ -2,9 +2,6 @@ use Rattle.engine.proofs.RuleValues.{other-operation, its-operation}
 use borrow.Author.Needs.{needs}
 use Rattle.engine.proofs.rule_value.Statement.{statement}
 use Rattle.engine.proofs.rule_value.Tie as tie
-use Rattle.engine.proofs.rule_value.Reads as reads
-use Rattle.engine.proofs.rule_value.Lts as lts
-use Rattle.policy.proofs.evaluate.Reads as evaluate-reads
 
 mul-if1 : tie.Need-mul-if1
 mul-if1 c = search needs

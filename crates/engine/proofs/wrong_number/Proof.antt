@@ -4,11 +4,6 @@ use Rattle.engine.proofs.BlockNumbers.{no-user, no-object, no-operation
 use borrow.Author.Needs.{needs}
 use Rattle.engine.proofs.wrong_number.Statement.{statement}
 use Rattle.engine.proofs.wrong_number.Tie as tie
-use Rattle.engine.proofs.wrong_number.Reads as reads
-use Rattle.engine.proofs.wrong_number.Lts as lts
-use Rattle.engine.proofs.entries_fit.Reads as entries-fit-reads
-use Rattle.engine.proofs.is_sort.Reads as is-sort-reads
-use Rattle.engine.proofs.wide.Reads as wide-reads
 
 shared-slice-read-is-sort : tie.Need-shared-slice-read-is-sort
 shared-slice-read-is-sort c = search needs

@@ -3,12 +3,6 @@ use mathlib.Core.Path.{_∙_}
 use borrow.Author.Needs.{needs}
 use Rattle.host.proofs.zhul_decide.Statement.{statement}
 use Rattle.host.proofs.zhul_decide.Tie as tie
-use Rattle.host.proofs.zhul_decide.Reads as reads
-use Rattle.host.proofs.zhul_decide.Lts as lts
-use Rattle.engine.proofs.decide.Reads as decide-reads
-use Rattle.host.proofs.number_of.Reads as number-of-reads
-use Rattle.host.proofs.pack.Reads as pack-reads
-use Rattle.host.proofs.rule_of.Reads as rule-of-reads
 
 decide-requires : tie.Need-decide-requires
 decide-requires c κs = search needs

@@ -3,10 +3,6 @@ use Rattle.host.proofs.NumberParts.{edit-unpacked}
 use borrow.Author.Needs.{needs}
 use Rattle.host.proofs.zhul_edit.Statement.{statement}
 use Rattle.host.proofs.zhul_edit.Tie as tie
-use Rattle.host.proofs.zhul_edit.Reads as reads
-use Rattle.host.proofs.zhul_edit.Lts as lts
-use Rattle.engine.proofs.edit.edit.Reads as edit-reads
-use Rattle.host.proofs.pack.Reads as pack-reads
 
 edit-requires : tie.Need-edit-requires
 edit-requires c κs = search needs

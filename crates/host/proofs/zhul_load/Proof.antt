@@ -3,10 +3,6 @@ use Rattle.host.proofs.NumberParts.{load-unpacked}
 use borrow.Author.Needs.{needs}
 use Rattle.host.proofs.zhul_load.Statement.{statement}
 use Rattle.host.proofs.zhul_load.Tie as tie
-use Rattle.host.proofs.zhul_load.Reads as reads
-use Rattle.host.proofs.zhul_load.Lts as lts
-use Rattle.engine.proofs.load.load.Reads as load-reads
-use Rattle.host.proofs.pack.Reads as pack-reads
 
 load-requires : tie.Need-load-requires
 load-requires c κs = search needs

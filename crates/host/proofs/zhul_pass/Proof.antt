@@ -5,11 +5,6 @@ use Rattle.host.proofs.Passes.{pass-table, pass-refused, pass-decided}
 use borrow.Author.Needs.{needs}
 use Rattle.host.proofs.zhul_pass.Statement.{statement}
 use Rattle.host.proofs.zhul_pass.Tie as tie
-use Rattle.host.proofs.zhul_pass.Reads as reads
-use Rattle.host.proofs.zhul_pass.Lts as lts
-use Rattle.engine.proofs.decide.Reads as decide-reads
-use Rattle.engine.proofs.load.load.Reads as load-reads
-use Rattle.host.proofs.number_of.Reads as number-of-reads
 
 load-requires : tie.Need-load-requires
 load-requires c κs = search needs

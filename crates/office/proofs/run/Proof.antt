@@ -8,12 +8,6 @@ use Rattle.office.proofs.Whole.{commands-as, too-long, whole}
 use borrow.Author.Needs.{needs}
 use Rattle.office.proofs.run.Statement.{statement}
 use Rattle.office.proofs.run.Tie as tie
-use Rattle.office.proofs.run.Reads as reads
-use Rattle.office.proofs.run.Lts as lts
-use Rattle.engine.proofs.load.load.Reads as load-reads
-use Rattle.office.proofs.answer.answer_commands.Reads as answer-commands-reads
-use Rattle.office.proofs.input.split.Reads as split-reads
-use Rattle.office.proofs.output.put_load.Reads as put-load-reads
 
 put-load-requires : tie.Need-put-load-requires
 put-load-requires c κs = search needs

@@ -2,10 +2,6 @@ use Rattle.policy.proofs.Heads.{alone-none, alone-on}
 use borrow.Author.Needs.{needs}
 use Rattle.policy.proofs.alone.Statement.{statement}
 use Rattle.policy.proofs.alone.Tie as tie
-use Rattle.policy.proofs.alone.Reads as reads
-use Rattle.policy.proofs.alone.Lts as lts
-use Rattle.policy.proofs.leaf.Reads as leaf-reads
-use Rattle.values.proofs.lone.Reads as lone-reads
 
 returns : tie.Need-returns
 returns c =

@@ -6,8 +6,6 @@ use Rattle.policy.proofs.CodeFronts.{inside}
 use borrow.Author.Needs.{needs}
 use Rattle.policy.proofs.behind_not.Statement.{statement}
 use Rattle.policy.proofs.behind_not.Tie as tie
-use Rattle.policy.proofs.behind_not.Reads as reads
-use Rattle.policy.proofs.behind_not.Lts as lts
 
 -- src/lib.rt:451:16
 add-result : tie.Need-add-result

@@ -3,10 +3,6 @@ use Rattle.policy.proofs.JoinedParts.{close-none, close-off, close-with
 use borrow.Author.Needs.{needs}
 use Rattle.policy.proofs.close.Statement.{statement}
 use Rattle.policy.proofs.close.Tie as tie
-use Rattle.policy.proofs.close.Reads as reads
-use Rattle.policy.proofs.close.Lts as lts
-use Rattle.policy.proofs.closed_part.Reads as closed-part-reads
-use Rattle.policy.proofs.kind_at.Reads as kind-at-reads
 
 -- src/lib.rt:208:31
 enum-told : tie.Need-enum-told

@@ -3,10 +3,6 @@ use Rattle.policy.proofs.VarsInCode.{end-int, end-str}
 use borrow.Author.Needs.{needs}
 use Rattle.policy.proofs.constant_end.Statement.{statement}
 use Rattle.policy.proofs.constant_end.Tie as tie
-use Rattle.policy.proofs.constant_end.Reads as reads
-use Rattle.policy.proofs.constant_end.Lts as lts
-use Rattle.policy.proofs.kind_at.Reads as kind-at-reads
-use Rattle.policy.proofs.place.Reads as place-reads
 
 add-result : tie.Need-add-result
 add-result c = search needs

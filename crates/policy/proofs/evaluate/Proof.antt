@@ -3,10 +3,6 @@ use Rattle.policy.proofs.Wholes.{evaluate-none, evaluate-read}
 use borrow.Author.Needs.{needs}
 use Rattle.policy.proofs.evaluate.Statement.{statement}
 use Rattle.policy.proofs.evaluate.Tie as tie
-use Rattle.policy.proofs.evaluate.Reads as reads
-use Rattle.policy.proofs.evaluate.Lts as lts
-use Rattle.policy.proofs.policy.Reads as policy-reads
-use Rattle.policy.proofs.whole.Reads as whole-reads
 
 policy-requires : tie.Need-policy-requires
 policy-requires c κs = c .before .before .before .before .pre

@@ -1,8 +1,6 @@
 use Rattle.policy.proofs.Wholes.{over-terms, over-depth, over-set}
 use Rattle.policy.proofs.is_large.Statement.{statement}
 use Rattle.policy.proofs.is_large.Tie as tie
-use Rattle.policy.proofs.is_large.Reads as reads
-use Rattle.policy.proofs.is_large.Lts as lts
 
 returns : tie.Need-returns
 returns c =

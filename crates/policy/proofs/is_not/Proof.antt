@@ -4,9 +4,6 @@ use lib.Dec.{eqb}
 use borrow.Author.Needs.{needs}
 use Rattle.policy.proofs.is_not.Statement.{statement}
 use Rattle.policy.proofs.is_not.Tie as tie
-use Rattle.policy.proofs.is_not.Reads as reads
-use Rattle.policy.proofs.is_not.Lts as lts
-use Rattle.policy.proofs.kind_at.Reads as kind-at-reads
 
 -- src/lib.rt:442:5
 kind-at-requires : tie.Need-kind-at-requires

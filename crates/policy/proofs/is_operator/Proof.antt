@@ -4,8 +4,6 @@ use lib.Dec.{leb}
 use borrow.Author.Tests.{lt-leb, le-leb}
 use Rattle.policy.proofs.is_operator.Statement.{statement}
 use Rattle.policy.proofs.is_operator.Tie as tie
-use Rattle.policy.proofs.is_operator.Reads as reads
-use Rattle.policy.proofs.is_operator.Lts as lts
 
 -- src/lib.rt:235:9
 returns : tie.Need-returns

@@ -2,9 +2,6 @@ use Rattle.policy.proofs.JoinedParts.{join-none, join-on}
 use borrow.Author.Needs.{needs}
 use Rattle.policy.proofs.join.Statement.{statement}
 use Rattle.policy.proofs.join.Tie as tie
-use Rattle.policy.proofs.join.Reads as reads
-use Rattle.policy.proofs.join.Lts as lts
-use Rattle.policy.proofs.joined_part.Reads as joined-part-reads
 
 -- src/lib.rt:176:31
 enum-told : tie.Need-enum-told

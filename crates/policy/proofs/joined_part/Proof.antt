@@ -5,12 +5,6 @@ use Rattle.policy.specs.Readers.{joinTruths}
 use borrow.Author.Needs.{needs}
 use Rattle.policy.proofs.joined_part.Statement.{statement}
 use Rattle.policy.proofs.joined_part.Tie as tie
-use Rattle.policy.proofs.joined_part.Reads as reads
-use Rattle.policy.proofs.joined_part.Lts as lts
-use Rattle.policy.proofs.add_terms.Reads as add-terms-reads
-use Rattle.policy.proofs.larger.Reads as larger-reads
-use Rattle.truth.proofs.and.Reads as and-reads
-use Rattle.truth.proofs.or.Reads as or-reads
 
 -- src/lib.rt:150:9
 add-terms-requires : tie.Need-add-terms-requires

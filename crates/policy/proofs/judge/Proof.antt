@@ -2,12 +2,6 @@ use Rattle.policy.proofs.Wholes.{judge-bad, judge-read}
 use borrow.Author.Needs.{needs}
 use Rattle.policy.proofs.judge.Statement.{statement}
 use Rattle.policy.proofs.judge.Tie as tie
-use Rattle.policy.proofs.judge.Reads as reads
-use Rattle.policy.proofs.judge.Lts as lts
-use Rattle.policy.proofs.policy.Reads as policy-reads
-use Rattle.policy.proofs.whole.Reads as whole-reads
-use Rattle.policy.proofs.refusal.Reads as refusal-reads
-use Rattle.tokens.proofs.encode.Reads as encode-reads
 
 encode-requires : tie.Need-encode-requires
 encode-requires c κs = c .before .before .before .before .pre

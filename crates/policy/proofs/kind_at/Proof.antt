@@ -3,8 +3,6 @@ use lib.ListN.{List·getD-eq-default}
 use borrow.Author.Needs.{needs}
 use Rattle.policy.proofs.kind_at.Statement.{statement}
 use Rattle.policy.proofs.kind_at.Tie as tie
-use Rattle.policy.proofs.kind_at.Reads as reads
-use Rattle.policy.proofs.kind_at.Lts as lts
 
 -- src/lib.rt:198:9
 returns : tie.Need-returns

@@ -3,9 +3,6 @@ use Rattle.policy.proofs.JoinedParts.{not-leaf, not-open, not-neither}
 use borrow.Author.Needs.{needs}
 use Rattle.policy.proofs.not_head.Statement.{statement}
 use Rattle.policy.proofs.not_head.Tie as tie
-use Rattle.policy.proofs.not_head.Reads as reads
-use Rattle.policy.proofs.not_head.Lts as lts
-use Rattle.truth.proofs.not.Reads as not-reads
 
 -- src/lib.rt:87:20
 enum-known-h : tie.Need-enum-known-h

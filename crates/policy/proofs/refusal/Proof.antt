@@ -2,9 +2,6 @@ use Rattle.policy.proofs.Wholes.{refuse-none, refuse-large, refuse-unkn
 use borrow.Author.Needs.{needs}
 use Rattle.policy.proofs.refusal.Statement.{statement}
 use Rattle.policy.proofs.refusal.Tie as tie
-use Rattle.policy.proofs.refusal.Reads as reads
-use Rattle.policy.proofs.refusal.Lts as lts
-use Rattle.policy.proofs.is_large.Reads as is-large-reads
 
 enum-told : tie.Need-enum-told
 enum-told c = search needs

@@ -7,12 +7,6 @@ use Rattle.policy.proofs.Heads.{no-operator, an-operator, no-second-var
 use borrow.Author.Needs.{needs}
 use Rattle.policy.proofs.second_var.Statement.{statement}
 use Rattle.policy.proofs.second_var.Tie as tie
-use Rattle.policy.proofs.second_var.Reads as reads
-use Rattle.policy.proofs.second_var.Lts as lts
-use Rattle.policy.proofs.is_operator.Reads as is-operator-reads
-use Rattle.policy.proofs.kind_at.Reads as kind-at-reads
-use Rattle.policy.proofs.no_var.Reads as no-var-reads
-use Rattle.policy.proofs.var_at.Reads as var-at-reads
 
 -- src/lib.rt:406:9
 no-var-requires : tie.Need-no-var-requires

@@ -5,12 +5,6 @@ use Rattle.policy.proofs.VarsInCode.{set-none, set-off, set-on}
 use borrow.Author.Needs.{needs}
 use Rattle.policy.proofs.set_var.Statement.{statement}
 use Rattle.policy.proofs.set_var.Tie as tie
-use Rattle.policy.proofs.set_var.Reads as reads
-use Rattle.policy.proofs.set_var.Lts as lts
-use Rattle.policy.proofs.kind_at.Reads as kind-at-reads
-use Rattle.policy.proofs.items.Reads as items-reads
-use Rattle.policy.proofs.no_var.Reads as no-var-reads
-use Rattle.values.proofs.constant.Reads as constant-reads
 
 kind-at-requires : tie.Need-kind-at-requires
 kind-at-requires c κs = search needs

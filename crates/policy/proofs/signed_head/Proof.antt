@@ -4,9 +4,6 @@ use Rattle.policy.specs.Readers.{SignedHead}
 use borrow.Author.Needs.{needs}
 use Rattle.policy.proofs.signed_head.Statement.{statement}
 use Rattle.policy.proofs.signed_head.Tie as tie
-use Rattle.policy.proofs.signed_head.Reads as reads
-use Rattle.policy.proofs.signed_head.Lts as lts
-use Rattle.policy.proofs.not_head.Reads as not-head-reads
 
 -- src/lib.rt:395:9
 not-head-requires : tie.Need-not-head-requires

@@ -4,10 +4,6 @@ use Rattle.policy.proofs.Heads.{simple-open, simple-truth, simple-neith
 use borrow.Author.Needs.{needs}
 use Rattle.policy.proofs.simple_head.Statement.{statement}
 use Rattle.policy.proofs.simple_head.Tie as tie
-use Rattle.policy.proofs.simple_head.Reads as reads
-use Rattle.policy.proofs.simple_head.Lts as lts
-use Rattle.policy.proofs.leaf.Reads as leaf-reads
-use Rattle.policy.proofs.truth_of.Reads as truth-of-reads
 
 -- src/lib.rt:384:37
 add-t5 : tie.Need-add-t5

@@ -3,15 +3,6 @@ use Rattle.policy.proofs.Heads.{signed-simple, term-signed}
 use borrow.Author.Needs.{needs}
 use Rattle.policy.proofs.term_head.Statement.{statement}
 use Rattle.policy.proofs.term_head.Tie as tie
-use Rattle.policy.proofs.term_head.Reads as reads
-use Rattle.policy.proofs.term_head.Lts as lts
-use Rattle.policy.proofs.behind_not.Reads as behind-not-reads
-use Rattle.policy.proofs.is_not.Reads as is-not-reads
-use Rattle.policy.proofs.kind_at.Reads as kind-at-reads
-use Rattle.policy.proofs.signed_head.Reads as signed-head-reads
-use Rattle.policy.proofs.simple_head.Reads as simple-head-reads
-use Rattle.policy.proofs.var_at.Reads as var-at-reads
-use Rattle.policy.proofs.var_head.Reads as var-head-reads
 
 -- src/lib.rt:468:9
 is-not-requires : tie.Need-is-not-requires

@@ -1,8 +1,6 @@
 use Rattle.policy.proofs.Heads.{spoken-false, spoken-undef, spoken-true}
 use Rattle.policy.proofs.truth_of.Statement.{statement}
 use Rattle.policy.proofs.truth_of.Tie as tie
-use Rattle.policy.proofs.truth_of.Reads as reads
-use Rattle.policy.proofs.truth_of.Lts as lts
 
 -- src/lib.rt:184:1
 returns : tie.Need-returns

@@ -5,15 +5,6 @@ use Rattle.policy.proofs.VarsInCode.{var-within, var-constant, var-name
 use borrow.Author.Needs.{needs}
 use Rattle.policy.proofs.var_at.Statement.{statement}
 use Rattle.policy.proofs.var_at.Tie as tie
-use Rattle.policy.proofs.var_at.Reads as reads
-use Rattle.policy.proofs.var_at.Lts as lts
-use Rattle.policy.proofs.kind_at.Reads as kind-at-reads
-use Rattle.policy.proofs.place.Reads as place-reads
-use Rattle.policy.proofs.set_var.Reads as set-var-reads
-use Rattle.policy.proofs.constant_end.Reads as constant-end-reads
-use Rattle.policy.proofs.no_var.Reads as no-var-reads
-use Rattle.values.proofs.constant.Reads as constant-reads
-use Rattle.values.proofs.attribute.Reads as attribute-reads
 
 add-kind-at : tie.Need-add-kind-at
 add-kind-at c =

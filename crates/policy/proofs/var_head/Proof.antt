@@ -4,15 +4,6 @@ use Rattle.policy.proofs.Heads.{not-second, compared}
 use borrow.Author.Needs.{needs}
 use Rattle.policy.proofs.var_head.Statement.{statement}
 use Rattle.policy.proofs.var_head.Tie as tie
-use Rattle.policy.proofs.var_head.Reads as reads
-use Rattle.policy.proofs.var_head.Lts as lts
-use Rattle.policy.proofs.alone.Reads as alone-reads
-use Rattle.policy.proofs.kind_at.Reads as kind-at-reads
-use Rattle.policy.proofs.larger.Reads as larger-reads
-use Rattle.policy.proofs.leaf.Reads as leaf-reads
-use Rattle.policy.proofs.second_var.Reads as second-var-reads
-use Rattle.policy.proofs.signed_head.Reads as signed-head-reads
-use Rattle.values.proofs.compare.Reads as compare-reads
 
 -- src/lib.rt:428:9
 second-var-requires : tie.Need-second-var-requires

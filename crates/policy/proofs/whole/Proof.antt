@@ -2,9 +2,6 @@ use Rattle.policy.proofs.Wholes.{ends-none, ends-left, ends-on}
 use borrow.Author.Needs.{needs}
 use Rattle.policy.proofs.whole.Statement.{statement}
 use Rattle.policy.proofs.whole.Tie as tie
-use Rattle.policy.proofs.whole.Reads as reads
-use Rattle.policy.proofs.whole.Lts as lts
-use Rattle.policy.proofs.kind_at.Reads as kind-at-reads
 
 enum-told : tie.Need-enum-told
 enum-told c = search needs

@@ -1,11 +1,10 @@
 -- `rows::attribute_number` meets its contract: no row that was passed has that source and name.
 use Prim.Native.Nat.{ℕ, _≤_, _<_, _-_}
 use native.Mathlib.Omega.{arith}
-use mathlib.Core.Path.{_≡_, sym, subst, _∙_}
+use mathlib.Core.Path.{_≡_, sym, _∙_}
 use mathlib.Core.Bool.{false}
 use borrow.Author.Count.{below-more}
-use borrow.Author.Needs.{needs}
-use Rattle.rows.specs.Rows.{rowNamed, Numbered}
+use Rattle.rows.specs.Rows.{rowNamed}
 use Rattle.rows.proofs.RowsOfAttributes.{searched, found}
 use Rattle.rows.proofs.attribute_number.Statement.{statement}
 use Rattle.rows.proofs.attribute_number.Tie as tie

@@ -2,9 +2,6 @@ use Rattle.session.proofs.Words.{for-user, for-unactivated, for-object,
 use borrow.Author.Needs.{needs}
 use Rattle.session.proofs.holder_for.Statement.{statement}
 use Rattle.session.proofs.holder_for.Tie as tie
-use Rattle.session.proofs.holder_for.Reads as reads
-use Rattle.session.proofs.holder_for.Lts as lts
-use Rattle.bits.proofs.has.Reads as has-reads
 
 -- src/lib.rt:19:29
 mul-source : tie.Need-mul-source

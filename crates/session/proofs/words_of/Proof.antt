@@ -2,8 +2,6 @@ use Rattle.session.proofs.Words.{no-words, common-words}
 use borrow.Author.Needs.{needs}
 use Rattle.session.proofs.words_of.Statement.{statement}
 use Rattle.session.proofs.words_of.Tie as tie
-use Rattle.session.proofs.words_of.Reads as reads
-use Rattle.session.proofs.words_of.Lts as lts
 
 -- src/lib.rt:42:19
 mul-t8 : tie.Need-mul-t8

@@ -4,8 +4,6 @@ use Rattle.session.proofs.Words.{stores}
 use borrow.Author.Needs.{needs}
 use Rattle.session.proofs.write.Statement.{statement}
 use Rattle.session.proofs.write.Tie as tie
-use Rattle.session.proofs.write.Reads as reads
-use Rattle.session.proofs.write.Lts as lts
 
 -- src/lib.rt:56:22
 array-read-session : tie.Need-array-read-session

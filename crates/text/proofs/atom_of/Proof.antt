@@ -1,12 +1,11 @@
 -- `text::atom_of` meets its contract: an int, else a str, else a truth value.
 use Prim.Native.Nat.{ℕ, _-_}
-use mathlib.Core.Path.{_≡_, refl, sym, ap, _∙_}
+use mathlib.Core.Path.{_≡_, sym, ap, _∙_}
 use mathlib.Core.Bool.{Bool, true, false}
 use mathlib.Core.Option.{none}
 use native.Mathlib.Omega.{arith}
 use Rattle.model.specs.Atoms.{readInt}
 use Rattle.codes.specs.Codes.{boolCode}
-use Rattle.text.specs.declared.Words.{Words}
 use Rattle.text.specs.Parts.{inside}
 use Rattle.text.specs.Values.{words, value, truthBit}
 use Rattle.text.proofs.Values.{read-int, no-int, read-str, read-bool, read-none, inside-length}

@@ -1,7 +1,6 @@
 -- `text::hex_pair` meets its contract.
-use mathlib.Core.Path.{_≡_, refl, sym, ap, ap₂, _∙_}
-use native.Mathlib.Omega.{arith}
-use Rattle.text.proofs.HexPairs.{code-below, no-first, no-second, pair}
+use mathlib.Core.Path.{sym, _∙_}
+use Rattle.text.proofs.HexPairs.{no-first, no-second, pair}
 use borrow.Author.Needs.{needs}
 use Rattle.text.proofs.hex_pair.Statement.{statement}
 use Rattle.text.proofs.hex_pair.Tie as tie

@@ -1,10 +1,8 @@
 -- `text::in_class` meets its contract, class by class.
-use Prim.Native.Nat.{ℕ, zero, suc, _≤_, _<_}
+use Prim.Native.Nat.{ℕ, zero, suc}
 use mathlib.Core.Path.{_≡_, refl, sym, ap, _∙_}
-use mathlib.Core.Bool.{Bool, false, _&&_}
 use borrow.Author.Needs.{needs}
 use borrow.Author.Tests.{le-leb, lt-leb}
-use lib.Dec.{leb}
 use Rattle.model.specs.Bytes.{inRange}
 use Rattle.text.specs.Parts.{inClass}
 use Rattle.text.proofs.in_class.Statement.{statement}

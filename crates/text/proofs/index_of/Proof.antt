@@ -1,6 +1,6 @@
 -- `text::index_of` meets its contract: no byte that was passed is b.
 use Prim.Native.Nat.{ℕ, _≤_, _<_, _+_, _-_}
-use mathlib.Core.Path.{_≡_, refl, sym, ap, _∙_}
+use mathlib.Core.Path.{_≡_, refl, ap, _∙_}
 use mathlib.Core.Bool.{true}
 use mathlib.Core.List.{_∷_, _++_}
 use native.Mathlib.Numerals.{add-one}

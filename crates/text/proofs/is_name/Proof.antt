@@ -1,5 +1,4 @@
 -- `text::is_name` meets its contract.
-use mathlib.Core.Path.{sym, _∙_}
 use borrow.Author.Needs.{needs}
 use borrow.Author.Tests.{le-leb, lt-leb}
 use Rattle.model.specs.Names.{isName}

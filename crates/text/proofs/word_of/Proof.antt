@@ -1,6 +1,6 @@
 -- `text::word_of` meets its contract: w is the number of what stands from i on.
 use Prim.Native.Nat.{ℕ, _≤_, _-_, _<_, _+_, _*_, _^_}
-use mathlib.Core.Path.{_≡_, refl, sym, ap, _∙_}
+use mathlib.Core.Path.{_≡_, sym, ap, _∙_}
 use native.Mathlib.Omega.{arith}
 use lib.Seq.{drop-length}
 use lib.ListN.{length, drop, getD}

@@ -1,5 +1,5 @@
 -- `tokens::either` meets its contract.
-use mathlib.Core.Path.{_≡_, sym, ap, _∙_}
+use mathlib.Core.Path.{sym, ap, _∙_}
 use mathlib.Core.Bool.{Bool}
 use Rattle.model.specs.Notation.{if_then_else_}
 use Rattle.tokens.specs.TokenAt.{plainCode, placed}

@@ -1,12 +1,11 @@
 -- `tokens::name_in` meets its contract.
-use Prim.Native.Nat.{ℕ, _+_}
+use Prim.Native.Nat.{_+_}
 use mathlib.Core.Path.{_≡_, sym, ap, _∙_}
 use mathlib.Core.Bool.{true, false}
 use native.Mathlib.Omega.{arith}
 use borrow.Author.Tests.{not-true, not-false}
-use lib.ListN.{length, take, drop}
+use lib.ListN.{drop}
 use lib.Seq.{length-take-le}
-use Rattle.model.specs.Bytes.{Bytes}
 use Rattle.model.specs.Names.{isName}
 use Rattle.text.specs.declared.Packed.{Packed}
 use Rattle.text.specs.Packing.{packedOf}

@@ -1,8 +1,8 @@
 -- `tokens::token_in` meets its contract, by the first byte.
 use Prim.Native.Nat.{ℕ, _-_}
-use mathlib.Core.Path.{_≡_, refl, sym, ap, _∙_}
+use mathlib.Core.Path.{refl, sym, ap, _∙_}
 use mathlib.Core.Option.{none, some}
-use lib.ListN.{length, drop, length-drop}
+use lib.ListN.{length-drop}
 use Rattle.model.specs.Bytes.{Bytes}
 use Rattle.model.specs.Tokens.{operator, unequal, less, atMost, greater, atLeast, readText, readToken}
 use Rattle.tokens.specs.TokenAt.{plainCode, placed, codedRead, tokenIn}

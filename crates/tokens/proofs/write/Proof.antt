@@ -1,8 +1,7 @@
 -- `tokens::write` meets its contract, kind by kind.
-use Prim.Native.Nat.{_+_, _-_, _≤_}
-use mathlib.Core.Path.{_≡_, refl}
+use Prim.Native.Nat.{_-_}
+use mathlib.Core.Path.{refl}
 use native.Mathlib.Omega.{arith}
-use lib.ListN.{length, take, drop}
 use Rattle.tokens.proofs.Wrote.{room-some, room-int, room-name, room-text, wrote-end, wrote-int, wrote-text, wrote-name, wrote-kind}
 use borrow.Author.Needs.{needs}
 use Rattle.tokens.proofs.write.Statement.{statement}

@@ -1,14 +1,14 @@
 -- `tokens::write_name` meets its contract.
 use Prim.Native.Nat.{ℕ, _<_, _≤_}
 use mathlib.Core.Path.{_≡_, refl, sym, ap, _∙_}
-use mathlib.Core.Bool.{Bool, true, false}
+use mathlib.Core.Bool.{true, false}
 use mathlib.Core.Option.{Option, none, some}
 use native.Mathlib.Omega.{arith}
 use lib.ListN.{length-set}
 use Rattle.model.specs.Notation.{isNone}
 use Rattle.tokens.specs.declared.Written.{Written}
 use Rattle.model.specs.Declarations.{attributeNumber}
-use Rattle.rows.specs.Rows.{numberOr, AttributeRows}
+use Rattle.rows.specs.Rows.{numberOr}
 use Rattle.rows.proofs.RowsOfAttributes.{number-small}
 use Rattle.tokens.proofs.CodePuts.{put-two}
 use borrow.Author.Needs.{needs}

@@ -1,6 +1,6 @@
 -- `tokens::write_text` meets its contract.
 use Prim.Native.Nat.{_+_}
-use mathlib.Core.Path.{_≡_, refl}
+use mathlib.Core.Path.{refl}
 use native.Mathlib.Omega.{arith}
 use lib.ListN.{length, length-set}
 use Rattle.tokens.proofs.CodePuts.{put-two, put-put, put-length}

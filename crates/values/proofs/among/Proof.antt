@@ -13,12 +13,6 @@ use Rattle.values.specs.Compared.{isFalse, soughtFrom, amongOf}
 use Rattle.values.proofs.ValueWalks.{fewer, sought-none, sought-here, sought-on}
 use Rattle.values.proofs.among.Statement.{statement}
 use Rattle.values.proofs.among.Tie as tie
-use Rattle.values.proofs.among.Reads as reads
-use Rattle.values.proofs.among.Lts as lts
-use Rattle.values.proofs.at_end.Reads as at-end-reads
-use Rattle.values.proofs.first.Reads as first-reads
-use Rattle.values.proofs.same.Reads as same-reads
-use Rattle.values.proofs.value_from.Reads as value-from-reads
 
 abbrev Inv-loop : tie.InvT-loop
 Inv-loop code pairs session entries wanted operand some₀ i₀ some i = soughtFrom (λ (v : Words). truth (sameWords wanted v)) some (valuesFrom (lent code pairs session entries) operand i) ≡ amongOf (valuesOf (lent code pairs session entries) operand) wanted

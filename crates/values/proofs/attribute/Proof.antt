@@ -1,12 +1,8 @@
-use mathlib.Core.Path.{ap, _∙_}
+use mathlib.Core.Path.{_∙_}
 use Rattle.values.proofs.AttributeOperands.{no-number, no-row, in-words, in-entries}
 use borrow.Author.Needs.{needs}
 use Rattle.values.proofs.attribute.Statement.{statement}
 use Rattle.values.proofs.attribute.Tie as tie
-use Rattle.values.proofs.attribute.Reads as reads
-use Rattle.values.proofs.attribute.Lts as lts
-use Rattle.values.proofs.no_values.Reads as no-values-reads
-use Rattle.values.proofs.type_of.Reads as type-of-reads
 
 -- src/lib.rt:537:9
 no-values-requires : tie.Need-no-values-requires

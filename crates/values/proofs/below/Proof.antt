@@ -8,10 +8,6 @@ use Rattle.values.specs.Compared.{isBelow}
 use Rattle.values.proofs.Compared.{without-left, without-right, with-both, at-most, strictly}
 use Rattle.values.proofs.below.Statement.{statement}
 use Rattle.values.proofs.below.Tie as tie
-use Rattle.values.proofs.below.Reads as reads
-use Rattle.values.proofs.below.Lts as lts
-use Rattle.truth.proofs.tested.Reads as tested-reads
-use Rattle.values.proofs.extreme.Reads as extreme-reads
 
 -- src/lib.rt:424:9
 extreme-requires : tie.Need-extreme-requires

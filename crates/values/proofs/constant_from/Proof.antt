@@ -3,10 +3,6 @@ use Rattle.values.proofs.Constants.{constants-find, as-str, as-int}
 use borrow.Author.Needs.{needs}
 use Rattle.values.proofs.constant_from.Statement.{statement}
 use Rattle.values.proofs.constant_from.Tie as tie
-use Rattle.values.proofs.constant_from.Reads as reads
-use Rattle.values.proofs.constant_from.Lts as lts
-use Rattle.values.proofs.int_at.Reads as int-at-reads
-use Rattle.values.proofs.str_at.Reads as str-at-reads
 
 -- src/lib.rt:222:9
 str-at-requires : tie.Need-str-at-requires

@@ -5,12 +5,6 @@ use Rattle.values.proofs.AttributeValues.{entry-next, entry-end}
 use borrow.Author.Needs.{needs}
 use Rattle.values.proofs.entry_from.Statement.{statement}
 use Rattle.values.proofs.entry_from.Tie as tie
-use Rattle.values.proofs.entry_from.Reads as reads
-use Rattle.values.proofs.entry_from.Lts as lts
-use Rattle.values.proofs.entry_number.Reads as entry-number-reads
-use Rattle.values.proofs.entry_words.Reads as entry-words-reads
-use Rattle.values.proofs.four.Reads as four-reads
-use Rattle.values.proofs.none_found.Reads as none-found-reads
 
 -- src/lib.rt:157:9
 entry-number-requires : tie.Need-entry-number-requires

@@ -1,20 +1,16 @@
 use Rattle.values.proofs.Chosen.{none-further}
 use mathlib.Core.Path.{sym}
 use mathlib.Core.Path.{_∙_}
-use Prim.Native.Nat.{ℕ, _*_, _-_, _/_, _≤_, _<_}
+use Prim.Native.Nat.{ℕ, _*_, _-_, _≤_, _<_}
 use borrow.Author.Needs.{needs}
 use native.Mathlib.Omega.{arith}
 use mathlib.Core.Path.{_≡_, _∙_}
 use mathlib.Core.Bool.{false}
 use lib.Dec.{eqb}
-use lib.ListN.{length}
 use borrow.Author.Tests.{eq-eqb, ne-eqb}
 use Rattle.model.specs.Block.{byteAt}
 use Rattle.values.proofs.entry_number.Statement.{statement}
 use Rattle.values.proofs.entry_number.Tie as tie
-use Rattle.values.proofs.entry_number.Reads as reads
-use Rattle.values.proofs.entry_number.Lts as lts
-use Rattle.values.proofs.wide.Reads as wide-reads
 
 abbrev Inv-loop : tie.InvT-loop
 Inv-loop entries k i n j₀ j = ((m : ℕ) → i ≤ m → m < j → eqb (byteAt entries (5 * m)) k ≡ false) × (i ≤ j)

@@ -3,9 +3,6 @@ use Rattle.values.proofs.AttributeValues.{entry-number, entry-true, ent
 use borrow.Author.Needs.{needs}
 use Rattle.values.proofs.entry_words.Statement.{statement}
 use Rattle.values.proofs.entry_words.Tie as tie
-use Rattle.values.proofs.entry_words.Reads as reads
-use Rattle.values.proofs.entry_words.Lts as lts
-use Rattle.values.proofs.one_word.Reads as one-word-reads
 
 -- src/lib.rt:145:9
 one-word-requires : tie.Need-one-word-requires

@@ -10,12 +10,6 @@ use Rattle.values.specs.Compared.{extremeFrom, worst}
 use Rattle.values.proofs.ValueWalks.{fewer, some-none, some-more, best-none, best-on}
 use Rattle.values.proofs.extreme.Statement.{statement}
 use Rattle.values.proofs.extreme.Tie as tie
-use Rattle.values.proofs.extreme.Reads as reads
-use Rattle.values.proofs.extreme.Lts as lts
-use Rattle.values.proofs.first.Reads as first-reads
-use Rattle.values.proofs.further.Reads as further-reads
-use Rattle.values.proofs.start_of.Reads as start-of-reads
-use Rattle.values.proofs.value_from.Reads as value-from-reads
 
 abbrev Inv-loop : tie.InvT-loop
 Inv-loop code pairs session entries operand greatest some₀ best₀ i₀ some best i = ((some || not (isEmpty (valuesFrom (lent code pairs session entries) operand i))) ≡ not (isEmpty (valuesOf (lent code pairs session entries) operand))) × (extremeFrom greatest best (valuesFrom (lent code pairs session entries) operand i) ≡ extremeFrom greatest (worst greatest) (valuesOf (lent code pairs session entries) operand))

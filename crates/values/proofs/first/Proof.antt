@@ -2,8 +2,6 @@ use borrow.Author.Tests.{le-leb, lt-leb}
 use Rattle.values.specs.Operands.{firstOf}
 use Rattle.values.proofs.first.Statement.{statement}
 use Rattle.values.proofs.first.Tie as tie
-use Rattle.values.proofs.first.Reads as reads
-use Rattle.values.proofs.first.Lts as lts
 
 -- src/lib.rt:252:9
 returns : tie.Need-returns

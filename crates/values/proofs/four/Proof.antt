@@ -3,9 +3,6 @@ use Rattle.values.proofs.AttributeValues.{value-four}
 use borrow.Author.Needs.{needs}
 use Rattle.values.proofs.four.Statement.{statement}
 use Rattle.values.proofs.four.Tie as tie
-use Rattle.values.proofs.four.Reads as reads
-use Rattle.values.proofs.four.Lts as lts
-use Rattle.values.proofs.wide.Reads as wide-reads
 
 -- src/lib.rt:92:18
 shared-slice-read-wide : tie.Need-shared-slice-read-wide

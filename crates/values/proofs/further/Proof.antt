@@ -1,10 +1,7 @@
-use mathlib.Core.Path.{_∙_}
 use borrow.Author.Tests.{lt-ltb, le-ltb}
 use Rattle.values.specs.Compared.{further}
 use Rattle.values.proofs.further.Statement.{statement}
 use Rattle.values.proofs.further.Tie as tie
-use Rattle.values.proofs.further.Reads as reads
-use Rattle.values.proofs.further.Lts as lts
 
 -- src/lib.rt:352:13
 returns : tie.Need-returns

@@ -1,6 +1,6 @@
 use Prim.Native.Nat.{ℕ, _+_}
 use native.Mathlib.Omega.{arith}
-use mathlib.Core.Path.{_≡_, ap, _∙_}
+use mathlib.Core.Path.{ap, _∙_}
 use Rattle.text.specs.declared.Words.{Words}
 use Rattle.text.specs.Values.{words}
 use Rattle.values.specs.Operands.{found}
@@ -8,11 +8,6 @@ use Rattle.values.proofs.Constants.{int-beyond, int-short, int-whole}
 use borrow.Author.Needs.{needs}
 use Rattle.values.proofs.int_at.Statement.{statement}
 use Rattle.values.proofs.int_at.Tie as tie
-use Rattle.values.proofs.int_at.Reads as reads
-use Rattle.values.proofs.int_at.Lts as lts
-use Rattle.values.proofs.four.Reads as four-reads
-use Rattle.values.proofs.none_found.Reads as none-found-reads
-use Rattle.values.proofs.one_word.Reads as one-word-reads
 
 -- src/lib.rt:173:9
 none-found-requires : tie.Need-none-found-requires

@@ -3,10 +3,6 @@ use Rattle.values.specs.Operands.{lent}
 use Rattle.values.proofs.Compared.{not-bool, some-alone}
 use Rattle.values.proofs.lone.Statement.{statement}
 use Rattle.values.proofs.lone.Tie as tie
-use Rattle.values.proofs.lone.Reads as reads
-use Rattle.values.proofs.lone.Lts as lts
-use Rattle.values.proofs.among.Reads as among-reads
-use Rattle.values.proofs.one_word.Reads as one-word-reads
 
 -- src/lib.rt:533:9
 returns : tie.Need-returns

@@ -2,8 +2,6 @@ use mathlib.Core.Path.{sym}
 use borrow.Author.Tests.{le-leb, lt-leb}
 use Rattle.values.proofs.low_side.Statement.{statement}
 use Rattle.values.proofs.low_side.Tie as tie
-use Rattle.values.proofs.low_side.Reads as reads
-use Rattle.values.proofs.low_side.Lts as lts
 
 -- src/lib.rt:438:1
 returns : tie.Need-returns

@@ -2,8 +2,6 @@ use mathlib.Core.Path.{sym}
 use borrow.Author.Tests.{eq-eqb, ne-eqb}
 use Rattle.values.proofs.or_equal.Statement.{statement}
 use Rattle.values.proofs.or_equal.Tie as tie
-use Rattle.values.proofs.or_equal.Reads as reads
-use Rattle.values.proofs.or_equal.Lts as lts
 
 -- src/lib.rt:448:9
 returns : tie.Need-returns

@@ -5,11 +5,6 @@ use Rattle.values.specs.Operands.{lent}
 use Rattle.values.proofs.Compared.{by-sides}
 use Rattle.values.proofs.order.Statement.{statement}
 use Rattle.values.proofs.order.Tie as tie
-use Rattle.values.proofs.order.Reads as reads
-use Rattle.values.proofs.order.Lts as lts
-use Rattle.values.proofs.below.Reads as below-reads
-use Rattle.values.proofs.low_side.Reads as low-side-reads
-use Rattle.values.proofs.or_equal.Reads as or-equal-reads
 
 -- src/lib.rt:468:9
 returns : tie.Need-returns

@@ -3,10 +3,6 @@ use Rattle.values.proofs.AttributeValues.{no-words, words-next, words-e
 use borrow.Author.Needs.{needs}
 use Rattle.values.proofs.pair_from.Statement.{statement}
 use Rattle.values.proofs.pair_from.Tie as tie
-use Rattle.values.proofs.pair_from.Reads as reads
-use Rattle.values.proofs.pair_from.Lts as lts
-use Rattle.bits.proofs.first_from.Reads as first-from-reads
-use Rattle.values.proofs.none_found.Reads as none-found-reads
 
 -- src/lib.rt:105:9
 none-found-requires : tie.Need-none-found-requires

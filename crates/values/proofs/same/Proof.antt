@@ -1,8 +1,6 @@
 use borrow.Author.Tests.{eq-eqb, ne-eqb}
 use Rattle.values.proofs.same.Statement.{statement}
 use Rattle.values.proofs.same.Tie as tie
-use Rattle.values.proofs.same.Reads as reads
-use Rattle.values.proofs.same.Lts as lts
 
 -- src/lib.rt:276:9
 returns : tie.Need-returns

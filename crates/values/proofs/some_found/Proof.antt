@@ -10,14 +10,6 @@ use Rattle.values.specs.Compared.{isFalse, asked, soughtFrom, amongOf, f
 use Rattle.values.proofs.ValueWalks.{fewer, sought-none, sought-here, sought-on}
 use Rattle.values.proofs.some_found.Statement.{statement}
 use Rattle.values.proofs.some_found.Tie as tie
-use Rattle.values.proofs.some_found.Reads as reads
-use Rattle.values.proofs.some_found.Lts as lts
-use Rattle.values.proofs.among.Reads as among-reads
-use Rattle.values.proofs.asked.Reads as asked-reads
-use Rattle.values.proofs.at_end.Reads as at-end-reads
-use Rattle.values.proofs.first.Reads as first-reads
-use Rattle.values.proofs.is_false.Reads as is-false-reads
-use Rattle.values.proofs.value_from.Reads as value-from-reads
 
 abbrev Inv-loop : tie.InvT-loop
 Inv-loop code pairs session entries left right wanted some₀ i₀ some i = soughtFrom (λ (w : Words). asked wanted (amongOf (valuesOf (lent code pairs session entries) right) w)) some (valuesFrom (lent code pairs session entries) left i) ≡ foundOf wanted (valuesOf (lent code pairs session entries) left) (valuesOf (lent code pairs session entries) right)

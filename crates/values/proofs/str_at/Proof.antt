@@ -1,15 +1,10 @@
 use Prim.Native.Nat.{_+_}
 use native.Mathlib.Omega.{arith}
 use mathlib.Core.Path.{_∙_}
-use lib.ListN.{length-take, length-drop}
 use Rattle.values.proofs.Constants.{str-beyond, str-short, str-long, str-cut, str-whole}
 use borrow.Author.Needs.{needs}
 use Rattle.values.proofs.str_at.Statement.{statement}
 use Rattle.values.proofs.str_at.Tie as tie
-use Rattle.values.proofs.str_at.Reads as reads
-use Rattle.values.proofs.str_at.Lts as lts
-use Rattle.text.proofs.words_of.Reads as words-of-reads
-use Rattle.values.proofs.none_found.Reads as none-found-reads
 
 -- src/lib.rt:193:9
 none-found-requires : tie.Need-none-found-requires

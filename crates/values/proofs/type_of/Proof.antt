@@ -3,8 +3,6 @@ use Rattle.values.specs.Operands.{rowType}
 use borrow.Author.Needs.{needs}
 use Rattle.values.proofs.type_of.Statement.{statement}
 use Rattle.values.proofs.type_of.Tie as tie
-use Rattle.values.proofs.type_of.Reads as reads
-use Rattle.values.proofs.type_of.Lts as lts
 
 -- src/lib.rt:527:27
 mul-kind : tie.Need-mul-kind

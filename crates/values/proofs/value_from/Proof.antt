@@ -3,11 +3,6 @@ use Rattle.values.proofs.AttributeValues.{in-session, in-block, in-code
 use borrow.Author.Needs.{needs}
 use Rattle.values.proofs.value_from.Statement.{statement}
 use Rattle.values.proofs.value_from.Tie as tie
-use Rattle.values.proofs.value_from.Reads as reads
-use Rattle.values.proofs.value_from.Lts as lts
-use Rattle.values.proofs.constant_from.Reads as constant-from-reads
-use Rattle.values.proofs.entry_from.Reads as entry-from-reads
-use Rattle.values.proofs.pair_from.Reads as pair-from-reads
 
 -- src/lib.rt:242:18
 pair-from-requires : tie.Need-pair-from-requires

@@ -2,9 +2,6 @@
 use borrow.Author.Needs.{needs}
 use Rattle.engine.proofs.load.empty.Statement.{statement}
 use Rattle.engine.proofs.load.empty.Tie as tie
-use Rattle.engine.proofs.load.empty.Reads as reads
-use Rattle.engine.proofs.load.empty.Lts as lts
-use Rattle.book.proofs.declare.clear.Reads as clear-reads
 
 clear-requires : tie.Need-clear-requires
 clear-requires c κs = search needs

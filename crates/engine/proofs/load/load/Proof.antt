@@ -4,12 +4,6 @@ use Rattle.engine.proofs.LoadCalls.{without-table, refused-file, accept
 use borrow.Author.Needs.{needs}
 use Rattle.engine.proofs.load.load.Statement.{statement}
 use Rattle.engine.proofs.load.load.Tie as tie
-use Rattle.engine.proofs.load.load.Reads as reads
-use Rattle.engine.proofs.load.load.Lts as lts
-use Rattle.book.proofs.declare.zero.Reads as zero-reads
-use Rattle.book.proofs.file.read.Reads as read-reads
-use Rattle.engine.proofs.load.empty.Reads as empty-reads
-use Rattle.engine.proofs.load.fill.Reads as fill-reads
 
 empty-requires : tie.Need-empty-requires
 empty-requires c κs = search needs

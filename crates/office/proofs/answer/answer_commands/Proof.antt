@@ -12,10 +12,6 @@ use Rattle.office.specs.Answers.{memory, AnsweredTo}
 use Rattle.office.proofs.Answers.{none-answered, next-room, next-place, more-answered, line-as, all-length, all-answered}
 use Rattle.office.proofs.answer.answer_commands.Statement.{statement}
 use Rattle.office.proofs.answer.answer_commands.Tie as tie
-use Rattle.office.proofs.answer.answer_commands.Reads as reads
-use Rattle.office.proofs.answer.answer_commands.Lts as lts
-use Rattle.office.proofs.answer.answer_line.Reads as answer-line-reads
-use Rattle.office.proofs.input.line_length.Reads as line-length-reads
 
 abbrev Inv-loop : tie.InvT-loop
 Inv-loop commands book₀ rules table₀ out₀ at i₀ n₀ book table out i n = AnsweredTo commands i (memory book₀ rules table₀) (memory book rules table) out₀ at out n

@@ -2,10 +2,6 @@
 use borrow.Author.Needs.{needs}
 use Rattle.office.proofs.answer.answer_edit.Statement.{statement}
 use Rattle.office.proofs.answer.answer_edit.Tie as tie
-use Rattle.office.proofs.answer.answer_edit.Reads as reads
-use Rattle.office.proofs.answer.answer_edit.Lts as lts
-use Rattle.engine.proofs.edit.edit.Reads as edit-reads
-use Rattle.office.proofs.output.put_edit.Reads as put-edit-reads
 
 edit-requires : tie.Need-edit-requires
 edit-requires c κs = search needs

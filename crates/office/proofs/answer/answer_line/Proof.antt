@@ -4,12 +4,6 @@ use Rattle.office.proofs.Answering.{told-as, edit-answered, bad-answere
 use borrow.Author.Needs.{needs}
 use Rattle.office.proofs.answer.answer_line.Statement.{statement}
 use Rattle.office.proofs.answer.answer_line.Tie as tie
-use Rattle.office.proofs.answer.answer_line.Reads as reads
-use Rattle.office.proofs.answer.answer_line.Lts as lts
-use Rattle.office.proofs.answer.answer_edit.Reads as answer-edit-reads
-use Rattle.office.proofs.answer.answer_request.Reads as answer-request-reads
-use Rattle.office.proofs.command.read.Reads as read-reads
-use Rattle.office.proofs.output.put_bad.Reads as put-bad-reads
 
 read-requires : tie.Need-read-requires
 read-requires c κs = search needs

@@ -6,12 +6,6 @@ use Rattle.office.proofs.Answering.{hex-within, hex-refused, block-deci
 use borrow.Author.Needs.{needs}
 use Rattle.office.proofs.answer.answer_request.Statement.{statement}
 use Rattle.office.proofs.answer.answer_request.Tie as tie
-use Rattle.office.proofs.answer.answer_request.Reads as reads
-use Rattle.office.proofs.answer.answer_request.Lts as lts
-use Rattle.engine.proofs.decide.Reads as decide-reads
-use Rattle.office.proofs.answer.put_decision.Reads as put-decision-reads
-use Rattle.office.proofs.output.put_bad.Reads as put-bad-reads
-use Rattle.text.proofs.unhex.Reads as unhex-reads
 
 sub-unhex : tie.Need-sub-unhex
 sub-unhex c = search needs

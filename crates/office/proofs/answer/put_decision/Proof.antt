@@ -10,12 +10,6 @@ use Rattle.office.specs.Output.{PutShort}
 use borrow.Author.Needs.{needs}
 use Rattle.office.proofs.answer.put_decision.Statement.{statement}
 use Rattle.office.proofs.answer.put_decision.Tie as tie
-use Rattle.office.proofs.answer.put_decision.Reads as reads
-use Rattle.office.proofs.answer.put_decision.Lts as lts
-use Rattle.office.proofs.output.put_deny.Reads as put-deny-reads
-use Rattle.office.proofs.output.put_permit.Reads as put-permit-reads
-use Rattle.office.proofs.output.put_refused.Reads as put-refused-reads
-use Rattle.office.proofs.output.put_undefined.Reads as put-undefined-reads
 
 as-decided : {before : Bytes} {at : ℕ} {after : Bytes} {r : ℕ} {d e : Decision} → d ≡ e → PutShort before at (printed (decided (decisionOf e))) after r
     → PutShort before at (printed (decided (decisionOf d))) after r

@@ -1,7 +1,6 @@
 -- `command::read` meets its contract.
 use mathlib.Core.Path.{sym, _∙_}
 use native.Mathlib.Omega.{arith}
-use lib.ListN.{length, take}
 use lib.Seq.{length-take-le}
 use Rattle.office.proofs.Commands.{no-bytes, plus-call, minus-call, too-short, not-try, a-try}
 use borrow.Author.Needs.{needs}

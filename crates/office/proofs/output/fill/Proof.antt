@@ -1,7 +1,6 @@
 -- `output::fill` meets its contract: the last digits stand at the end of the array.
 use Prim.Native.Nat.{_<_}
 use native.Mathlib.Omega.{arith}
-use lib.ListN.{length}
 use Rattle.office.proofs.Digits.{Filling, filling-start, filling-room, filling-more, filled}
 use Rattle.office.proofs.output.fill.Statement.{statement}
 use Rattle.office.proofs.output.fill.Tie as tie
