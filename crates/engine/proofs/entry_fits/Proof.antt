@@ -1,3 +1,4 @@
+-- `engine::entry_fits` meets its contract. Assumes nothing.
 use native.Mathlib.Omega.{arith}
 use Rattle.engine.proofs.EntryTests.{no-number, not-from-block, no-bool, a-bool}
 use borrow.Author.Needs.{needs}
@@ -20,7 +21,9 @@ cast-if2 : tie.Need-cast-if2
 cast-if2 c = search needs
 
 returns-2 : tie.Need-returns-2
-returns-2 c = λ D ar. not-from-block (c .before .before .before .args .attributes .now) (c .before .before .before .args .k) (c .before .before .before .args .value) D ar (omega arith)
+returns-2 c =
+    let a = c .before .before .before .args in
+    λ D ar. not-from-block (a .attributes .now) (a .k) (a .value) D ar (omega arith)
 
 mul-if3 : tie.Need-mul-if3
 mul-if3 c = search needs
@@ -38,7 +41,9 @@ cast-if3 : tie.Need-cast-if3
 cast-if3 c = search needs
 
 returns-3 : tie.Need-returns-3
-returns-3 c = λ D ar. no-bool (c .before .before .before .before .before .args .attributes .now) (c .before .before .before .before .before .args .k) (c .before .before .before .before .before .args .value) D ar (omega arith) (omega arith) (c .if3 .taken)
+returns-3 c =
+    let a = c .before .before .before .before .before .args in
+    λ D ar. no-bool (a .attributes .now) (a .k) (a .value) D ar (omega arith) (omega arith) (c .if3 .taken)
 
 returns-4 : tie.Need-returns-4
 returns-4 c = λ D ar. a-bool (c .before .before .before .before .before .args .attributes .now) (c .before .before .before .before .before .args .k) (c .before .before .before .before .before .args .value) D ar (omega arith) (omega arith) (c .if3 .left)

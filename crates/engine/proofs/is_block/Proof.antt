@@ -1,3 +1,4 @@
+-- `engine::is_block` meets its contract. Assumes nothing.
 use native.Mathlib.Omega.{arith}
 use Rattle.engine.proofs.Blocks.{block-short, block-edition, block-many, block-nine, block-long}
 use borrow.Author.Needs.{needs}

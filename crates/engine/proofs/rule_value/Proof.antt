@@ -1,3 +1,4 @@
+-- `engine::rule_value` meets its contract. Assumes nothing.
 use Rattle.engine.proofs.RuleValues.{other-operation, its-operation}
 use borrow.Author.Needs.{needs}
 use Rattle.engine.proofs.rule_value.Statement.{statement}

@@ -1,3 +1,4 @@
+-- `engine::wrong_number` meets its contract. Assumes nothing.
 use native.Mathlib.Omega.{arith}
 use borrow.Author.Tests.{not-true, not-false}
 use Rattle.engine.proofs.BlockNumbers.{no-user, no-object, no-operation, by-entries}

@@ -1,3 +1,4 @@
+-- `policy::conjunction`, `policy::policy`, `policy::term` meet their contracts. Assumes nothing.
 use Prim.Native.Nat.{_+_, _-_, _*_}
 use native.Mathlib.Omega.{arith}
 use lib.ListN.{length}

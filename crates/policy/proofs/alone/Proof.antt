@@ -1,3 +1,4 @@
+-- `policy::alone` meets its contract. Assumes nothing.
 use Rattle.policy.proofs.Heads.{alone-none, alone-on}
 use borrow.Author.Needs.{needs}
 use Rattle.policy.proofs.alone.Statement.{statement}

@@ -1,3 +1,4 @@
+-- `policy::behind_not` meets its contract. Assumes nothing.
 use native.Mathlib.Omega.{arith}
 use mathlib.Core.Path.{sym, _∙_}
 use lib.ListN.{getD}
@@ -7,7 +8,6 @@ use borrow.Author.Needs.{needs}
 use Rattle.policy.proofs.behind_not.Statement.{statement}
 use Rattle.policy.proofs.behind_not.Tie as tie
 
--- src/lib.rt:451:16
 add-result : tie.Need-add-result
 add-result c =
     let a = c .before .args in
@@ -15,11 +15,9 @@ add-result c =
     let e = eqb-true (getD code (a .at) 0) 12 (sym (c .before .pre) ∙ c .if1 .taken) in
     let w = inside code (a .at) (omega (arith, e)) in omega (arith, w)
 
--- src/lib.rt:451:9
 returns : tie.Need-returns
 returns c = sym (rw (c .if1 .taken))
 
--- src/lib.rt:446:1
 returns-2 : tie.Need-returns-2
 returns-2 c = search needs
 

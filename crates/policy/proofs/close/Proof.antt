@@ -1,22 +1,19 @@
+-- `policy::close` meets its contract. Assumes nothing.
 use native.Mathlib.Omega.{arith}
 use Rattle.policy.proofs.JoinedParts.{close-none, close-off, close-within, close-on}
 use borrow.Author.Needs.{needs}
 use Rattle.policy.proofs.close.Statement.{statement}
 use Rattle.policy.proofs.close.Tie as tie
 
--- src/lib.rt:208:31
 enum-told : tie.Need-enum-told
 enum-told c = search needs
 
--- src/lib.rt:209:23
 enum-known-r : tie.Need-enum-known-r
 enum-known-r c = search needs
 
--- src/lib.rt:210:17
 kind-at-requires : tie.Need-kind-at-requires
 kind-at-requires c κs = search needs
 
--- src/lib.rt:212:55
 add-closed-part : tie.Need-add-closed-part
 add-closed-part c =
     let a = c .before .before .before .before .before .before .before .args in
@@ -25,17 +22,14 @@ add-closed-part c =
     let w = close-within (a .code .now) (a .negated) (a .r) (x .0 .0) (the-kind-at .result) (x .1) (the-kind-at .ensures) (c .before .if1 .taken) in
     omega (arith, w)
 
--- src/lib.rt:212:31
 closed-part-requires : tie.Need-closed-part-requires
 closed-part-requires c κs = search needs
 
--- src/lib.rt:204:1
 returns : tie.Need-returns
 returns c =
     let a = c .before .before .before .args in
     close-none (a .code .now) (a .negated) (a .r) (c .enum-told .given .1)
 
--- src/lib.rt:204:1
 returns-2 : tie.Need-returns-2
 returns-2 c =
     let a = c .before .before .before .before .before .before .before .before .args in
@@ -45,7 +39,6 @@ returns-2 c =
     close-on (a .code .now) (a .negated) (a .r) (x .0 .0) (the-kind-at .result) (x .1) (the-kind-at .ensures) (the-closed-part .result)
     (c .before .before .if1 .taken) (the-closed-part .ensures)
 
--- src/lib.rt:204:1
 returns-3 : tie.Need-returns-3
 returns-3 c =
     let a = c .before .before .before .before .before .before .args in

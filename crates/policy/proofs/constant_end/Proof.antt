@@ -1,3 +1,4 @@
+-- `policy::constant_end` meets its contract. Assumes nothing.
 use mathlib.Core.Path.{_∙_}
 use Rattle.policy.proofs.VarsInCode.{end-int, end-str}
 use borrow.Author.Needs.{needs}

@@ -1,3 +1,4 @@
+-- `policy::evaluate` meets its contract. Assumes nothing.
 use Rattle.policy.specs.Readers.{lending}
 use Rattle.policy.proofs.Wholes.{evaluate-none, evaluate-read}
 use borrow.Author.Needs.{needs}

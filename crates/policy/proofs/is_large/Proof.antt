@@ -1,3 +1,4 @@
+-- `policy::is_large` meets its contract. Assumes nothing.
 use Rattle.policy.proofs.Wholes.{over-terms, over-depth, over-set}
 use Rattle.policy.proofs.is_large.Statement.{statement}
 use Rattle.policy.proofs.is_large.Tie as tie

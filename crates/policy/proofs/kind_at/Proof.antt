@@ -1,20 +1,18 @@
+-- `policy::kind_at` meets its contract. Assumes nothing.
 use mathlib.Core.Path.{sym}
 use lib.ListN.{List·getD-eq-default}
 use borrow.Author.Needs.{needs}
 use Rattle.policy.proofs.kind_at.Statement.{statement}
 use Rattle.policy.proofs.kind_at.Tie as tie
 
--- src/lib.rt:198:9
 returns : tie.Need-returns
 returns c =
     let a = c .before .args in
     sym (List·getD-eq-default (a .code .now) 0 (c .if1 .taken))
 
--- src/lib.rt:200:5
 shared-slice-read-result : tie.Need-shared-slice-read-result
 shared-slice-read-result c = search needs
 
--- src/lib.rt:194:1
 returns-2 : tie.Need-returns-2
 returns-2 c = search needs
 

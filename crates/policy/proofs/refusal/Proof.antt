@@ -1,3 +1,4 @@
+-- `policy::refusal` meets its contract. Assumes nothing.
 use Rattle.policy.proofs.Wholes.{refuse-none, refuse-large, refuse-unknown, accept}
 use borrow.Author.Needs.{needs}
 use Rattle.policy.proofs.refusal.Statement.{statement}

@@ -1,3 +1,4 @@
+-- `policy::second_var` meets its contract. Assumes nothing.
 use native.Mathlib.Omega.{arith}
 use mathlib.Core.Path.{sym, _∙_}
 use mathlib.Core.Bool.{true≢false}
@@ -8,11 +9,9 @@ use borrow.Author.Needs.{needs}
 use Rattle.policy.proofs.second_var.Statement.{statement}
 use Rattle.policy.proofs.second_var.Tie as tie
 
--- src/lib.rt:406:9
 no-var-requires : tie.Need-no-var-requires
 no-var-requires c κs = search needs
 
--- src/lib.rt:406:9
 returns : tie.Need-returns
 returns c =
     let a = c .before .before .before .before .args in
@@ -20,19 +19,15 @@ returns c =
     no-second-var code (a .attributes .now) (a .at) (a .negated) (c .no-var .result) (c .no-var .ensures .0)
     (λ f x y. true≢false (sym (c .before .if1 .taken) ∙ f))
 
--- src/lib.rt:408:21
 kind-at-requires : tie.Need-kind-at-requires
 kind-at-requires c κs = search needs
 
--- src/lib.rt:408:9
 is-operator-requires : tie.Need-is-operator-requires
 is-operator-requires c κs = search needs
 
--- src/lib.rt:409:9
 no-var-requires-2 : tie.Need-no-var-requires-2
 no-var-requires-2 c κs = search needs
 
--- src/lib.rt:409:9
 returns-2 : tie.Need-returns-2
 returns-2 c =
     let a = c .before .before .before .before .before .before .before .args in
@@ -42,7 +37,6 @@ returns-2 c =
     (λ f x y. no-operator (the-kind-at .result) (sym (c .before .before .is-operator .ensures) ∙ not-true _ (c .before .if2 .taken))
     (omega (arith, x, the-kind-at .ensures)) (omega (arith, y, the-kind-at .ensures)))
 
--- src/lib.rt:411:13
 add-n : tie.Need-add-n
 add-n c =
     let a = c .before .before .before .before .before .before .args in
@@ -51,15 +45,12 @@ add-n c =
     let o = an-operator (the-kind-at .result) (sym (c .before .is-operator .ensures) ∙ not-false _ (c .if2 .left)) in
     let w = inside code (a .at) (omega (arith, o, the-kind-at .ensures)) in omega (arith, w)
 
--- src/lib.rt:412:30
 kind-at-requires-2 : tie.Need-kind-at-requires-2
 kind-at-requires-2 c κs = search needs
 
--- src/lib.rt:412:5
 var-at-requires : tie.Need-var-at-requires
 var-at-requires c κs = search needs
 
--- src/lib.rt:401:1
 returns-3 : tie.Need-returns-3
 returns-3 c =
     let a = c .before .before .before .before .before .before .before .before .args in

@@ -1,3 +1,4 @@
+-- `policy::signed_head` meets its contract. Assumes nothing.
 use mathlib.Core.Path.{refl, sym, subst}
 use mathlib.Core.Bool.{Bool}
 use Rattle.policy.specs.Readers.{SignedHead}
@@ -5,15 +6,12 @@ use borrow.Author.Needs.{needs}
 use Rattle.policy.proofs.signed_head.Statement.{statement}
 use Rattle.policy.proofs.signed_head.Tie as tie
 
--- src/lib.rt:395:9
 not-head-requires : tie.Need-not-head-requires
 not-head-requires c κs = search needs
 
--- src/lib.rt:395:9
 returns : tie.Need-returns
 returns c = subst (λ (b : Bool). SignedHead b (c .before .before .args .h) (c .not-head .result)) (sym (c .before .if1 .taken)) (c .not-head .ensures)
 
--- src/lib.rt:391:1
 returns-2 : tie.Need-returns-2
 returns-2 c = subst (λ (b : Bool). SignedHead b (c .before .args .h) (c .before .args .h)) (sym (c .if1 .left)) refl
 

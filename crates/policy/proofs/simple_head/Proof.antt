@@ -1,3 +1,4 @@
+-- `policy::simple_head` meets its contract. Assumes nothing.
 use native.Mathlib.Omega.{arith}
 use Rattle.policy.proofs.CodeFronts.{inside}
 use Rattle.policy.proofs.Heads.{simple-open, simple-truth, simple-neither}
@@ -5,36 +6,30 @@ use borrow.Author.Needs.{needs}
 use Rattle.policy.proofs.simple_head.Statement.{statement}
 use Rattle.policy.proofs.simple_head.Tie as tie
 
--- src/lib.rt:384:37
 add-t5 : tie.Need-add-t5
 add-t5 c =
     let a = c .before .before .args in
     let code = a .code .now in
     let w = inside code (a .at) (omega (arith, c .match .keys1, c .before .before .pre)) in omega (arith, w)
 
--- src/lib.rt:385:41
 truth-of-requires : tie.Need-truth-of-requires
 truth-of-requires c κs = search needs
 
--- src/lib.rt:385:57
 add-leaf : tie.Need-add-leaf
 add-leaf c =
     let a = c .before .before .before .before .before .args in
     let code = a .code .now in
     let w = inside code (a .at) (omega (arith, c .before .before .if1 .left, c .before .before .before .before .before .pre)) in omega (arith, w)
 
--- src/lib.rt:385:36
 leaf-requires : tie.Need-leaf-requires
 leaf-requires c κs = search needs
 
--- src/lib.rt:379:1
 returns : tie.Need-returns
 returns c =
     let a = c .before .before .args in
     let code = a .code .now in
     λ L v X z. simple-open code L (a .at) (a .kind) (c .before .before .pre) (c .match .keys1)
 
--- src/lib.rt:379:1
 returns-2 : tie.Need-returns-2
 returns-2 c =
     let a = c .before .before .before .before .before .before .args in
@@ -44,14 +39,12 @@ returns-2 c =
     λ L v X z. simple-truth code L (a .at) (a .kind) (c .before .before .before .before .before .before .pre) (the-truth-of .result) (the-truth-of .ensures)
     (omega (arith, c .before .before .before .if1 .left)) (omega (arith, c .before .before .if2 .taken)) (the-leaf .result) (the-leaf .ensures)
 
--- src/lib.rt:379:1
 returns-3 : tie.Need-returns-3
 returns-3 c =
     let a = c .before .before .before .args in
     let code = a .code .now in
     λ L v X z. simple-neither code L (a .at) (a .kind) (c .before .before .before .pre) v X z (c .before .match .rest .1) (λ x y. omega (arith, x, c .if1 .taken))
 
--- src/lib.rt:379:1
 returns-4 : tie.Need-returns-4
 returns-4 c =
     let a = c .before .before .before .before .args in

@@ -1,30 +1,25 @@
+-- `policy::term_head` meets its contract. Assumes nothing.
 use Rattle.policy.specs.Readers.{lending}
 use Rattle.policy.proofs.Heads.{signed-simple, term-signed}
 use borrow.Author.Needs.{needs}
 use Rattle.policy.proofs.term_head.Statement.{statement}
 use Rattle.policy.proofs.term_head.Tie as tie
 
--- src/lib.rt:468:9
 is-not-requires : tie.Need-is-not-requires
 is-not-requires c κs = search needs
 
--- src/lib.rt:469:9
 behind-not-requires : tie.Need-behind-not-requires
 behind-not-requires c κs = search needs
 
--- src/lib.rt:470:9
 kind-at-requires : tie.Need-kind-at-requires
 kind-at-requires c κs = search needs
 
--- src/lib.rt:471:9
 var-at-requires : tie.Need-var-at-requires
 var-at-requires c κs = search needs
 
--- src/lib.rt:473:9
 var-head-requires : tie.Need-var-head-requires
 var-head-requires c κs = search needs
 
--- src/lib.rt:473:9
 returns : tie.Need-returns
 returns c =
     let a = c .before .before .before .before .before .before .before .before .before .before .args in
@@ -37,15 +32,12 @@ returns c =
     term-signed code L (a .at) (the-is-not .result) (the-is-not .ensures) (the-behind-not .result) (the-behind-not .ensures) (the-var-head .result)
     (the-var-head .ensures (the-behind-not .result) (the-var-at .ensures) (c .before .if1 .taken))
 
--- src/lib.rt:475:26
 simple-head-requires : tie.Need-simple-head-requires
 simple-head-requires c κs = search needs
 
--- src/lib.rt:475:5
 signed-head-requires : tie.Need-signed-head-requires
 signed-head-requires c κs = search needs
 
--- src/lib.rt:457:1
 returns-2 : tie.Need-returns-2
 returns-2 c =
     let a = c .before .before .before .before .before .before .before .before .before .before .before .args in

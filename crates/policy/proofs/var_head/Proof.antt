@@ -1,3 +1,4 @@
+-- `policy::var_head` meets its contract. Assumes nothing.
 use borrow.Author.Tests.{not-true, not-false}
 use Rattle.policy.specs.Readers.{lending}
 use Rattle.policy.proofs.Heads.{not-second, compared}
@@ -5,19 +6,15 @@ use borrow.Author.Needs.{needs}
 use Rattle.policy.proofs.var_head.Statement.{statement}
 use Rattle.policy.proofs.var_head.Tie as tie
 
--- src/lib.rt:428:9
 second-var-requires : tie.Need-second-var-requires
 second-var-requires c κs = search needs
 
--- src/lib.rt:430:37
 alone-requires : tie.Need-alone-requires
 alone-requires c κs = search needs
 
--- src/lib.rt:430:9
 signed-head-requires : tie.Need-signed-head-requires
 signed-head-requires c κs = search needs
 
--- src/lib.rt:430:9
 returns : tie.Need-returns
 returns c =
     let a = c .before .before .before .before .before .before .before .before .before .args in
@@ -29,23 +26,18 @@ returns c =
     not-second code L (a .v) (the-second-var .result) (a .negated) (the-second-var .ensures) (not-true _ (c .before .before .if1 .taken))
     (the-alone .result) (the-signed-head .result) (the-alone .ensures) (the-signed-head .ensures)
 
--- src/lib.rt:432:9
 kind-at-requires : tie.Need-kind-at-requires
 kind-at-requires c κs = search needs
 
--- src/lib.rt:435:9
 compare-requires : tie.Need-compare-requires
 compare-requires c κs = search needs
 
--- src/lib.rt:436:36
 larger-requires : tie.Need-larger-requires
 larger-requires c κs = search needs
 
--- src/lib.rt:436:16
 leaf-requires : tie.Need-leaf-requires
 leaf-requires c κs = search needs
 
--- src/lib.rt:416:1
 returns-2 : tie.Need-returns-2
 returns-2 c =
     let a = c .before .before .before .before .before .before .before .before .before .before .before .before .before .args in

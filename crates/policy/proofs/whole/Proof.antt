@@ -1,3 +1,4 @@
+-- `policy::whole` meets its contract. Assumes nothing.
 use Rattle.policy.proofs.Wholes.{ends-none, ends-left, ends-on}
 use borrow.Author.Needs.{needs}
 use Rattle.policy.proofs.whole.Statement.{statement}

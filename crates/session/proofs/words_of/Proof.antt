@@ -1,137 +1,107 @@
+-- `session::words_of` meets its contract. Assumes nothing.
 use Rattle.session.proofs.Words.{no-words, common-words}
 use borrow.Author.Needs.{needs}
 use Rattle.session.proofs.words_of.Statement.{statement}
 use Rattle.session.proofs.words_of.Tie as tie
 
--- src/lib.rt:42:19
 mul-t8 : tie.Need-mul-t8
 mul-t8 c = search needs
 
--- src/lib.rt:42:13
 mul-t9 : tie.Need-mul-t9
 mul-t9 c = search needs
 
--- src/lib.rt:42:13
 shared-slice-read-t11 : tie.Need-shared-slice-read-t11
 shared-slice-read-t11 c = search needs
 
--- src/lib.rt:42:44
 mul-t12 : tie.Need-mul-t12
 mul-t12 c = search needs
 
--- src/lib.rt:42:44
 add-t13 : tie.Need-add-t13
 add-t13 c = search needs
 
--- src/lib.rt:42:33
 mul-t14 : tie.Need-mul-t14
 mul-t14 c = search needs
 
--- src/lib.rt:42:33
 shared-slice-read-t16 : tie.Need-shared-slice-read-t16
 shared-slice-read-t16 c = search needs
 
--- src/lib.rt:43:19
 mul-t18 : tie.Need-mul-t18
 mul-t18 c = search needs
 
--- src/lib.rt:43:19
 add-t19 : tie.Need-add-t19
 add-t19 c = search needs
 
--- src/lib.rt:43:13
 mul-t20 : tie.Need-mul-t20
 mul-t20 c = search needs
 
--- src/lib.rt:43:13
 shared-slice-read-t22 : tie.Need-shared-slice-read-t22
 shared-slice-read-t22 c = search needs
 
--- src/lib.rt:43:48
 mul-t23 : tie.Need-mul-t23
 mul-t23 c = search needs
 
--- src/lib.rt:43:48
 add-t24 : tie.Need-add-t24
 add-t24 c = search needs
 
--- src/lib.rt:43:37
 mul-t25 : tie.Need-mul-t25
 mul-t25 c = search needs
 
--- src/lib.rt:43:37
 shared-slice-read-t27 : tie.Need-shared-slice-read-t27
 shared-slice-read-t27 c = search needs
 
--- src/lib.rt:44:19
 mul-t29 : tie.Need-mul-t29
 mul-t29 c = search needs
 
--- src/lib.rt:44:19
 add-t30 : tie.Need-add-t30
 add-t30 c = search needs
 
--- src/lib.rt:44:13
 mul-t31 : tie.Need-mul-t31
 mul-t31 c = search needs
 
--- src/lib.rt:44:13
 shared-slice-read-t33 : tie.Need-shared-slice-read-t33
 shared-slice-read-t33 c = search needs
 
--- src/lib.rt:44:48
 mul-t34 : tie.Need-mul-t34
 mul-t34 c = search needs
 
--- src/lib.rt:44:48
 add-t35 : tie.Need-add-t35
 add-t35 c = search needs
 
--- src/lib.rt:44:37
 mul-t36 : tie.Need-mul-t36
 mul-t36 c = search needs
 
--- src/lib.rt:44:37
 shared-slice-read-t38 : tie.Need-shared-slice-read-t38
 shared-slice-read-t38 c = search needs
 
--- src/lib.rt:45:19
 mul-t40 : tie.Need-mul-t40
 mul-t40 c = search needs
 
--- src/lib.rt:45:19
 add-t41 : tie.Need-add-t41
 add-t41 c = search needs
 
--- src/lib.rt:45:13
 mul-t42 : tie.Need-mul-t42
 mul-t42 c = search needs
 
--- src/lib.rt:45:13
 shared-slice-read-t44 : tie.Need-shared-slice-read-t44
 shared-slice-read-t44 c = search needs
 
--- src/lib.rt:45:48
 mul-t45 : tie.Need-mul-t45
 mul-t45 c = search needs
 
--- src/lib.rt:45:48
 add-t46 : tie.Need-add-t46
 add-t46 c = search needs
 
--- src/lib.rt:45:37
 mul-t47 : tie.Need-mul-t47
 mul-t47 c = search needs
 
--- src/lib.rt:45:37
 shared-slice-read-t49 : tie.Need-shared-slice-read-t49
 shared-slice-read-t49 c = search needs
 
--- src/lib.rt:41:9
 returns : tie.Need-returns
-returns c = λ p h. common-words (c .before .before .before .before .before .before .before .before .before .args .attributes .now) (c .before .before .before .before .before .before .before .before .before .args .table .now) (c .before .before .before .before .before .before .before .before .before .args .holder) (c .before .before .before .before .before .before .before .before .before .args .k) p h (c .before .before .before .before .before .before .before .before .if1 .taken)
+returns c =
+    let a = c .before .before .before .before .before .before .before .before .before .args in
+    λ p h. common-words (a .attributes .now) (a .table .now) (a .holder) (a .k) p h (c .before .before .before .before .before .before .before .before .if1 .taken)
 
--- src/lib.rt:36:1
 returns-2 : tie.Need-returns-2
 returns-2 c = λ p h. no-words (c .before .args .attributes .now) (c .before .args .table .now) (c .before .args .holder) (c .before .args .k) p h (c .if1 .left)
 

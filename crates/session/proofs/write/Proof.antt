@@ -1,3 +1,4 @@
+-- `session::write` meets its contract. Assumes nothing.
 use native.Mathlib.Omega.{arith}
 use lib.ListN.{length-set}
 use Rattle.session.proofs.Words.{stores}
@@ -5,87 +6,66 @@ use borrow.Author.Needs.{needs}
 use Rattle.session.proofs.write.Statement.{statement}
 use Rattle.session.proofs.write.Tie as tie
 
--- src/lib.rt:56:22
 array-read-session : tie.Need-array-read-session
 array-read-session c = search needs
 
--- src/lib.rt:56:13
 mul-session : tie.Need-mul-session
 mul-session c = search needs
 
--- src/lib.rt:56:5
 mul-session-2 : tie.Need-mul-session-2
 mul-session-2 c = search needs
 
--- src/lib.rt:56:5
 slice-write-session : tie.Need-slice-write-session
 slice-write-session c = search needs
 
--- src/lib.rt:57:26
 array-read-session-2 : tie.Need-array-read-session-2
 array-read-session-2 c = search needs
 
--- src/lib.rt:57:13
 mul-session-3 : tie.Need-mul-session-3
 mul-session-3 c = search needs
 
--- src/lib.rt:57:13
 add-session : tie.Need-add-session
 add-session c = search needs
 
--- src/lib.rt:57:5
 mul-session-4 : tie.Need-mul-session-4
 mul-session-4 c = search needs
 
--- src/lib.rt:57:5
 slice-write-session-2 : tie.Need-slice-write-session-2
 slice-write-session-2 c = simp length-set (omega arith)
 
--- src/lib.rt:58:26
 array-read-session-3 : tie.Need-array-read-session-3
 array-read-session-3 c = search needs
 
--- src/lib.rt:58:13
 mul-session-5 : tie.Need-mul-session-5
 mul-session-5 c = search needs
 
--- src/lib.rt:58:13
 add-session-2 : tie.Need-add-session-2
 add-session-2 c = search needs
 
--- src/lib.rt:58:5
 mul-session-6 : tie.Need-mul-session-6
 mul-session-6 c = search needs
 
--- src/lib.rt:58:5
 slice-write-session-3 : tie.Need-slice-write-session-3
 slice-write-session-3 c = simp length-set (omega arith)
 
--- src/lib.rt:59:26
 array-read-session-4 : tie.Need-array-read-session-4
 array-read-session-4 c = search needs
 
--- src/lib.rt:59:13
 mul-session-7 : tie.Need-mul-session-7
 mul-session-7 c = search needs
 
--- src/lib.rt:59:13
 add-session-3 : tie.Need-add-session-3
 add-session-3 c = search needs
 
--- src/lib.rt:59:5
 mul-session-8 : tie.Need-mul-session-8
 mul-session-8 c = search needs
 
--- src/lib.rt:59:5
 slice-write-session-4 : tie.Need-slice-write-session-4
 slice-write-session-4 c = simp length-set (omega arith)
 
--- src/lib.rt:52:1
 same-length : tie.Need-same-length
 same-length c = simp length-set
 
--- src/lib.rt:52:1
 returns : tie.Need-returns
 returns c = stores (c .args .session .now) (c .args .k) (c .args .t3) (c .pre .0) (c .pre .1)
 

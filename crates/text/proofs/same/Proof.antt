@@ -1,3 +1,4 @@
+-- `text::same` meets its contract. Assumes nothing.
 use Prim.Native.Nat.{_≤_, _-_}
 use mathlib.Core.Path.{_≡_, refl, sym, _∙_}
 use native.Mathlib.Omega.{arith}
@@ -13,45 +14,36 @@ Inv-loop s t i₀ i = (i ≤ length s) × (same s t ≡ same (drop i s) (drop i 
 abbrev μ-loop : tie.MeasureT-loop
 μ-loop s t i₀ i = length s - i
 
--- src/lib.rt:41:9
 returns : tie.Need-returns Inv-loop μ-loop
 returns c = let a = c .before .args in sym (same-length (a .s .now) (a .t .now) (c .if1 .taken))
 
--- src/lib.rt:44:5
 loop-holds : tie.Need-loop-holds Inv-loop μ-loop
 loop-holds c = (omega arith, refl)
 
--- src/lib.rt:45:12
 shared-slice-read-if2 : tie.Need-shared-slice-read-if2 Inv-loop μ-loop
 shared-slice-read-if2 c = omega arith
 
--- src/lib.rt:45:20
 shared-slice-read-if2-2 : tie.Need-shared-slice-read-if2-2 Inv-loop μ-loop
 shared-slice-read-if2-2 c = omega arith
 
--- src/lib.rt:46:13
 returns-2 : tie.Need-returns-2 Inv-loop μ-loop
 returns-2 c =
     let h = c .before .before .before .before in
     let a = h .before .before .args in
     sym (h .loop .inv .1 ∙ same-off (a .s .now) (a .t .now) (h .loop .i) (omega arith) (omega arith) (c .if2 .taken))
 
--- src/lib.rt:48:9
 add-i : tie.Need-add-i Inv-loop μ-loop
 add-i c = omega arith
 
--- src/lib.rt:44:5
 loop-less : tie.Need-loop-less Inv-loop μ-loop
 loop-less c = omega arith
 
--- src/lib.rt:44:5
 loop-again : tie.Need-loop-again Inv-loop μ-loop
 loop-again c =
     let h = c .before .before .before .before in
     let a = h .before .before .args in
     (omega arith, h .loop .inv .1 ∙ same-on (a .s .now) (a .t .now) (h .loop .i) (omega arith) (omega arith) (c .if2 .left))
 
--- src/lib.rt:37:1
 returns-3 : tie.Need-returns-3 Inv-loop μ-loop
 returns-3 c =
     let h = c .before in

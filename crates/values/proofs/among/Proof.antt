@@ -1,3 +1,4 @@
+-- `values::among` meets its contract. Assumes nothing.
 use borrow.Author.Tests.{not-true, not-false}
 use Prim.Native.Nat.{ℕ}
 use mathlib.Core.Path.{_≡_, sym, ap, _∙_}
@@ -20,42 +21,43 @@ Inv-loop code pairs session entries wanted operand some₀ i₀ some i = soughtF
 abbrev μ-loop : tie.MeasureT-loop
 μ-loop code pairs session entries wanted operand some₀ i₀ some i = length (valuesFrom (lent code pairs session entries) operand i)
 
--- src/lib.rt:295:9
 first-requires : tie.Need-first-requires Inv-loop μ-loop
 first-requires c κs = search needs
 
--- src/lib.rt:296:5
 loop-holds : tie.Need-loop-holds Inv-loop μ-loop
 unfolding amongOf
-loop-holds c = ap (λ (i : ℕ). soughtFrom (λ (v : Words). truth (sameWords (c .before .before .before .before .args .wanted) v)) false ((valuesFrom (lent (c .before .before .before .before .args .code .now) (c .before .before .before .before .args .pairs .now) (c .before .before .before .before .args .session .now) (c .before .before .before .before .args .entries .now)) (c .before .before .before .before .args .operand)) i)) (c .first .ensures)
+loop-holds c =
+    let a = c .before .before .before .before .args in
+    ap (λ (i : ℕ). soughtFrom (λ (v : Words). truth (sameWords (a .wanted) v)) false ((valuesFrom (lent (a .code .now) (a .pairs .now) (a .session .now) (a .entries .now)) (a .operand)) i)) (c .first .ensures)
 
--- src/lib.rt:297:13
 value-from-requires : tie.Need-value-from-requires Inv-loop μ-loop
 value-from-requires c κs = search needs
 
--- src/lib.rt:299:13
 at-end-requires : tie.Need-at-end-requires Inv-loop μ-loop
 at-end-requires c κs = search needs
 
--- src/lib.rt:299:13
 returns : tie.Need-returns Inv-loop μ-loop
-returns c = c .at-end .ensures ∙ sym (sought-none (valuesFrom (lent (c .before .before .before .before .before .before .before .before .before .args .code .now) (c .before .before .before .before .before .before .before .before .before .args .pairs .now) (c .before .before .before .before .before .before .before .before .before .args .session .now) (c .before .before .before .before .before .before .before .before .before .args .entries .now)) (c .before .before .before .before .before .before .before .before .before .args .operand)) (c .before .before .before .before .loop .i) (c .before .before .before .value-from .result) (c .before .before .before .value-from .ensures) (λ (v : Words). truth (sameWords (c .before .before .before .before .before .before .before .before .before .args .wanted) v)) (c .before .before .before .before .loop .some) (not-true _ (c .before .if1 .taken))) ∙ c .before .before .before .before .loop .inv
+returns c =
+    let a = c .before .before .before .before .before .before .before .before .before .args in
+    c .at-end .ensures ∙ sym (sought-none (valuesFrom (lent (a .code .now) (a .pairs .now) (a .session .now) (a .entries .now)) (a .operand)) (c .before .before .before .before .loop .i) (c .before .before .before .value-from .result) (c .before .before .before .value-from .ensures) (λ (v : Words). truth (sameWords (a .wanted) v)) (c .before .before .before .before .loop .some) (not-true _ (c .before .if1 .taken))) ∙ c .before .before .before .before .loop .inv
 
--- src/lib.rt:302:12
 same-requires : tie.Need-same-requires Inv-loop μ-loop
 same-requires c κs = search needs
 
--- src/lib.rt:303:13
 returns-2 : tie.Need-returns-2 Inv-loop μ-loop
-returns-2 c = let e : truth (sameWords (c .before .before .before .before .before .before .before .before .before .before .before .args .wanted) (c .before .before .before .before .before .value-from .result .words)) ≡ model.TRUE = ap truth (sym (c .before .same .ensures) ∙ c .if2 .taken) in sym e ∙ sym (sought-here (valuesFrom (lent (c .before .before .before .before .before .before .before .before .before .before .before .args .code .now) (c .before .before .before .before .before .before .before .before .before .before .before .args .pairs .now) (c .before .before .before .before .before .before .before .before .before .before .before .args .session .now) (c .before .before .before .before .before .before .before .before .before .before .before .args .entries .now)) (c .before .before .before .before .before .before .before .before .before .before .before .args .operand)) (c .before .before .before .before .before .before .loop .i) (c .before .before .before .before .before .value-from .result) (c .before .before .before .before .before .value-from .ensures) (λ (v : Words). truth (sameWords (c .before .before .before .before .before .before .before .before .before .before .before .args .wanted) v)) (c .before .before .before .before .before .before .loop .some) (not-false _ (c .before .before .before .if1 .left)) (ap isFalse e)) ∙ c .before .before .before .before .before .before .loop .inv
+returns-2 c =
+    let a = c .before .before .before .before .before .before .before .before .before .before .before .args in
+    let e : truth (sameWords (a .wanted) (c .before .before .before .before .before .value-from .result .words)) ≡ model.TRUE = ap truth (sym (c .before .same .ensures) ∙ c .if2 .taken) in sym e ∙ sym (sought-here (valuesFrom (lent (a .code .now) (a .pairs .now) (a .session .now) (a .entries .now)) (a .operand)) (c .before .before .before .before .before .before .loop .i) (c .before .before .before .before .before .value-from .result) (c .before .before .before .before .before .value-from .ensures) (λ (v : Words). truth (sameWords (a .wanted) v)) (c .before .before .before .before .before .before .loop .some) (not-false _ (c .before .before .before .if1 .left)) (ap isFalse e)) ∙ c .before .before .before .before .before .before .loop .inv
 
--- src/lib.rt:296:5
 loop-less : tie.Need-loop-less Inv-loop μ-loop
-loop-less c = fewer (valuesFrom (lent (c .before .before .before .before .before .before .before .before .before .before .before .args .code .now) (c .before .before .before .before .before .before .before .before .before .before .before .args .pairs .now) (c .before .before .before .before .before .before .before .before .before .before .before .args .session .now) (c .before .before .before .before .before .before .before .before .before .before .before .args .entries .now)) (c .before .before .before .before .before .before .before .before .before .before .before .args .operand)) (c .before .before .before .before .before .before .loop .i) (c .before .before .before .before .before .value-from .result) (c .before .before .before .before .before .value-from .ensures) (not-false _ (c .before .before .before .if1 .left))
+loop-less c =
+    let a = c .before .before .before .before .before .before .before .before .before .before .before .args in
+    fewer (valuesFrom (lent (a .code .now) (a .pairs .now) (a .session .now) (a .entries .now)) (a .operand)) (c .before .before .before .before .before .before .loop .i) (c .before .before .before .before .before .value-from .result) (c .before .before .before .before .before .value-from .ensures) (not-false _ (c .before .before .before .if1 .left))
 
--- src/lib.rt:296:5
 loop-again : tie.Need-loop-again Inv-loop μ-loop
-loop-again c = sym (sought-on (valuesFrom (lent (c .before .before .before .before .before .before .before .before .before .before .before .args .code .now) (c .before .before .before .before .before .before .before .before .before .before .before .args .pairs .now) (c .before .before .before .before .before .before .before .before .before .before .before .args .session .now) (c .before .before .before .before .before .before .before .before .before .before .before .args .entries .now)) (c .before .before .before .before .before .before .before .before .before .before .before .args .operand)) (c .before .before .before .before .before .before .loop .i) (c .before .before .before .before .before .value-from .result) (c .before .before .before .before .before .value-from .ensures) (λ (v : Words). truth (sameWords (c .before .before .before .before .before .before .before .before .before .before .before .args .wanted) v)) (c .before .before .before .before .before .before .loop .some) (not-false _ (c .before .before .before .if1 .left)) (ap (λ (b : Bool). isFalse (truth b)) (sym (c .before .same .ensures) ∙ c .if2 .left))) ∙ c .before .before .before .before .before .before .loop .inv
+loop-again c =
+    let a = c .before .before .before .before .before .before .before .before .before .before .before .args in
+    sym (sought-on (valuesFrom (lent (a .code .now) (a .pairs .now) (a .session .now) (a .entries .now)) (a .operand)) (c .before .before .before .before .before .before .loop .i) (c .before .before .before .before .before .value-from .result) (c .before .before .before .before .before .value-from .ensures) (λ (v : Words). truth (sameWords (a .wanted) v)) (c .before .before .before .before .before .before .loop .some) (not-false _ (c .before .before .before .if1 .left)) (ap (λ (b : Bool). isFalse (truth b)) (sym (c .before .same .ensures) ∙ c .if2 .left))) ∙ c .before .before .before .before .before .before .loop .inv
 
 pub among-spec : {M : Type 1} → statement M
 among-spec =

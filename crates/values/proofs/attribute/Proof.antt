@@ -1,50 +1,40 @@
+-- `values::attribute` meets its contract. Assumes nothing.
 use mathlib.Core.Path.{_∙_}
 use Rattle.values.proofs.AttributeOperands.{no-number, no-row, in-words, in-entries}
 use borrow.Author.Needs.{needs}
 use Rattle.values.proofs.attribute.Statement.{statement}
 use Rattle.values.proofs.attribute.Tie as tie
 
--- src/lib.rt:537:9
 no-values-requires : tie.Need-no-values-requires
 no-values-requires c κs = search needs
 
--- src/lib.rt:537:9
 returns : tie.Need-returns
 returns c = c .no-values .ensures ∙ no-number (c .before .before .before .args .attributes .now) (c .before .before .before .args .k) (c .before .if1 .taken)
 
--- src/lib.rt:539:29
 mul-source : tie.Need-mul-source
 mul-source c = search needs
 
--- src/lib.rt:539:18
 mul-source-2 : tie.Need-mul-source-2
 mul-source-2 c = search needs
 
--- src/lib.rt:539:18
 shared-slice-read-source : tie.Need-shared-slice-read-source
 shared-slice-read-source c = search needs
 
--- src/lib.rt:541:9
 no-values-requires-2 : tie.Need-no-values-requires-2
 no-values-requires-2 c κs = search needs
 
--- src/lib.rt:541:9
 returns-2 : tie.Need-returns-2
 returns-2 c = c .no-values2 .ensures ∙ no-row (c .before .before .before .before .before .args .attributes .now) (c .before .before .before .before .before .args .k) (c .before .before .before .if1 .left) (c .before .if2 .taken)
 
--- src/lib.rt:545:19
 type-of-requires : tie.Need-type-of-requires
 type-of-requires c κs = search needs
 
--- src/lib.rt:544:9
 returns-3 : tie.Need-returns-3
 returns-3 c = in-words (c .before .before .before .before .before .before .args .attributes .now) (c .before .before .before .before .before .before .args .k) (c .before .before .before .before .if1 .left) (c .before .before .if2 .left) (c .before .if3 .taken) (c .type-of .result) (c .type-of .ensures)
 
--- src/lib.rt:552:15
 type-of-requires-2 : tie.Need-type-of-requires-2
 type-of-requires-2 c κs = search needs
 
--- src/lib.rt:532:1
 returns-4 : tie.Need-returns-4
 returns-4 c = in-entries (c .before .before .before .before .before .before .args .attributes .now) (c .before .before .before .before .before .before .args .k) (c .before .before .before .before .if1 .left) (c .before .before .if2 .left) (c .before .if3 .left) (c .type-of2 .result) (c .type-of2 .ensures)
 

@@ -1,3 +1,4 @@
+-- `values::below` meets its contract. Assumes nothing.
 use mathlib.Core.Path.{ap, ap₂, _∙_}
 use lib.Dec.{leb, ltb}
 use borrow.Author.Tests.{not-true, not-false}
@@ -9,37 +10,37 @@ use Rattle.values.proofs.Compared.{without-left, without-right, with-bo
 use Rattle.values.proofs.below.Statement.{statement}
 use Rattle.values.proofs.below.Tie as tie
 
--- src/lib.rt:424:9
 extreme-requires : tie.Need-extreme-requires
 extreme-requires c κs = search needs
 
--- src/lib.rt:426:9
 returns : tie.Need-returns
-returns c = without-left (valuesOf (lent (c .before .before .before .before .before .before .args .code .now) (c .before .before .before .before .before .before .args .pairs .now) (c .before .before .before .before .before .before .args .session .now) (c .before .before .before .before .before .before .args .entries .now)) (c .before .before .before .before .before .before .args .low)) (valuesOf (lent (c .before .before .before .before .before .before .args .code .now) (c .before .before .before .before .before .before .args .pairs .now) (c .before .before .before .before .before .before .args .session .now) (c .before .before .before .before .before .before .args .entries .now)) (c .before .before .before .before .before .before .args .high)) (truth (isBelow (c .before .before .before .before .before .before .args .equal) (valuesOf (lent (c .before .before .before .before .before .before .args .code .now) (c .before .before .before .before .before .before .args .pairs .now) (c .before .before .before .before .before .before .args .session .now) (c .before .before .before .before .before .before .args .entries .now)) (c .before .before .before .before .before .before .args .low)) (valuesOf (lent (c .before .before .before .before .before .before .args .code .now) (c .before .before .before .before .before .before .args .pairs .now) (c .before .before .before .before .before .before .args .session .now) (c .before .before .before .before .before .before .args .entries .now)) (c .before .before .before .before .before .before .args .high)))) (c .before .before .extreme .result .here) (c .before .before .extreme .ensures .0) (not-true _ (c .if1 .taken))
+returns c =
+    let a = c .before .before .before .before .before .before .args in
+    without-left (valuesOf (lent (a .code .now) (a .pairs .now) (a .session .now) (a .entries .now)) (a .low)) (valuesOf (lent (a .code .now) (a .pairs .now) (a .session .now) (a .entries .now)) (a .high)) (truth (isBelow (a .equal) (valuesOf (lent (a .code .now) (a .pairs .now) (a .session .now) (a .entries .now)) (a .low)) (valuesOf (lent (a .code .now) (a .pairs .now) (a .session .now) (a .entries .now)) (a .high)))) (c .before .before .extreme .result .here) (c .before .before .extreme .ensures .0) (not-true _ (c .if1 .taken))
 
--- src/lib.rt:428:9
 extreme-requires-2 : tie.Need-extreme-requires-2
 extreme-requires-2 c κs = search needs
 
--- src/lib.rt:430:9
 returns-2 : tie.Need-returns-2
-returns-2 c = without-right (valuesOf (lent (c .before .before .before .before .before .before .before .before .before .args .code .now) (c .before .before .before .before .before .before .before .before .before .args .pairs .now) (c .before .before .before .before .before .before .before .before .before .args .session .now) (c .before .before .before .before .before .before .before .before .before .args .entries .now)) (c .before .before .before .before .before .before .before .before .before .args .low)) (valuesOf (lent (c .before .before .before .before .before .before .before .before .before .args .code .now) (c .before .before .before .before .before .before .before .before .before .args .pairs .now) (c .before .before .before .before .before .before .before .before .before .args .session .now) (c .before .before .before .before .before .before .before .before .before .args .entries .now)) (c .before .before .before .before .before .before .before .before .before .args .high)) (truth (isBelow (c .before .before .before .before .before .before .before .before .before .args .equal) (valuesOf (lent (c .before .before .before .before .before .before .before .before .before .args .code .now) (c .before .before .before .before .before .before .before .before .before .args .pairs .now) (c .before .before .before .before .before .before .before .before .before .args .session .now) (c .before .before .before .before .before .before .before .before .before .args .entries .now)) (c .before .before .before .before .before .before .before .before .before .args .low)) (valuesOf (lent (c .before .before .before .before .before .before .before .before .before .args .code .now) (c .before .before .before .before .before .before .before .before .before .args .pairs .now) (c .before .before .before .before .before .before .before .before .before .args .session .now) (c .before .before .before .before .before .before .before .before .before .args .entries .now)) (c .before .before .before .before .before .before .before .before .before .args .high)))) (c .before .before .before .before .before .extreme .result .here) (c .before .before .before .before .before .extreme .ensures .0) (not-false _ (c .before .before .before .if1 .left)) (c .before .before .extreme2 .result .here) (c .before .before .extreme2 .ensures .0) (not-true _ (c .if2 .taken))
+returns-2 c =
+    let a = c .before .before .before .before .before .before .before .before .before .args in
+    without-right (valuesOf (lent (a .code .now) (a .pairs .now) (a .session .now) (a .entries .now)) (a .low)) (valuesOf (lent (a .code .now) (a .pairs .now) (a .session .now) (a .entries .now)) (a .high)) (truth (isBelow (a .equal) (valuesOf (lent (a .code .now) (a .pairs .now) (a .session .now) (a .entries .now)) (a .low)) (valuesOf (lent (a .code .now) (a .pairs .now) (a .session .now) (a .entries .now)) (a .high)))) (c .before .before .before .before .before .extreme .result .here) (c .before .before .before .before .before .extreme .ensures .0) (not-false _ (c .before .before .before .if1 .left)) (c .before .before .extreme2 .result .here) (c .before .before .extreme2 .ensures .0) (not-true _ (c .if2 .taken))
 
--- src/lib.rt:433:9
 tested-requires : tie.Need-tested-requires
 tested-requires c κs = search needs
 
--- src/lib.rt:433:9
 returns-3 : tie.Need-returns-3
-returns-3 c = c .tested .ensures ∙ ap truth (ap₂ leb (c .before .before .before .before .before .before .before .before .before .extreme .ensures .1) (c .before .before .before .before .before .before .extreme2 .ensures .1) ∙ at-most (c .before .before .before .before .before .before .before .before .before .before .before .before .before .args .equal) (valuesOf (lent (c .before .before .before .before .before .before .before .before .before .before .before .before .before .args .code .now) (c .before .before .before .before .before .before .before .before .before .before .before .before .before .args .pairs .now) (c .before .before .before .before .before .before .before .before .before .before .before .before .before .args .session .now) (c .before .before .before .before .before .before .before .before .before .before .before .before .before .args .entries .now)) (c .before .before .before .before .before .before .before .before .before .before .before .before .before .args .low)) (valuesOf (lent (c .before .before .before .before .before .before .before .before .before .before .before .before .before .args .code .now) (c .before .before .before .before .before .before .before .before .before .before .before .before .before .args .pairs .now) (c .before .before .before .before .before .before .before .before .before .before .before .before .before .args .session .now) (c .before .before .before .before .before .before .before .before .before .before .before .before .before .args .entries .now)) (c .before .before .before .before .before .before .before .before .before .before .before .before .before .args .high)) (c .before .before .before .if3 .taken)) ∙ with-both (valuesOf (lent (c .before .before .before .before .before .before .before .before .before .before .before .before .before .args .code .now) (c .before .before .before .before .before .before .before .before .before .before .before .before .before .args .pairs .now) (c .before .before .before .before .before .before .before .before .before .before .before .before .before .args .session .now) (c .before .before .before .before .before .before .before .before .before .before .before .before .before .args .entries .now)) (c .before .before .before .before .before .before .before .before .before .before .before .before .before .args .low)) (valuesOf (lent (c .before .before .before .before .before .before .before .before .before .before .before .before .before .args .code .now) (c .before .before .before .before .before .before .before .before .before .before .before .before .before .args .pairs .now) (c .before .before .before .before .before .before .before .before .before .before .before .before .before .args .session .now) (c .before .before .before .before .before .before .before .before .before .before .before .before .before .args .entries .now)) (c .before .before .before .before .before .before .before .before .before .before .before .before .before .args .high)) (truth (isBelow (c .before .before .before .before .before .before .before .before .before .before .before .before .before .args .equal) (valuesOf (lent (c .before .before .before .before .before .before .before .before .before .before .before .before .before .args .code .now) (c .before .before .before .before .before .before .before .before .before .before .before .before .before .args .pairs .now) (c .before .before .before .before .before .before .before .before .before .before .before .before .before .args .session .now) (c .before .before .before .before .before .before .before .before .before .before .before .before .before .args .entries .now)) (c .before .before .before .before .before .before .before .before .before .before .before .before .before .args .low)) (valuesOf (lent (c .before .before .before .before .before .before .before .before .before .before .before .before .before .args .code .now) (c .before .before .before .before .before .before .before .before .before .before .before .before .before .args .pairs .now) (c .before .before .before .before .before .before .before .before .before .before .before .before .before .args .session .now) (c .before .before .before .before .before .before .before .before .before .before .before .before .before .args .entries .now)) (c .before .before .before .before .before .before .before .before .before .before .before .before .before .args .high)))) (c .before .before .before .before .before .before .before .before .before .extreme .result .here) (c .before .before .before .before .before .before .before .before .before .extreme .ensures .0) (not-false _ (c .before .before .before .before .before .before .before .if1 .left)) (c .before .before .before .before .before .before .extreme2 .result .here) (c .before .before .before .before .before .before .extreme2 .ensures .0) (not-false _ (c .before .before .before .before .if2 .left))
+returns-3 c =
+    let a = c .before .before .before .before .before .before .before .before .before .before .before .before .before .args in
+    c .tested .ensures ∙ ap truth (ap₂ leb (c .before .before .before .before .before .before .before .before .before .extreme .ensures .1) (c .before .before .before .before .before .before .extreme2 .ensures .1) ∙ at-most (a .equal) (valuesOf (lent (a .code .now) (a .pairs .now) (a .session .now) (a .entries .now)) (a .low)) (valuesOf (lent (a .code .now) (a .pairs .now) (a .session .now) (a .entries .now)) (a .high)) (c .before .before .before .if3 .taken)) ∙ with-both (valuesOf (lent (a .code .now) (a .pairs .now) (a .session .now) (a .entries .now)) (a .low)) (valuesOf (lent (a .code .now) (a .pairs .now) (a .session .now) (a .entries .now)) (a .high)) (truth (isBelow (a .equal) (valuesOf (lent (a .code .now) (a .pairs .now) (a .session .now) (a .entries .now)) (a .low)) (valuesOf (lent (a .code .now) (a .pairs .now) (a .session .now) (a .entries .now)) (a .high)))) (c .before .before .before .before .before .before .before .before .before .extreme .result .here) (c .before .before .before .before .before .before .before .before .before .extreme .ensures .0) (not-false _ (c .before .before .before .before .before .before .before .if1 .left)) (c .before .before .before .before .before .before .extreme2 .result .here) (c .before .before .before .before .before .before .extreme2 .ensures .0) (not-false _ (c .before .before .before .before .if2 .left))
 
--- src/lib.rt:435:5
 tested-requires-2 : tie.Need-tested-requires-2
 tested-requires-2 c κs = search needs
 
--- src/lib.rt:412:1
 returns-4 : tie.Need-returns-4
-returns-4 c = c .tested2 .ensures ∙ ap truth (ap₂ ltb (c .before .before .before .before .before .before .before .before .before .extreme .ensures .1) (c .before .before .before .before .before .before .extreme2 .ensures .1) ∙ strictly (c .before .before .before .before .before .before .before .before .before .before .before .before .before .args .equal) (valuesOf (lent (c .before .before .before .before .before .before .before .before .before .before .before .before .before .args .code .now) (c .before .before .before .before .before .before .before .before .before .before .before .before .before .args .pairs .now) (c .before .before .before .before .before .before .before .before .before .before .before .before .before .args .session .now) (c .before .before .before .before .before .before .before .before .before .before .before .before .before .args .entries .now)) (c .before .before .before .before .before .before .before .before .before .before .before .before .before .args .low)) (valuesOf (lent (c .before .before .before .before .before .before .before .before .before .before .before .before .before .args .code .now) (c .before .before .before .before .before .before .before .before .before .before .before .before .before .args .pairs .now) (c .before .before .before .before .before .before .before .before .before .before .before .before .before .args .session .now) (c .before .before .before .before .before .before .before .before .before .before .before .before .before .args .entries .now)) (c .before .before .before .before .before .before .before .before .before .before .before .before .before .args .high)) (c .before .before .before .if3 .left)) ∙ with-both (valuesOf (lent (c .before .before .before .before .before .before .before .before .before .before .before .before .before .args .code .now) (c .before .before .before .before .before .before .before .before .before .before .before .before .before .args .pairs .now) (c .before .before .before .before .before .before .before .before .before .before .before .before .before .args .session .now) (c .before .before .before .before .before .before .before .before .before .before .before .before .before .args .entries .now)) (c .before .before .before .before .before .before .before .before .before .before .before .before .before .args .low)) (valuesOf (lent (c .before .before .before .before .before .before .before .before .before .before .before .before .before .args .code .now) (c .before .before .before .before .before .before .before .before .before .before .before .before .before .args .pairs .now) (c .before .before .before .before .before .before .before .before .before .before .before .before .before .args .session .now) (c .before .before .before .before .before .before .before .before .before .before .before .before .before .args .entries .now)) (c .before .before .before .before .before .before .before .before .before .before .before .before .before .args .high)) (truth (isBelow (c .before .before .before .before .before .before .before .before .before .before .before .before .before .args .equal) (valuesOf (lent (c .before .before .before .before .before .before .before .before .before .before .before .before .before .args .code .now) (c .before .before .before .before .before .before .before .before .before .before .before .before .before .args .pairs .now) (c .before .before .before .before .before .before .before .before .before .before .before .before .before .args .session .now) (c .before .before .before .before .before .before .before .before .before .before .before .before .before .args .entries .now)) (c .before .before .before .before .before .before .before .before .before .before .before .before .before .args .low)) (valuesOf (lent (c .before .before .before .before .before .before .before .before .before .before .before .before .before .args .code .now) (c .before .before .before .before .before .before .before .before .before .before .before .before .before .args .pairs .now) (c .before .before .before .before .before .before .before .before .before .before .before .before .before .args .session .now) (c .before .before .before .before .before .before .before .before .before .before .before .before .before .args .entries .now)) (c .before .before .before .before .before .before .before .before .before .before .before .before .before .args .high)))) (c .before .before .before .before .before .before .before .before .before .extreme .result .here) (c .before .before .before .before .before .before .before .before .before .extreme .ensures .0) (not-false _ (c .before .before .before .before .before .before .before .if1 .left)) (c .before .before .before .before .before .before .extreme2 .result .here) (c .before .before .before .before .before .before .extreme2 .ensures .0) (not-false _ (c .before .before .before .before .if2 .left))
+returns-4 c =
+    let a = c .before .before .before .before .before .before .before .before .before .before .before .before .before .args in
+    c .tested2 .ensures ∙ ap truth (ap₂ ltb (c .before .before .before .before .before .before .before .before .before .extreme .ensures .1) (c .before .before .before .before .before .before .extreme2 .ensures .1) ∙ strictly (a .equal) (valuesOf (lent (a .code .now) (a .pairs .now) (a .session .now) (a .entries .now)) (a .low)) (valuesOf (lent (a .code .now) (a .pairs .now) (a .session .now) (a .entries .now)) (a .high)) (c .before .before .before .if3 .left)) ∙ with-both (valuesOf (lent (a .code .now) (a .pairs .now) (a .session .now) (a .entries .now)) (a .low)) (valuesOf (lent (a .code .now) (a .pairs .now) (a .session .now) (a .entries .now)) (a .high)) (truth (isBelow (a .equal) (valuesOf (lent (a .code .now) (a .pairs .now) (a .session .now) (a .entries .now)) (a .low)) (valuesOf (lent (a .code .now) (a .pairs .now) (a .session .now) (a .entries .now)) (a .high)))) (c .before .before .before .before .before .before .before .before .before .extreme .result .here) (c .before .before .before .before .before .before .before .before .before .extreme .ensures .0) (not-false _ (c .before .before .before .before .before .before .before .if1 .left)) (c .before .before .before .before .before .before .extreme2 .result .here) (c .before .before .before .before .before .before .extreme2 .ensures .0) (not-false _ (c .before .before .before .before .if2 .left))
 
 pub below-spec : {M : Type 1} → statement M
 below-spec =

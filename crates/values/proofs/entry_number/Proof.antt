@@ -1,3 +1,4 @@
+-- `values::entry_number` meets its contract. Assumes nothing.
 use Rattle.values.proofs.Chosen.{none-further}
 use mathlib.Core.Path.{sym}
 use mathlib.Core.Path.{_∙_}
@@ -18,39 +19,32 @@ Inv-loop entries k i n j₀ j = ((m : ℕ) → i ≤ m → m < j → eqb (byteAt
 abbrev μ-loop : tie.MeasureT-loop
 μ-loop entries k i n j₀ j = n - j
 
--- src/lib.rt:131:5
 loop-holds : tie.Need-loop-holds Inv-loop μ-loop
 loop-holds c = (λ j a b. absurd (omega arith), search needs)
 
--- src/lib.rt:132:25
 mul-wide : tie.Need-mul-wide Inv-loop μ-loop
 mul-wide c = omega arith
 
--- src/lib.rt:132:17
 shared-slice-read-wide : tie.Need-shared-slice-read-wide Inv-loop μ-loop
 shared-slice-read-wide c = omega arith
 
--- src/lib.rt:132:12
 wide-requires : tie.Need-wide-requires Inv-loop μ-loop
 wide-requires c κs = search needs
 
--- src/lib.rt:133:13
 returns : tie.Need-returns Inv-loop μ-loop
 returns c = record { lower = λ m a b l. c .before .before .before .before .loop .inv .0 m a b; held = λ l. (c .before .before .before .before .loop .inv .1, eq-eqb _ _ (sym (c .before .wide .ensures .0) ∙ c .if1 .taken)) }
 
--- src/lib.rt:135:9
 add-j : tie.Need-add-j Inv-loop μ-loop
 add-j c = omega arith
 
--- src/lib.rt:131:5
 loop-less : tie.Need-loop-less Inv-loop μ-loop
 loop-less c = omega arith
 
--- src/lib.rt:131:5
 loop-again : tie.Need-loop-again Inv-loop μ-loop
-loop-again c = (none-further (λ m. eqb (byteAt (c .before .before .before .before .before .before .args .entries .now) (5 * m)) (c .before .before .before .before .before .before .args .k)) (c .before .before .before .before .before .before .args .i) (c .before .before .before .before .loop .j) (c .before .before .before .before .loop .inv .0) (ne-eqb _ _ (λ e. c .if1 .left (c .before .wide .ensures .0 ∙ e))), omega arith)
+loop-again c =
+    let a = c .before .before .before .before .before .before .args in
+    (none-further (λ m. eqb (byteAt (a .entries .now) (5 * m)) (a .k)) (a .i) (c .before .before .before .before .loop .j) (c .before .before .before .before .loop .inv .0) (ne-eqb _ _ (λ e. c .if1 .left (c .before .wide .ensures .0 ∙ e))), omega arith)
 
--- src/lib.rt:126:1
 returns-2 : tie.Need-returns-2 Inv-loop μ-loop
 returns-2 c = record { lower = λ m a b l. c .before .loop .inv .0 m a (omega arith); held = λ l. absurd (omega arith) }
 

@@ -1,30 +1,25 @@
+-- `values::entry_words` meets its contract. Assumes nothing.
 use mathlib.Core.Path.{_∙_}
 use Rattle.values.proofs.AttributeValues.{entry-number, entry-true, entry-false}
 use borrow.Author.Needs.{needs}
 use Rattle.values.proofs.entry_words.Statement.{statement}
 use Rattle.values.proofs.entry_words.Tie as tie
 
--- src/lib.rt:145:9
 one-word-requires : tie.Need-one-word-requires
 one-word-requires c κs = search needs
 
--- src/lib.rt:145:9
 returns : tie.Need-returns
 returns c = c .one-word .ensures ∙ entry-number (c .before .before .args .kind) (c .before .before .args .v) (c .before .if1 .taken)
 
--- src/lib.rt:148:9
 one-word-requires-2 : tie.Need-one-word-requires-2
 one-word-requires-2 c κs = search needs
 
--- src/lib.rt:148:9
 returns-2 : tie.Need-returns-2
 returns-2 c = c .one-word2 .ensures ∙ entry-true (c .before .before .before .args .kind) (c .before .before .before .args .v) (c .before .before .if1 .left) (c .before .if2 .taken)
 
--- src/lib.rt:150:5
 one-word-requires-3 : tie.Need-one-word-requires-3
 one-word-requires-3 c κs = search needs
 
--- src/lib.rt:141:1
 returns-3 : tie.Need-returns-3
 returns-3 c = c .one-word3 .ensures ∙ entry-false (c .before .before .before .args .kind) (c .before .before .before .args .v) (c .before .before .if1 .left) (c .before .if2 .left)
 

@@ -1,3 +1,4 @@
+-- `values::extreme` meets its contract. Assumes nothing.
 use borrow.Author.Tests.{not-true, not-false}
 use Prim.Native.Nat.{ℕ}
 use mathlib.Core.Path.{_≡_, sym, ap, ap₂, _∙_}
@@ -17,37 +18,37 @@ Inv-loop code pairs session entries operand greatest some₀ best₀ i₀ some b
 abbrev μ-loop : tie.MeasureT-loop
 μ-loop code pairs session entries operand greatest some₀ best₀ i₀ some best i = length (valuesFrom (lent code pairs session entries) operand i)
 
--- src/lib.rt:393:9
 start-of-requires : tie.Need-start-of-requires Inv-loop μ-loop
 start-of-requires c κs = search needs
 
--- src/lib.rt:394:9
 first-requires : tie.Need-first-requires Inv-loop μ-loop
 first-requires c κs = search needs
 
--- src/lib.rt:395:5
 loop-holds : tie.Need-loop-holds Inv-loop μ-loop
-loop-holds c = (ap (λ (i : ℕ). not (isEmpty ((valuesFrom (lent (c .before .before .before .before .before .args .code .now) (c .before .before .before .before .before .args .pairs .now) (c .before .before .before .before .before .args .session .now) (c .before .before .before .before .before .args .entries .now)) (c .before .before .before .before .before .args .operand)) i))) (c .first .ensures), ap₂ (λ (b i : ℕ). extremeFrom (c .before .before .before .before .before .args .greatest) b ((valuesFrom (lent (c .before .before .before .before .before .args .code .now) (c .before .before .before .before .before .args .pairs .now) (c .before .before .before .before .before .args .session .now) (c .before .before .before .before .before .args .entries .now)) (c .before .before .before .before .before .args .operand)) i)) (c .before .start-of .ensures) (c .first .ensures))
+loop-holds c =
+    let a = c .before .before .before .before .before .args in
+    (ap (λ (i : ℕ). not (isEmpty ((valuesFrom (lent (a .code .now) (a .pairs .now) (a .session .now) (a .entries .now)) (a .operand)) i))) (c .first .ensures), ap₂ (λ (b i : ℕ). extremeFrom (a .greatest) b ((valuesFrom (lent (a .code .now) (a .pairs .now) (a .session .now) (a .entries .now)) (a .operand)) i)) (c .before .start-of .ensures) (c .first .ensures))
 
--- src/lib.rt:396:13
 value-from-requires : tie.Need-value-from-requires Inv-loop μ-loop
 value-from-requires c κs = search needs
 
--- src/lib.rt:398:13
 returns : tie.Need-returns Inv-loop μ-loop
-returns c = (sym (some-none (valuesFrom (lent (c .before .before .before .before .before .before .before .before .before .args .code .now) (c .before .before .before .before .before .before .before .before .before .args .pairs .now) (c .before .before .before .before .before .before .before .before .before .args .session .now) (c .before .before .before .before .before .before .before .before .before .args .entries .now)) (c .before .before .before .before .before .before .before .before .before .args .operand)) (c .before .before .before .loop .i) (c .before .before .value-from .result) (c .before .before .value-from .ensures) (c .before .before .before .loop .some) (not-true _ (c .if1 .taken))) ∙ c .before .before .before .loop .inv .0, sym (best-none (valuesFrom (lent (c .before .before .before .before .before .before .before .before .before .args .code .now) (c .before .before .before .before .before .before .before .before .before .args .pairs .now) (c .before .before .before .before .before .before .before .before .before .args .session .now) (c .before .before .before .before .before .before .before .before .before .args .entries .now)) (c .before .before .before .before .before .before .before .before .before .args .operand)) (c .before .before .before .loop .i) (c .before .before .value-from .result) (c .before .before .value-from .ensures) (c .before .before .before .before .before .before .before .before .before .args .greatest) (c .before .before .before .loop .best) (not-true _ (c .if1 .taken))) ∙ c .before .before .before .loop .inv .1)
+returns c =
+    let a = c .before .before .before .before .before .before .before .before .before .args in
+    (sym (some-none (valuesFrom (lent (a .code .now) (a .pairs .now) (a .session .now) (a .entries .now)) (a .operand)) (c .before .before .before .loop .i) (c .before .before .value-from .result) (c .before .before .value-from .ensures) (c .before .before .before .loop .some) (not-true _ (c .if1 .taken))) ∙ c .before .before .before .loop .inv .0, sym (best-none (valuesFrom (lent (a .code .now) (a .pairs .now) (a .session .now) (a .entries .now)) (a .operand)) (c .before .before .before .loop .i) (c .before .before .value-from .result) (c .before .before .value-from .ensures) (a .greatest) (c .before .before .before .loop .best) (not-true _ (c .if1 .taken))) ∙ c .before .before .before .loop .inv .1)
 
--- src/lib.rt:404:9
 further-requires : tie.Need-further-requires Inv-loop μ-loop
 further-requires c κs = search needs
 
--- src/lib.rt:395:5
 loop-less : tie.Need-loop-less Inv-loop μ-loop
-loop-less c = fewer (valuesFrom (lent (c .before .before .before .before .before .before .before .before .before .before .before .args .code .now) (c .before .before .before .before .before .before .before .before .before .before .before .args .pairs .now) (c .before .before .before .before .before .before .before .before .before .before .before .args .session .now) (c .before .before .before .before .before .before .before .before .before .before .before .args .entries .now)) (c .before .before .before .before .before .before .before .before .before .before .before .args .operand)) (c .before .before .before .before .before .loop .i) (c .before .before .before .before .value-from .result) (c .before .before .before .before .value-from .ensures) (not-false _ (c .before .before .if1 .left))
+loop-less c =
+    let a = c .before .before .before .before .before .before .before .before .before .before .before .args in
+    fewer (valuesFrom (lent (a .code .now) (a .pairs .now) (a .session .now) (a .entries .now)) (a .operand)) (c .before .before .before .before .before .loop .i) (c .before .before .before .before .value-from .result) (c .before .before .before .before .value-from .ensures) (not-false _ (c .before .before .if1 .left))
 
--- src/lib.rt:395:5
 loop-again : tie.Need-loop-again Inv-loop μ-loop
-loop-again c = (sym (some-more (valuesFrom (lent (c .before .before .before .before .before .before .before .before .before .before .before .args .code .now) (c .before .before .before .before .before .before .before .before .before .before .before .args .pairs .now) (c .before .before .before .before .before .before .before .before .before .before .before .args .session .now) (c .before .before .before .before .before .before .before .before .before .before .before .args .entries .now)) (c .before .before .before .before .before .before .before .before .before .before .before .args .operand)) (c .before .before .before .before .before .loop .i) (c .before .before .before .before .value-from .result) (c .before .before .before .before .value-from .ensures) (c .before .before .before .before .before .loop .some) (not-false _ (c .before .before .if1 .left))) ∙ c .before .before .before .before .before .loop .inv .0, ap (λ (b : ℕ). extremeFrom (c .before .before .before .before .before .before .before .before .before .before .before .args .greatest) b ((valuesFrom (lent (c .before .before .before .before .before .before .before .before .before .before .before .args .code .now) (c .before .before .before .before .before .before .before .before .before .before .before .args .pairs .now) (c .before .before .before .before .before .before .before .before .before .before .before .args .session .now) (c .before .before .before .before .before .before .before .before .before .before .before .args .entries .now)) (c .before .before .before .before .before .before .before .before .before .before .before .args .operand)) (c .before .before .before .before .value-from .result .next))) (c .further .ensures) ∙ sym (best-on (valuesFrom (lent (c .before .before .before .before .before .before .before .before .before .before .before .args .code .now) (c .before .before .before .before .before .before .before .before .before .before .before .args .pairs .now) (c .before .before .before .before .before .before .before .before .before .before .before .args .session .now) (c .before .before .before .before .before .before .before .before .before .before .before .args .entries .now)) (c .before .before .before .before .before .before .before .before .before .before .before .args .operand)) (c .before .before .before .before .before .loop .i) (c .before .before .before .before .value-from .result) (c .before .before .before .before .value-from .ensures) (c .before .before .before .before .before .before .before .before .before .before .before .args .greatest) (c .before .before .before .before .before .loop .best) (not-false _ (c .before .before .if1 .left))) ∙ c .before .before .before .before .before .loop .inv .1)
+loop-again c =
+    let a = c .before .before .before .before .before .before .before .before .before .before .before .args in
+    (sym (some-more (valuesFrom (lent (a .code .now) (a .pairs .now) (a .session .now) (a .entries .now)) (a .operand)) (c .before .before .before .before .before .loop .i) (c .before .before .before .before .value-from .result) (c .before .before .before .before .value-from .ensures) (c .before .before .before .before .before .loop .some) (not-false _ (c .before .before .if1 .left))) ∙ c .before .before .before .before .before .loop .inv .0, ap (λ (b : ℕ). extremeFrom (a .greatest) b ((valuesFrom (lent (a .code .now) (a .pairs .now) (a .session .now) (a .entries .now)) (a .operand)) (c .before .before .before .before .value-from .result .next))) (c .further .ensures) ∙ sym (best-on (valuesFrom (lent (a .code .now) (a .pairs .now) (a .session .now) (a .entries .now)) (a .operand)) (c .before .before .before .before .before .loop .i) (c .before .before .before .before .value-from .result) (c .before .before .before .before .value-from .ensures) (a .greatest) (c .before .before .before .before .before .loop .best) (not-false _ (c .before .before .if1 .left))) ∙ c .before .before .before .before .before .loop .inv .1)
 
 pub extreme-spec : {M : Type 1} → statement M
 extreme-spec =

@@ -1,24 +1,21 @@
+-- `values::further` meets its contract. Assumes nothing.
 use borrow.Author.Tests.{lt-ltb, le-ltb}
 use Rattle.values.specs.Compared.{further}
 use Rattle.values.proofs.further.Statement.{statement}
 use Rattle.values.proofs.further.Tie as tie
 
--- src/lib.rt:352:13
 returns : tie.Need-returns
 unfolding further
 returns c = rw (c .before .if1 .taken, lt-ltb (c .before .before .args .a) (c .before .before .args .b) (c .if2 .taken))
 
--- src/lib.rt:354:9
 returns-2 : tie.Need-returns-2
 unfolding further
 returns-2 c = rw (c .before .if1 .taken, le-ltb (c .before .before .args .a) (c .before .before .args .b) (c .if2 .left))
 
--- src/lib.rt:357:9
 returns-3 : tie.Need-returns-3
 unfolding further
 returns-3 c = rw (c .before .if1 .left, lt-ltb (c .before .before .args .b) (c .before .before .args .a) (c .if3 .taken))
 
--- src/lib.rt:347:1
 returns-4 : tie.Need-returns-4
 unfolding further
 returns-4 c = rw (c .before .if1 .left, le-ltb (c .before .before .args .b) (c .before .before .args .a) (c .if3 .left))

@@ -1,3 +1,4 @@
+-- `values::int_at` meets its contract. Assumes nothing.
 use Prim.Native.Nat.{ℕ, _+_}
 use native.Mathlib.Omega.{arith}
 use mathlib.Core.Path.{ap, _∙_}
@@ -9,49 +10,46 @@ use borrow.Author.Needs.{needs}
 use Rattle.values.proofs.int_at.Statement.{statement}
 use Rattle.values.proofs.int_at.Tie as tie
 
--- src/lib.rt:173:9
 none-found-requires : tie.Need-none-found-requires
 none-found-requires c κs = search needs
 
--- src/lib.rt:173:9
 returns : tie.Need-returns
-returns c = c .none-found .ensures ∙ int-beyond (c .before .before .before .args .code .now) (c .before .before .before .args .end) (c .before .before .before .args .i) (c .before .if1 .taken)
+returns c =
+    let a = c .before .before .before .args in
+    c .none-found .ensures ∙ int-beyond (a .code .now) (a .end) (a .i) (c .before .if1 .taken)
 
--- src/lib.rt:176:9
 none-found-requires-2 : tie.Need-none-found-requires-2
 none-found-requires-2 c κs = search needs
 
--- src/lib.rt:176:9
 returns-2 : tie.Need-returns-2
-returns-2 c = c .none-found2 .ensures ∙ int-short (c .before .before .before .before .args .code .now) (c .before .before .before .before .args .end) (c .before .before .before .before .args .i) (omega arith) (omega arith)
+returns-2 c =
+    let a = c .before .before .before .before .args in
+    c .none-found2 .ensures ∙ int-short (a .code .now) (a .end) (a .i) (omega arith) (omega arith)
 
--- src/lib.rt:179:9
 none-found-requires-3 : tie.Need-none-found-requires-3
 none-found-requires-3 c κs = search needs
 
--- src/lib.rt:179:9
 returns-3 : tie.Need-returns-3
-returns-3 c = c .none-found3 .ensures ∙ int-short (c .before .before .before .before .before .args .code .now) (c .before .before .before .before .before .args .end) (c .before .before .before .before .before .args .i) (omega arith) (omega arith)
+returns-3 c =
+    let a = c .before .before .before .before .before .args in
+    c .none-found3 .ensures ∙ int-short (a .code .now) (a .end) (a .i) (omega arith) (omega arith)
 
--- src/lib.rt:183:36
 add-four : tie.Need-add-four
 add-four c = search needs
 
--- src/lib.rt:183:25
 four-requires : tie.Need-four-requires
 four-requires c κs = search needs
 
--- src/lib.rt:183:16
 one-word-requires : tie.Need-one-word-requires
 one-word-requires c κs = search needs
 
--- src/lib.rt:184:15
 add-t8 : tie.Need-add-t8
 add-t8 c = search needs
 
--- src/lib.rt:169:1
 returns-4 : tie.Need-returns-4
-returns-4 c = ap (λ (w : Words). found w (c .before .before .before .before .before .before .args .i + 6)) (c .one-word .ensures ∙ ap (λ (v : ℕ). words v 0 0) (c .before .four .ensures)) ∙ int-whole (c .before .before .before .before .before .before .args .code .now) (c .before .before .before .before .before .before .args .end) (c .before .before .before .before .before .before .args .i) (omega arith) (omega arith)
+returns-4 c =
+    let a = c .before .before .before .before .before .before .args in
+    ap (λ (w : Words). found w (a .i + 6)) (c .one-word .ensures ∙ ap (λ (v : ℕ). words v 0 0) (c .before .four .ensures)) ∙ int-whole (a .code .now) (a .end) (a .i) (omega arith) (omega arith)
 
 pub int-at-spec : {M : Type 1} → statement M
 int-at-spec =

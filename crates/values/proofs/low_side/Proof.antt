@@ -1,13 +1,12 @@
+-- `values::low_side` meets its contract. Assumes nothing.
 use mathlib.Core.Path.{sym}
 use borrow.Author.Tests.{le-leb, lt-leb}
 use Rattle.values.proofs.low_side.Statement.{statement}
 use Rattle.values.proofs.low_side.Tie as tie
 
--- src/lib.rt:438:1
 returns : tie.Need-returns
 returns c = sym (rw (le-leb (c .before .args .operator) 21 (c .if1 .taken)))
 
--- src/lib.rt:438:1
 returns-2 : tie.Need-returns-2
 returns-2 c = sym (rw (lt-leb (c .before .args .operator) 21 (c .if1 .left)))
 

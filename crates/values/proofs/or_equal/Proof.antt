@@ -1,13 +1,12 @@
+-- `values::or_equal` meets its contract. Assumes nothing.
 use mathlib.Core.Path.{sym}
 use borrow.Author.Tests.{eq-eqb, ne-eqb}
 use Rattle.values.proofs.or_equal.Statement.{statement}
 use Rattle.values.proofs.or_equal.Tie as tie
 
--- src/lib.rt:448:9
 returns : tie.Need-returns
 returns c = sym (rw (eq-eqb (c .before .args .operator) 21 (c .if1 .taken)))
 
--- src/lib.rt:444:1
 returns-2 : tie.Need-returns-2
 returns-2 c = sym (rw (ne-eqb (c .before .args .operator) 21 (c .if1 .left)))
 

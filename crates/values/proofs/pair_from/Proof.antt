@@ -1,112 +1,93 @@
+-- `values::pair_from` meets its contract. Assumes nothing.
 use native.Mathlib.Omega.{arith}
 use Rattle.values.proofs.AttributeValues.{no-words, words-next, words-end}
 use borrow.Author.Needs.{needs}
 use Rattle.values.proofs.pair_from.Statement.{statement}
 use Rattle.values.proofs.pair_from.Tie as tie
 
--- src/lib.rt:105:9
 none-found-requires : tie.Need-none-found-requires
 none-found-requires c κs = search needs
 
--- src/lib.rt:105:9
 returns : tie.Need-returns
-returns c = no-words (c .before .before .before .args .pairs .now) (c .before .before .before .args .session .now) (c .before .before .before .args .k) (c .before .before .before .args .i) (c .none-found .result) (c .none-found .ensures) (c .before .if1 .taken)
+returns c =
+    let a = c .before .before .before .args in
+    no-words (a .pairs .now) (a .session .now) (a .k) (a .i) (c .none-found .result) (c .none-found .ensures) (c .before .if1 .taken)
 
--- src/lib.rt:108:17
 mul-start : tie.Need-mul-start
 mul-start c = search needs
 
--- src/lib.rt:109:15
 mul-end : tie.Need-mul-end
 mul-end c = search needs
 
--- src/lib.rt:109:15
 add-end : tie.Need-add-end
 add-end c = search needs
 
--- src/lib.rt:110:30
 mul-first-from : tie.Need-mul-first-from
 mul-first-from c = search needs
 
--- src/lib.rt:110:30
 sub-first-from : tie.Need-sub-first-from
 sub-first-from c = search needs
 
--- src/lib.rt:110:30
 part-first-from-start : tie.Need-part-first-from-start
 part-first-from-start c = search needs
 
--- src/lib.rt:110:30
 part-first-from-end : tie.Need-part-first-from-end
 part-first-from-end c = search needs
 
--- src/lib.rt:110:9
 first-from-requires : tie.Need-first-from-requires
 first-from-requires c κs = search needs
 
--- src/lib.rt:112:9
 none-found-requires-2 : tie.Need-none-found-requires-2
 none-found-requires-2 c κs = search needs
 
--- src/lib.rt:112:9
 returns-2 : tie.Need-returns-2
-returns-2 c = words-end (c .before .before .before .before .before .before .before .args .pairs .now) (c .before .before .before .before .before .before .before .args .session .now) (c .before .before .before .before .before .before .before .args .k) (c .before .before .before .before .before .before .before .args .i) (omega arith) (omega arith) (c .before .before .first-from .result) (c .before .before .first-from .ensures) (c .none-found2 .result) (c .none-found2 .ensures) (c .before .if2 .taken)
+returns-2 c =
+    let a = c .before .before .before .before .before .before .before .args in
+    words-end (a .pairs .now) (a .session .now) (a .k) (a .i) (omega arith) (omega arith) (c .before .before .first-from .result) (c .before .before .first-from .ensures) (c .none-found2 .result) (c .none-found2 .ensures) (c .before .if2 .taken)
 
--- src/lib.rt:117:26
 mul-t13 : tie.Need-mul-t13
 mul-t13 c = search needs
 
--- src/lib.rt:117:26
 add-t11 : tie.Need-add-t11
 add-t11 c = search needs
 
--- src/lib.rt:117:20
 mul-t16 : tie.Need-mul-t16
 mul-t16 c = search needs
 
--- src/lib.rt:117:20
 shared-slice-read-t18 : tie.Need-shared-slice-read-t18
 shared-slice-read-t18 c = search needs
 
--- src/lib.rt:118:27
 mul-t19 : tie.Need-mul-t19
 mul-t19 c = search needs
 
--- src/lib.rt:118:27
 add-t20 : tie.Need-add-t20
 add-t20 c = search needs
 
--- src/lib.rt:118:21
 mul-t21 : tie.Need-mul-t21
 mul-t21 c = search needs
 
--- src/lib.rt:118:21
 shared-slice-read-t23 : tie.Need-shared-slice-read-t23
 shared-slice-read-t23 c = search needs
 
--- src/lib.rt:119:26
 mul-t24 : tie.Need-mul-t24
 mul-t24 c = search needs
 
--- src/lib.rt:119:26
 add-t25 : tie.Need-add-t25
 add-t25 c = search needs
 
--- src/lib.rt:119:20
 mul-t26 : tie.Need-mul-t26
 mul-t26 c = search needs
 
--- src/lib.rt:119:20
 shared-slice-read-t28 : tie.Need-shared-slice-read-t28
 shared-slice-read-t28 c = search needs
 
--- src/lib.rt:121:15
 add-t30 : tie.Need-add-t30
 add-t30 c = search needs
 
--- src/lib.rt:100:1
 returns-3 : tie.Need-returns-3
-returns-3 c = words-next (c .before .before .before .before .before .before .before .before .before .args .pairs .now) (c .before .before .before .before .before .before .before .before .before .args .session .now) (c .before .before .before .before .before .before .before .before .before .args .k) (c .before .before .before .before .before .before .before .before .before .args .i) (omega arith) (omega arith) (c .before .before .before .before .first-from .result) (c .before .before .before .before .first-from .ensures) (omega arith)
+returns-3 c =
+    let a = c .before .before .before .before .before .before .before .before .before .args in
+    words-next (a .pairs .now) (a .session .now) (a .k) (a .i) (omega arith) (omega arith) (c .before .before .before .before .first-from .result) (c .before .before .before .before .first-from .ensures) (omega arith)
 
 pub pair-from-spec : {M : Type 1} → statement M
 pair-from-spec =

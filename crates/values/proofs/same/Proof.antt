@@ -1,16 +1,14 @@
+-- `values::same` meets its contract. Assumes nothing.
 use borrow.Author.Tests.{eq-eqb, ne-eqb}
 use Rattle.values.proofs.same.Statement.{statement}
 use Rattle.values.proofs.same.Tie as tie
 
--- src/lib.rt:276:9
 returns : tie.Need-returns
 returns c = rw (ne-eqb (c .before .before .before .args .a .first) (c .before .before .before .args .b .first) (c .if1 .taken))
 
--- src/lib.rt:279:9
 returns-2 : tie.Need-returns-2
 returns-2 c = rw (eq-eqb (c .before .before .before .before .before .before .args .a .first) (c .before .before .before .before .before .before .args .b .first) (c .before .before .before .if1 .left), ne-eqb (c .before .before .before .before .before .before .args .a .second) (c .before .before .before .before .before .before .args .b .second) (c .if2 .taken))
 
--- src/lib.rt:272:1
 returns-3 : tie.Need-returns-3
 returns-3 c = rw (eq-eqb (c .before .before .before .before .before .before .before .before .args .a .first) (c .before .before .before .before .before .before .before .before .args .b .first) (c .before .before .before .before .before .if1 .left), eq-eqb (c .before .before .before .before .before .before .before .before .args .a .second) (c .before .before .before .before .before .before .before .before .args .b .second) (c .before .before .if2 .left))
 

@@ -1,3 +1,4 @@
+-- `values::some_found` meets its contract. Assumes nothing.
 use borrow.Author.Tests.{not-true, not-false}
 use Prim.Native.Nat.{ℕ}
 use mathlib.Core.Path.{_≡_, sym, ap, _∙_}
@@ -17,50 +18,49 @@ Inv-loop code pairs session entries left right wanted some₀ i₀ some i = soug
 abbrev μ-loop : tie.MeasureT-loop
 μ-loop code pairs session entries left right wanted some₀ i₀ some i = length (valuesFrom (lent code pairs session entries) left i)
 
--- src/lib.rt:343:9
 first-requires : tie.Need-first-requires Inv-loop μ-loop
 first-requires c κs = search needs
 
--- src/lib.rt:344:5
 loop-holds : tie.Need-loop-holds Inv-loop μ-loop
 unfolding foundOf
-loop-holds c = ap (λ (i : ℕ). soughtFrom (λ (w : Words). asked (c .before .before .before .before .args .wanted) (amongOf (valuesOf (lent (c .before .before .before .before .args .code .now) (c .before .before .before .before .args .pairs .now) (c .before .before .before .before .args .session .now) (c .before .before .before .before .args .entries .now)) (c .before .before .before .before .args .right)) w)) false ((valuesFrom (lent (c .before .before .before .before .args .code .now) (c .before .before .before .before .args .pairs .now) (c .before .before .before .before .args .session .now) (c .before .before .before .before .args .entries .now)) (c .before .before .before .before .args .left)) i)) (c .first .ensures)
+loop-holds c =
+    let a = c .before .before .before .before .args in
+    ap (λ (i : ℕ). soughtFrom (λ (w : Words). asked (a .wanted) (amongOf (valuesOf (lent (a .code .now) (a .pairs .now) (a .session .now) (a .entries .now)) (a .right)) w)) false ((valuesFrom (lent (a .code .now) (a .pairs .now) (a .session .now) (a .entries .now)) (a .left)) i)) (c .first .ensures)
 
--- src/lib.rt:345:13
 value-from-requires : tie.Need-value-from-requires Inv-loop μ-loop
 value-from-requires c κs = search needs
 
--- src/lib.rt:347:13
 at-end-requires : tie.Need-at-end-requires Inv-loop μ-loop
 at-end-requires c κs = search needs
 
--- src/lib.rt:347:13
 returns : tie.Need-returns Inv-loop μ-loop
-returns c = c .at-end .ensures ∙ sym (sought-none (valuesFrom (lent (c .before .before .before .before .before .before .before .before .before .args .code .now) (c .before .before .before .before .before .before .before .before .before .args .pairs .now) (c .before .before .before .before .before .before .before .before .before .args .session .now) (c .before .before .before .before .before .before .before .before .before .args .entries .now)) (c .before .before .before .before .before .before .before .before .before .args .left)) (c .before .before .before .before .loop .i) (c .before .before .before .value-from .result) (c .before .before .before .value-from .ensures) (λ (w : Words). asked (c .before .before .before .before .before .before .before .before .before .args .wanted) (amongOf (valuesOf (lent (c .before .before .before .before .before .before .before .before .before .args .code .now) (c .before .before .before .before .before .before .before .before .before .args .pairs .now) (c .before .before .before .before .before .before .before .before .before .args .session .now) (c .before .before .before .before .before .before .before .before .before .args .entries .now)) (c .before .before .before .before .before .before .before .before .before .args .right)) w)) (c .before .before .before .before .loop .some) (not-true _ (c .before .if1 .taken))) ∙ c .before .before .before .before .loop .inv
+returns c =
+    let a = c .before .before .before .before .before .before .before .before .before .args in
+    c .at-end .ensures ∙ sym (sought-none (valuesFrom (lent (a .code .now) (a .pairs .now) (a .session .now) (a .entries .now)) (a .left)) (c .before .before .before .before .loop .i) (c .before .before .before .value-from .result) (c .before .before .before .value-from .ensures) (λ (w : Words). asked (a .wanted) (amongOf (valuesOf (lent (a .code .now) (a .pairs .now) (a .session .now) (a .entries .now)) (a .right)) w)) (c .before .before .before .before .loop .some) (not-true _ (c .before .if1 .taken))) ∙ c .before .before .before .before .loop .inv
 
--- src/lib.rt:350:36
 among-requires : tie.Need-among-requires Inv-loop μ-loop
 among-requires c κs = search needs
 
--- src/lib.rt:350:13
 asked-requires : tie.Need-asked-requires Inv-loop μ-loop
 asked-requires c κs = search needs
 
--- src/lib.rt:351:13
 is-false-requires : tie.Need-is-false-requires Inv-loop μ-loop
 is-false-requires c κs = search needs
 
--- src/lib.rt:352:13
 returns-2 : tie.Need-returns-2 Inv-loop μ-loop
-returns-2 c = (c .before .before .asked .ensures ∙ ap (asked (c .before .before .before .before .before .before .before .before .before .before .before .before .before .args .wanted)) (c .before .before .before .among .ensures)) ∙ sym (sought-here (valuesFrom (lent (c .before .before .before .before .before .before .before .before .before .before .before .before .before .args .code .now) (c .before .before .before .before .before .before .before .before .before .before .before .before .before .args .pairs .now) (c .before .before .before .before .before .before .before .before .before .before .before .before .before .args .session .now) (c .before .before .before .before .before .before .before .before .before .before .before .before .before .args .entries .now)) (c .before .before .before .before .before .before .before .before .before .before .before .before .before .args .left)) (c .before .before .before .before .before .before .before .before .loop .i) (c .before .before .before .before .before .before .before .value-from .result) (c .before .before .before .before .before .before .before .value-from .ensures) (λ (w : Words). asked (c .before .before .before .before .before .before .before .before .before .before .before .before .before .args .wanted) (amongOf (valuesOf (lent (c .before .before .before .before .before .before .before .before .before .before .before .before .before .args .code .now) (c .before .before .before .before .before .before .before .before .before .before .before .before .before .args .pairs .now) (c .before .before .before .before .before .before .before .before .before .before .before .before .before .args .session .now) (c .before .before .before .before .before .before .before .before .before .before .before .before .before .args .entries .now)) (c .before .before .before .before .before .before .before .before .before .before .before .before .before .args .right)) w)) (c .before .before .before .before .before .before .before .before .loop .some) (not-false _ (c .before .before .before .before .before .if1 .left)) (ap isFalse (sym (c .before .before .asked .ensures ∙ ap (asked (c .before .before .before .before .before .before .before .before .before .before .before .before .before .args .wanted)) (c .before .before .before .among .ensures))) ∙ sym (c .before .is-false .ensures) ∙ not-true _ (c .if2 .taken))) ∙ c .before .before .before .before .before .before .before .before .loop .inv
+returns-2 c =
+    let a = c .before .before .before .before .before .before .before .before .before .before .before .before .before .args in
+    (c .before .before .asked .ensures ∙ ap (asked (a .wanted)) (c .before .before .before .among .ensures)) ∙ sym (sought-here (valuesFrom (lent (a .code .now) (a .pairs .now) (a .session .now) (a .entries .now)) (a .left)) (c .before .before .before .before .before .before .before .before .loop .i) (c .before .before .before .before .before .before .before .value-from .result) (c .before .before .before .before .before .before .before .value-from .ensures) (λ (w : Words). asked (a .wanted) (amongOf (valuesOf (lent (a .code .now) (a .pairs .now) (a .session .now) (a .entries .now)) (a .right)) w)) (c .before .before .before .before .before .before .before .before .loop .some) (not-false _ (c .before .before .before .before .before .if1 .left)) (ap isFalse (sym (c .before .before .asked .ensures ∙ ap (asked (a .wanted)) (c .before .before .before .among .ensures))) ∙ sym (c .before .is-false .ensures) ∙ not-true _ (c .if2 .taken))) ∙ c .before .before .before .before .before .before .before .before .loop .inv
 
--- src/lib.rt:344:5
 loop-less : tie.Need-loop-less Inv-loop μ-loop
-loop-less c = fewer (valuesFrom (lent (c .before .before .before .before .before .before .before .before .before .before .before .before .before .args .code .now) (c .before .before .before .before .before .before .before .before .before .before .before .before .before .args .pairs .now) (c .before .before .before .before .before .before .before .before .before .before .before .before .before .args .session .now) (c .before .before .before .before .before .before .before .before .before .before .before .before .before .args .entries .now)) (c .before .before .before .before .before .before .before .before .before .before .before .before .before .args .left)) (c .before .before .before .before .before .before .before .before .loop .i) (c .before .before .before .before .before .before .before .value-from .result) (c .before .before .before .before .before .before .before .value-from .ensures) (not-false _ (c .before .before .before .before .before .if1 .left))
+loop-less c =
+    let a = c .before .before .before .before .before .before .before .before .before .before .before .before .before .args in
+    fewer (valuesFrom (lent (a .code .now) (a .pairs .now) (a .session .now) (a .entries .now)) (a .left)) (c .before .before .before .before .before .before .before .before .loop .i) (c .before .before .before .before .before .before .before .value-from .result) (c .before .before .before .before .before .before .before .value-from .ensures) (not-false _ (c .before .before .before .before .before .if1 .left))
 
--- src/lib.rt:344:5
 loop-again : tie.Need-loop-again Inv-loop μ-loop
-loop-again c = sym (sought-on (valuesFrom (lent (c .before .before .before .before .before .before .before .before .before .before .before .before .before .args .code .now) (c .before .before .before .before .before .before .before .before .before .before .before .before .before .args .pairs .now) (c .before .before .before .before .before .before .before .before .before .before .before .before .before .args .session .now) (c .before .before .before .before .before .before .before .before .before .before .before .before .before .args .entries .now)) (c .before .before .before .before .before .before .before .before .before .before .before .before .before .args .left)) (c .before .before .before .before .before .before .before .before .loop .i) (c .before .before .before .before .before .before .before .value-from .result) (c .before .before .before .before .before .before .before .value-from .ensures) (λ (w : Words). asked (c .before .before .before .before .before .before .before .before .before .before .before .before .before .args .wanted) (amongOf (valuesOf (lent (c .before .before .before .before .before .before .before .before .before .before .before .before .before .args .code .now) (c .before .before .before .before .before .before .before .before .before .before .before .before .before .args .pairs .now) (c .before .before .before .before .before .before .before .before .before .before .before .before .before .args .session .now) (c .before .before .before .before .before .before .before .before .before .before .before .before .before .args .entries .now)) (c .before .before .before .before .before .before .before .before .before .before .before .before .before .args .right)) w)) (c .before .before .before .before .before .before .before .before .loop .some) (not-false _ (c .before .before .before .before .before .if1 .left)) (ap isFalse (sym (c .before .before .asked .ensures ∙ ap (asked (c .before .before .before .before .before .before .before .before .before .before .before .before .before .args .wanted)) (c .before .before .before .among .ensures))) ∙ sym (c .before .is-false .ensures) ∙ not-false _ (c .if2 .left))) ∙ c .before .before .before .before .before .before .before .before .loop .inv
+loop-again c =
+    let a = c .before .before .before .before .before .before .before .before .before .before .before .before .before .args in
+    sym (sought-on (valuesFrom (lent (a .code .now) (a .pairs .now) (a .session .now) (a .entries .now)) (a .left)) (c .before .before .before .before .before .before .before .before .loop .i) (c .before .before .before .before .before .before .before .value-from .result) (c .before .before .before .before .before .before .before .value-from .ensures) (λ (w : Words). asked (a .wanted) (amongOf (valuesOf (lent (a .code .now) (a .pairs .now) (a .session .now) (a .entries .now)) (a .right)) w)) (c .before .before .before .before .before .before .before .before .loop .some) (not-false _ (c .before .before .before .before .before .if1 .left)) (ap isFalse (sym (c .before .before .asked .ensures ∙ ap (asked (a .wanted)) (c .before .before .before .among .ensures))) ∙ sym (c .before .is-false .ensures) ∙ not-false _ (c .if2 .left))) ∙ c .before .before .before .before .before .before .before .before .loop .inv
 
 pub some-found-spec : {M : Type 1} → statement M
 some-found-spec =

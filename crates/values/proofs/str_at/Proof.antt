@@ -1,3 +1,4 @@
+-- `values::str_at` meets its contract. Assumes nothing.
 use Prim.Native.Nat.{_+_}
 use native.Mathlib.Omega.{arith}
 use mathlib.Core.Path.{_∙_}
@@ -6,89 +7,80 @@ use borrow.Author.Needs.{needs}
 use Rattle.values.proofs.str_at.Statement.{statement}
 use Rattle.values.proofs.str_at.Tie as tie
 
--- src/lib.rt:193:9
 none-found-requires : tie.Need-none-found-requires
 none-found-requires c κs = search needs
 
--- src/lib.rt:193:9
 returns : tie.Need-returns
-returns c = c .none-found .ensures ∙ str-beyond (c .before .before .before .args .code .now) (c .before .before .before .args .end) (c .before .before .before .args .i) (c .before .if1 .taken)
+returns c =
+    let a = c .before .before .before .args in
+    c .none-found .ensures ∙ str-beyond (a .code .now) (a .end) (a .i) (c .before .if1 .taken)
 
--- src/lib.rt:196:9
 none-found-requires-2 : tie.Need-none-found-requires-2
 none-found-requires-2 c κs = search needs
 
--- src/lib.rt:196:9
 returns-2 : tie.Need-returns-2
-returns-2 c = c .none-found2 .ensures ∙ str-short (c .before .before .before .before .args .code .now) (c .before .before .before .before .args .end) (c .before .before .before .before .args .i) (omega arith) (omega arith)
+returns-2 c =
+    let a = c .before .before .before .before .args in
+    c .none-found2 .ensures ∙ str-short (a .code .now) (a .end) (a .i) (omega arith) (omega arith)
 
--- src/lib.rt:199:9
 none-found-requires-3 : tie.Need-none-found-requires-3
 none-found-requires-3 c κs = search needs
 
--- src/lib.rt:199:9
 returns-3 : tie.Need-returns-3
-returns-3 c = c .none-found3 .ensures ∙ str-short (c .before .before .before .before .before .args .code .now) (c .before .before .before .before .before .args .end) (c .before .before .before .before .before .args .i) (omega arith) (omega arith)
+returns-3 c =
+    let a = c .before .before .before .before .before .args in
+    c .none-found3 .ensures ∙ str-short (a .code .now) (a .end) (a .i) (omega arith) (omega arith)
 
--- src/lib.rt:201:17
 add-start : tie.Need-add-start
 add-start c = search needs
 
--- src/lib.rt:202:18
 add-n : tie.Need-add-n
 add-n c = search needs
 
--- src/lib.rt:202:13
 shared-slice-read-n : tie.Need-shared-slice-read-n
 shared-slice-read-n c = search needs
 
--- src/lib.rt:202:13
 cast-n : tie.Need-cast-n
 cast-n c = omega (arith, c .shared-slice-known2 .given (c .before .before .before .before .before .args .i + 1))
 
--- src/lib.rt:204:9
 none-found-requires-4 : tie.Need-none-found-requires-4
 none-found-requires-4 c κs = search needs
 
--- src/lib.rt:204:9
 returns-4 : tie.Need-returns-4
-returns-4 c = c .none-found4 .ensures ∙ str-long (c .before .before .before .before .before .before .before .args .code .now) (c .before .before .before .before .before .before .before .args .end) (c .before .before .before .before .before .before .before .args .i) (omega arith) (omega arith) (c .before .if4 .taken)
+returns-4 c =
+    let a = c .before .before .before .before .before .before .before .args in
+    c .none-found4 .ensures ∙ str-long (a .code .now) (a .end) (a .i) (omega arith) (omega arith) (c .before .if4 .taken)
 
--- src/lib.rt:206:16
 add-past : tie.Need-add-past
 add-past c = search needs
 
--- src/lib.rt:208:9
 none-found-requires-5 : tie.Need-none-found-requires-5
 none-found-requires-5 c κs = search needs
 
--- src/lib.rt:208:9
 returns-5 : tie.Need-returns-5
-returns-5 c = c .none-found5 .ensures ∙ str-cut (c .before .before .before .before .before .before .before .before .args .code .now) (c .before .before .before .before .before .before .before .before .args .end) (c .before .before .before .before .before .before .before .before .args .i) (omega arith) (omega arith) (c .before .before .if4 .left) (c .before .if5 .taken)
+returns-5 c =
+    let a = c .before .before .before .before .before .before .before .before .args in
+    c .none-found5 .ensures ∙ str-cut (a .code .now) (a .end) (a .i) (omega arith) (omega arith) (c .before .before .if4 .left) (c .before .if5 .taken)
 
--- src/lib.rt:212:31
 sub-words-of : tie.Need-sub-words-of
 sub-words-of c = search needs
 
--- src/lib.rt:212:31
 part-words-of-start : tie.Need-part-words-of-start
 part-words-of-start c = search needs
 
--- src/lib.rt:212:31
 part-words-of-end : tie.Need-part-words-of-end
 part-words-of-end c = search needs
 
--- src/lib.rt:212:16
 words-of-requires : tie.Need-words-of-requires
 words-of-requires c κs = search needs
 
--- src/lib.rt:213:15
 add-t15 : tie.Need-add-t15
 add-t15 c = search needs
 
--- src/lib.rt:189:1
 returns-6 : tie.Need-returns-6
-returns-6 c = str-whole (c .before .before .before .before .before .before .before .before .before .args .code .now) (c .before .before .before .before .before .before .before .before .before .args .end) (c .before .before .before .before .before .before .before .before .before .args .i) (c .words-of .result) (omega arith) (omega arith) (c .before .before .before .if4 .left) (c .before .before .if5 .left) (c .words-of .ensures)
+returns-6 c =
+    let a = c .before .before .before .before .before .before .before .before .before .args in
+    str-whole (a .code .now) (a .end) (a .i) (c .words-of .result) (omega arith) (omega arith) (c .before .before .before .if4 .left) (c .before .before .if5 .left) (c .words-of .ensures)
 
 pub str-at-spec : {M : Type 1} → statement M
 str-at-spec =

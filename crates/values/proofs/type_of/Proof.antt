@@ -1,35 +1,29 @@
+-- `values::type_of` meets its contract. Assumes nothing.
 use borrow.Author.Tests.{le-leb, lt-leb}
 use Rattle.values.specs.Operands.{rowType}
 use borrow.Author.Needs.{needs}
 use Rattle.values.proofs.type_of.Statement.{statement}
 use Rattle.values.proofs.type_of.Tie as tie
 
--- src/lib.rt:527:27
 mul-kind : tie.Need-mul-kind
 mul-kind c = search needs
 
--- src/lib.rt:527:27
 add-kind : tie.Need-add-kind
 add-kind c = search needs
 
--- src/lib.rt:527:16
 mul-kind-2 : tie.Need-mul-kind-2
 mul-kind-2 c = search needs
 
--- src/lib.rt:527:16
 shared-slice-read-kind : tie.Need-shared-slice-read-kind
 shared-slice-read-kind c = search needs
 
--- src/lib.rt:528:20
 cast-result : tie.Need-cast-result
 cast-result c = search needs
 
--- src/lib.rt:523:1
 returns : tie.Need-returns
 unfolding rowType
 returns c = rw (le-leb _ 3 (c .if1 .taken))
 
--- src/lib.rt:523:1
 returns-2 : tie.Need-returns-2
 unfolding rowType
 returns-2 c = rw (lt-leb _ 3 (c .if1 .left))
