@@ -14,7 +14,8 @@ use Rattle.model.proofs.Lists.{same-truth, true-or-false, or-cases, or-left, or
 use Rattle.bits.specs.Bits.{bit, anyBelow, countBelow}
 use Rattle.bits.proofs.Bits.{bit-none, bit-high, bit-ext}
 use Rattle.bits.proofs.Counts.{any-none, any-find, find-any}
-use Rattle.ties.specs.TieArrays.{inUse, tied, meets, isGroup, under, Under, here, over, AllUnder, Marks, Widened}
+use Rattle.ties.specs.TieArrays.{inUse, HasNumbered, tied, meets, isGroup, under, Under, here, over, AllUnder, Marks, Widened}
+use Rattle.ties.proofs.Masks.{in-use-lt}
 use Rattle.ties.proofs.Keeps.{slot-group}
 
 -- ---- a turn of a loop that marks the numbers that pass
@@ -108,9 +109,16 @@ module _ (ups slots : List ℕ) (e : ℕ) where
     pub sound : AllUnder ups slots e m → AllUnder ups slots e next
     pub takes : (q : ℕ) → q < 64 → left q ≡ false → inUse (length ups) slots q ≡ true → under ups m e (getD slots q 0) ≡ true → bit next q ≡ true
 
-  -- at the start those are left that m does not have
-  pub pass-start : (m : ℕ) (left : ℕ → Bool) → ((q : ℕ) → q < 64 → left q ≡ false → bit m q ≡ true) → SlotsPassed m m left
-  pass-start m left most = record { grows = λ q l on. on; sound = λ all. all; takes = λ q l off u y. most q l off }
+  -- at the start those are left that are in use and that m does not have
+  pub pass-start : (m : ℕ) (left : ℕ → Bool) → ((q : ℕ) → q < 64 → left q ≡ false → inUse (length ups) slots q ≡ true → bit m q ≡ true) → SlotsPassed m m left
+  pass-start m left most = record { grows = λ q l on. on; sound = λ all. all; takes = λ q l off u y. most q l off u }
+
+  -- so it is where those of a mask are left that has all that have a number
+  pub left-of : (used m : ℕ) (left : ℕ → Bool) → HasNumbered slots 64 used → ((q : ℕ) → q < 64 → left q ≡ ((bit used q || bit 0 q) && not (bit m q)))
+      → (q : ℕ) → q < 64 → left q ≡ false → inUse (length ups) slots q ≡ true → bit m q ≡ true
+  left-of used m left has is q l off u = ⊎-elim (λ y. y)
+      (λ y. absurd (true≢false (sym (is q l ∙ both (or-left (bit used q) (bit 0 q) (has q l (in-use-lt (length ups) slots q u .0))) (ap not y)) ∙ off)))
+      (true-or-false (bit m q))
 
   pub pass-end : {m next : ℕ} {left : ℕ → Bool} → SlotsPassed m next left → ((q : ℕ) → q < 64 → left q ≡ false) → Widened ups slots e m next
   pass-end p none = record { grows = p .grows; sound = p .sound; takes = λ q l. p .takes q l (none q l) }

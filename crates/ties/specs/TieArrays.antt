@@ -16,6 +16,15 @@ use Rattle.bits.specs.Bits.{bit, holds, anyBelow}
 unfoldable pub inUse : ℕ → List ℕ → ℕ → Bool
 inUse n slots q = ltb 0 (getD slots q 0) && ltb (getD slots q 0) n
 
+-- the mask m has each slot below n that has a number: no other is in use
+abbrev pub HasNumbered : List ℕ → ℕ → ℕ → Type 0
+HasNumbered slots n m = (q : ℕ) → q < n → 0 < getD slots q 0 → bit m q ≡ true
+
+-- r has what the mask m has, and slot q if that has a number
+pub record Numbered (slots : List ℕ) (m q r : ℕ) : Type 0 where
+  pub kept : (j : ℕ) → bit m j ≡ true → bit r j ≡ true
+  pub taken : 0 < getD slots q 0 → bit r q ≡ true
+
 -- holder h has a tie up to the group of slot q
 unfoldable pub tied : List ℕ → ℕ → ℕ → Bool
 tied ups h q = bit (getD ups h 0) q

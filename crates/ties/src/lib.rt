@@ -6,7 +6,7 @@ ghost use lib.Dec.{eqb, ltb};
 ghost use lib.ListN.{length, getD};
 ghost use Rattle.model.specs.Limits.{groupLimit, pairLimit};
 ghost use Rattle.bits.specs.Bits.{bit, member, anyBelow};
-ghost use Rattle.ties.specs.TieArrays.{inUse, meets, isGroup, groupOf, under, Marks, Widened, LeadsTo, ClosesCircle};
+ghost use Rattle.ties.specs.TieArrays.{inUse, meets, isGroup, groupOf, under, HasNumbered, Numbered, Marks, Widened, LeadsTo, ClosesCircle};
 ghost use Rattle.ties.specs.TieEdits.{AddedUp, TakenUp, AddedValue, TakenValue, SlotGiven};
 
 fn wide(s: u64) -> usize
@@ -124,14 +124,44 @@ fn joins(ups: &[u64], slots: &[u64], m: u64, e: usize, q: usize) -> bool
     is_under(ups, m, e, k)
 }
 
-// The mask m with the slots of such groups: those that are not in it yet are looked at, each against what is in it by then, so that a chain of
-// groups that were declared from the top down is taken at once.
-fn widened(ups: &[u64], slots: &[u64], m: u64, e: usize) -> u64
+// The mask with slot q, if that has a number.
+fn with_numbered(mask: u64, slots: &[u64], q: usize) -> u64
+    requires { ⌜ (length (now slots) ≡ groupLimit) × (q < groupLimit) ⌝ }
+    ensures { λ r. ⌜ Numbered (now (slots .entry)) mask q r ⌝ }
+{
+    if holder_at(slots, q) == 0 {
+        return mask;
+    }
+    bits::with(mask, q)
+}
+
+// The slots that have a number: no other is in use, and most areas have few groups.
+fn numbered(slots: &[u64]) -> u64
     requires { ⌜ length (now slots) ≡ groupLimit ⌝ }
+    ensures { λ r. ⌜ HasNumbered (now (slots .entry)) groupLimit r ⌝ }
+{
+    let mut mask: u64 = 0;
+    for q in 0..slots.len() {
+        mask = with_numbered(mask, slots, q);
+    }
+    mask
+}
+
+// The slots that a walk has left: those of either mask that are not done.
+fn still_left(left: u64, up: u64, done: u64) -> u64
+    ensures { λ r. ⌜ ((q : ℕ) → q < groupLimit → bit r q ≡ ((bit left q || bit up q) && not (bit done q))) ⌝ }
+{
+    (left | up) & !done
+}
+
+// The mask m with the slots of such groups: those that are not in it yet are looked at, each against what is in it by then, so that a chain of
+// groups that were declared from the top down is taken at once. Only slots of the mask `used` can be in use.
+fn widened(ups: &[u64], slots: &[u64], used: u64, m: u64, e: usize) -> u64
+    requires { ⌜ (length (now slots) ≡ groupLimit) × HasNumbered (now slots) groupLimit used ⌝ }
     ensures { λ r. ⌜ Widened (now (ups .entry)) (now (slots .entry)) e m r ⌝ }
 {
     let mut next = m;
-    let mut left = !m;
+    let mut left = still_left(used, 0, m);
     while left != 0 {
         let q = bits::lowest(left);
         if joins(ups, slots, next, e, q) {
@@ -159,11 +189,11 @@ fn widened_down(ups: &[u64], slots: &[u64], m: u64, e: usize) -> u64
 }
 
 // The same from the lowest slot up, and from the highest down only if that found any.
-fn widened_both_ways(ups: &[u64], slots: &[u64], m: u64, e: usize) -> u64
-    requires { ⌜ length (now slots) ≡ groupLimit ⌝ }
+fn widened_both_ways(ups: &[u64], slots: &[u64], used: u64, m: u64, e: usize) -> u64
+    requires { ⌜ (length (now slots) ≡ groupLimit) × HasNumbered (now slots) groupLimit used ⌝ }
     ensures { λ r. ⌜ Widened (now (ups .entry)) (now (slots .entry)) e m r ⌝ }
 {
-    let up = widened(ups, slots, m, e);
+    let up = widened(ups, slots, used, m, e);
     if up == m {
         return up;
     }
@@ -175,11 +205,12 @@ pub fn groups_below(ups: &[u64], slots: &[u64], e: usize) -> u64
     requires { ⌜ length (now slots) ≡ groupLimit ⌝ }
     ensures { λ r. ⌜ Marks (now (ups .entry)) (now (slots .entry)) e r ⌝ }
 {
+    let used = numbered(slots);
     let mut m: u64 = 0;
-    let mut next = widened(ups, slots, 0, e);
+    let mut next = widened(ups, slots, used, 0, e);
     while next != m {
         m = next;
-        next = widened_both_ways(ups, slots, m, e);
+        next = widened_both_ways(ups, slots, used, m, e);
     }
     m
 }
@@ -194,13 +225,6 @@ pub fn holders_below(set: &mut [u64], ups: &[u64], m: u64, e: usize)
             bits::insert(set, k);
         }
     }
-}
-
-// The slots that a walk has left: those of either mask that are not done.
-fn still_left(left: u64, up: u64, done: u64) -> u64
-    ensures { λ r. ⌜ ((q : ℕ) → q < groupLimit → bit r q ≡ ((bit left q || bit up q) && not (bit done q))) ⌝ }
-{
-    (left | up) & !done
 }
 
 // Whether a chain of ties leads from holder k up to holder e: each group above k is looked at once, until e is found or none is left.

@@ -10,18 +10,21 @@ use native.Mathlib.Omega.{arith}
 use Rattle.ties.proofs.groups_below.Tie as tie
 
 abbrev Inv-loop : tie.InvT-loop
-Inv-loop ups slots e m₀ next₀ m next =
+Inv-loop ups slots e used m₀ next₀ m next =
     (m < 2 ^ 64) × (next < 2 ^ 64) × AllUnder ups slots e m × Widened ups slots e m next
 
 abbrev μ-loop : tie.MeasureT-loop
-μ-loop ups slots e m₀ next₀ m next = 64 - countBelow 64 (bit m)
+μ-loop ups slots e used m₀ next₀ m next = 64 - countBelow 64 (bit m)
+
+numbered-requires : tie.Need-numbered-requires Inv-loop μ-loop
+numbered-requires c κs = search needs
 
 widened-requires : tie.Need-widened-requires Inv-loop μ-loop
 widened-requires c κs = search needs
 
 loop-holds : tie.Need-loop-holds Inv-loop μ-loop
 loop-holds c =
-    let start = c .before .before .before in
+    let start = c .before .before .before .before in
     let ups = start .args .ups .now in
     let slots = start .args .slots .now in
     (omega arith, c .widened .ok, none-sound ups slots (start .args .e), c .widened .ensures)
@@ -42,7 +45,7 @@ loop-again c =
 returns : tie.Need-returns Inv-loop μ-loop
 returns c =
     let head = c .before in
-    let start = c .before .before .before .before .before in
+    let start = c .before .before .before .before .before .before in
     marks (start .args .ups .now) (start .args .slots .now) (start .args .e) (head .loop .m) (head .loop .next) (c .loop-test .left) (head .loop .inv .2) (head .loop .inv .3)
 
 pub groups-below-spec : {M : Type 1} → statement M
@@ -51,6 +54,7 @@ groups-below-spec =
     (tie.spec
     Inv-loop
     μ-loop
+    numbered-requires
     widened-requires
     loop-holds
     widened-both-ways-requires

@@ -2,33 +2,36 @@
 use mathlib.Core.Path.{sym, ap, _∙_}
 use mathlib.Core.Logic.{⊎-elim}
 use Prim.Native.Nat.{ℕ}
-use borrow.Author.Tests.{not-false}
 use Rattle.bits.specs.Bits.{bit, countBelow}
-use Rattle.bits.proofs.Bits.{bit-none, bit-not}
+use Rattle.bits.proofs.Bits.{bit-none}
 use Rattle.bits.proofs.Walks.{fewer-left}
-use Rattle.ties.proofs.Widening.{SlotsPassed, pass-start, pass-end, pass-on, pass-off}
+use Rattle.ties.proofs.Widening.{SlotsPassed, left-of, pass-start, pass-end, pass-on, pass-off}
 use borrow.Author.Needs.{needs}
 use native.Mathlib.Omega.{arith}
 use Rattle.ties.proofs.widened.Statement.{statement}
 use Rattle.ties.proofs.widened.Tie as tie
 
 abbrev Inv-loop : tie.InvT-loop
-Inv-loop ups slots m e next₀ left₀ next left = SlotsPassed ups slots e m next (bit left)
+Inv-loop ups slots used m e next₀ left₀ next left = SlotsPassed ups slots e m next (bit left)
 
 abbrev μ-loop : tie.MeasureT-loop
-μ-loop ups slots m e next₀ left₀ next left = countBelow 64 (bit left)
+μ-loop ups slots used m e next₀ left₀ next left = countBelow 64 (bit left)
+
+still-left-requires : tie.Need-still-left-requires Inv-loop μ-loop
+still-left-requires c κs = search needs
 
 loop-holds : tie.Need-loop-holds Inv-loop μ-loop
 loop-holds c =
-    let start = c .before .before in
-    let m = start .args .m in
-    pass-start (start .args .ups .now) (start .args .slots .now) (start .args .e) m _ (λ q l off. not-false (bit m q) (sym (bit-not 64 m q (start .fits .m .fits) l) ∙ off))
+    let start = c .before .before .before in
+    let a = start .args in
+    pass-start (a .ups .now) (a .slots .now) (a .e) (a .m) _
+    (left-of (a .ups .now) (a .slots .now) (a .e) (a .used) (a .m) (bit (c .still-left .result)) (start .pre .1) (c .still-left .ensures))
 
 lowest-requires : tie.Need-lowest-requires Inv-loop μ-loop
 lowest-requires c κs = search needs
 
 joins-requires : tie.Need-joins-requires Inv-loop μ-loop
-joins-requires c κs = omega (arith, c .lowest .ensures .held (c .before .loop-test .taken), c .before .before .before .before .before .pre)
+joins-requires c κs = omega (arith, c .lowest .ensures .held (c .before .loop-test .taken), c .before .before .before .before .before .before .pre .0)
 
 with-requires : tie.Need-with-requires Inv-loop μ-loop
 with-requires c κs = c .before .before .lowest .ensures .held (c .before .before .before .loop-test .taken) .0
@@ -43,7 +46,7 @@ loop-less c =
 
 loop-again : tie.Need-loop-again Inv-loop μ-loop
 loop-again c =
-    let start = c .before .before .before .before .before .before .before .before in
+    let start = c .before .before .before .before .before .before .before .before .before in
     let ups = start .args .ups .now in
     let slots = start .args .slots .now in
     let inv = c .before .before .before .before .before .loop .inv in
@@ -57,7 +60,7 @@ loop-again c =
 
 returns : tie.Need-returns Inv-loop μ-loop
 returns c =
-    let start = c .before .before .before .before in
+    let start = c .before .before .before .before .before in
     pass-end (start .args .ups .now) (start .args .slots .now) (start .args .e) (c .before .loop .inv) (λ q l. ap (λ (w : ℕ). bit w q) (c .loop-test .left) ∙ bit-none q)
 
 pub widened-spec : {M : Type 1} → statement M
@@ -66,6 +69,7 @@ widened-spec =
     (tie.spec
     Inv-loop
     μ-loop
+    still-left-requires
     loop-holds
     lowest-requires
     joins-requires

@@ -30,7 +30,7 @@ loop-holds : tie.Need-loop-holds Inv-loop μ-loop
 loop-holds c =
     let start = c .before .before in (
       omega (arith, start .pre),
-      pass-start (start .args .ups .now) (start .args .slots .now) (start .args .e) (start .args .m) _ (λ q l off. absurd (true≢false (sym (lt-ltb q _ (omega (arith, start .pre))) ∙ off))),
+      pass-start (start .args .ups .now) (start .args .slots .now) (start .args .e) (start .args .m) _ (λ q l off u. absurd (true≢false (sym (lt-ltb q _ (omega (arith, start .pre))) ∙ off))),
     )
 
 sub-q : tie.Need-sub-q Inv-loop μ-loop
