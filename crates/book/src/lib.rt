@@ -6,12 +6,12 @@ pub mod line;
 pub mod rule;
 pub mod tie;
 
-// How many words a book has, how many bytes of code its rules have together, and each of them alone.
+// How many words a book has, how many bytes the code of all rules has, and that of one.
 pub const BOOK_WORDS: usize = 5240;
 
-pub const RULES_BYTES: usize = 24576;
+pub const RULE_BYTES: usize = 24576;
 
-pub const RULE_BYTES: usize = 768;
+pub const CODE_BYTES: usize = 768;
 
 // Where sections begin; each ends where the next begins, the last with the book.
 pub const ATTRIBUTES_AT: usize = 8;

@@ -9,16 +9,15 @@ ghost use Rattle.book.specs.Sections as section;
 ghost use Rattle.book.specs.Sections.{bookWords, ruleBytes};
 ghost use Rattle.book.specs.LineSteps.{FieldsRead, RuleJudged, ruleTests, rulePut};
 use crate::ATTRIBUTES_AT;
+use crate::CODE_BYTES;
 use crate::OPERATIONS_AT;
 use crate::PAIRS_AT;
 use crate::RULE_COUNT;
 use crate::RULES_AT;
 use crate::find::OPERATIONS;
 
-// How many rules there can be, and how many bytes of code each has.
+// How many rules there can be.
 const RULES: usize = 32;
-
-const CODE: usize = 768;
 
 fn wide(count: u64) -> usize
     ensures { λ r. ⌜ r ≡ count ⌝ }
@@ -32,11 +31,11 @@ fn judge(s: &[u8], attributes: &[u64], code: &mut [u8], k: usize) -> u8
     ensures { λ n. ⌜ RuleJudged (now (s .entry)) (now (attributes .entry)) k (now (code .entry)) (now (code .exit)) n ⌝ }
 {
     if k >= RULES {
-        let mut unkept: [u8; CODE] = [0; CODE];
+        let mut unkept: [u8; CODE_BYTES] = [0; CODE_BYTES];
         return policy::judge(s, attributes, &mut unkept);
     }
-    let start = CODE * k;
-    let end = start + CODE;
+    let start = CODE_BYTES * k;
+    let end = start + CODE_BYTES;
     policy::judge(s, attributes, &mut code[start..end])
 }
 

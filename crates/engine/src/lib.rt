@@ -12,6 +12,7 @@ ghost use Rattle.engine.specs.Decisions.{Decided, Answered, Decides};
 use book::ATTRIBUTE_COUNT;
 use book::ATTRIBUTES_AT;
 use book::BOOK_WORDS;
+use book::CODE_BYTES;
 use book::HOLDERS_AT;
 use book::OPERATION_COUNT;
 use book::OPERATIONS_AT;
@@ -19,7 +20,6 @@ use book::PAIR_ROWS_AT;
 use book::RULE_BYTES;
 use book::RULE_COUNT;
 use book::RULES_AT;
-use book::RULES_BYTES;
 use book::SEATS_AT;
 use book::SORTS_AT;
 use codes::ADMIN;
@@ -148,8 +148,8 @@ fn rule_value(
     if operations[k] != operation as u64 {
         return Truth::False;
     }
-    let start = RULE_BYTES * k;
-    let end = RULE_BYTES * k + RULE_BYTES;
+    let start = CODE_BYTES * k;
+    let end = CODE_BYTES * k + CODE_BYTES;
     policy::evaluate(&code[start..end], attributes, pairs, session, entries)
 }
 
@@ -270,7 +270,7 @@ fn answered(
 pub fn decide(
     block: &[u8],
     book: &[u64; BOOK_WORDS],
-    rules: &[u8; RULES_BYTES],
+    rules: &[u8; RULE_BYTES],
     table: &[u64],
 ) -> Decision
     ensures { λ r. ⌜ Decides (now (block .entry)) (now (book .entry)) (now (rules .entry)) (now (table .entry)) r ⌝ }

@@ -10,8 +10,8 @@ ghost use Rattle.engine.specs.LoadSteps.{TableFilled};
 use crate::TABLE_WORDS;
 use book::BOOK_WORDS;
 use book::OWN_AT;
+use book::RULE_BYTES;
 use book::RULES_AT;
-use book::RULES_BYTES;
 use book::SLOTS_AT;
 use book::UPS_AT;
 use book::file::Loaded;
@@ -41,7 +41,7 @@ fn empty(words: &mut [u64], code: &[u8])
 pub fn load(
     file: &[u8],
     book: &mut [u64; BOOK_WORDS],
-    rules: &mut [u8; RULES_BYTES],
+    rules: &mut [u8; RULE_BYTES],
     table: &mut [u64],
 ) -> Loaded
     ensures { λ r. ⌜ Loads (now (file .entry)) (now (table .entry)) (r .number) (r .line) (now (table .exit)) (now (book .exit)) (now (rules .exit)) ⌝ }

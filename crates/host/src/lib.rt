@@ -8,7 +8,7 @@ ghost use Rattle.engine.specs.Calls.{Loads};
 ghost use Rattle.engine.specs.EditSteps.{EditCall};
 ghost use Rattle.host.specs.AnswerNumbers.{high, carried, Packs, RequestNumber};
 use book::BOOK_WORDS;
-use book::RULES_BYTES;
+use book::RULE_BYTES;
 use engine::Decision;
 
 // "0 permit, 64 deny, 65 undefined, else the refusal."
@@ -49,7 +49,7 @@ pub extern "C" fn zhul_pass(file: &[u8], block: &[u8], table: &mut [u64]) -> u32
     ensures { λ r. ⌜ (r ≡ hostCall (now (file .entry)) (now (block .entry)) (length (now (table .entry)))) × (now (table .exit) ≡ hostTable (now (file .entry)) (now (table .entry))) ⌝ }
 {
     let mut book = [0u64; BOOK_WORDS];
-    let mut rules = [0u8; RULES_BYTES];
+    let mut rules = [0u8; RULE_BYTES];
     let loaded = engine::load::load(file, &mut book, &mut rules, table);
     if loaded.number != 0 {
         return loaded.number as u32;
@@ -62,7 +62,7 @@ pub extern "C" fn zhul_pass(file: &[u8], block: &[u8], table: &mut [u64]) -> u32
 pub extern "C" fn zhul_load(
     file: &[u8],
     book: &mut [u64; BOOK_WORDS],
-    rules: &mut [u8; RULES_BYTES],
+    rules: &mut [u8; RULE_BYTES],
     table: &mut [u64],
 ) -> u64
     ensures { λ r. ⌜ Loads (now (file .entry)) (now (table .entry)) (r % high) (r / high) (now (table .exit)) (now (book .exit)) (now (rules .exit)) ⌝ }
@@ -85,7 +85,7 @@ pub extern "C" fn zhul_edit(line: &[u8], book: &mut [u64; BOOK_WORDS], table: &m
 pub extern "C" fn zhul_decide(
     block: &[u8],
     book: &[u64; BOOK_WORDS],
-    rules: &[u8; RULES_BYTES],
+    rules: &[u8; RULE_BYTES],
     table: &[u64],
 ) -> u64
     ensures { λ r. ⌜ RequestNumber (now (block .entry)) (now (book .entry)) (now (rules .entry)) (now (table .entry)) r ⌝ }

@@ -10,7 +10,7 @@ ghost use Rattle.office.specs.Output.{answerBytes, PutShort};
 ghost use Rattle.office.specs.Answers.{memory, EditAnswered, CommandAnswered, AnsweredTo};
 use crate::command::Command;
 use book::BOOK_WORDS;
-use book::RULES_BYTES;
+use book::RULE_BYTES;
 use engine::Decision;
 
 // The bytes of the longest block that an input has room for.
@@ -48,7 +48,7 @@ pub fn answer_request(
     start: usize,
     end: usize,
     book: &[u64; BOOK_WORDS],
-    rules: &[u8; RULES_BYTES],
+    rules: &[u8; RULE_BYTES],
     table: &[u64],
     out: &mut [u8],
     at: usize,
@@ -69,7 +69,7 @@ pub fn answer_request(
 pub fn answer_line(
     line: &[u8],
     book: &mut [u64; BOOK_WORDS],
-    rules: &[u8; RULES_BYTES],
+    rules: &[u8; RULE_BYTES],
     table: &mut [u64],
     out: &mut [u8],
     at: usize,
@@ -90,7 +90,7 @@ pub fn answer_line(
 pub fn answer_commands(
     commands: &[u8],
     book: &mut [u64; BOOK_WORDS],
-    rules: &[u8; RULES_BYTES],
+    rules: &[u8; RULE_BYTES],
     table: &mut [u64],
     out: &mut [u8],
     at: usize,

@@ -5,7 +5,7 @@ ghost use lib.ListN.{length, take};
 ghost use Rattle.model.specs.Gate.{gate};
 ghost use Rattle.office.specs.Output.{answerBytes};
 use book::BOOK_WORDS;
-use book::RULES_BYTES;
+use book::RULE_BYTES;
 
 pub mod answer;
 pub mod command;
@@ -27,7 +27,7 @@ pub fn run(input: &[u8], out: &mut [u8]) -> usize
     let file = places.file;
     let commands = places.commands;
     let mut book: [u64; BOOK_WORDS] = [0; BOOK_WORDS];
-    let mut rules: [u8; RULES_BYTES] = [0; RULES_BYTES];
+    let mut rules: [u8; RULE_BYTES] = [0; RULE_BYTES];
     let mut table: [u64; 1024] = [0; 1024];
     let loaded = engine::load::load(&input[..file], &mut book, &mut rules, &mut table);
     let at = output::put_load(out, 0, loaded.number, loaded.line);
