@@ -21,7 +21,7 @@ use codes::KEY_VALUE;
 use text::Value;
 
 // What a line is refused for, 0 for nothing, and the code of its key.
-pub struct Answer {
+pub struct LineAnswer {
     pub number: u8,
     pub key: u8,
 }
@@ -168,20 +168,20 @@ fn step(book: &mut [u64], code: &mut [u8], key: u8, f: &[u8]) -> u8
 }
 
 // A line of a file, given with its byte 10, which stands first at `end`, behind one whose key has the code `previous`: 0 for none.
-pub fn read(book: &mut [u64], code: &mut [u8], line: &[u8], end: usize, previous: u8) -> Answer
+pub fn read(book: &mut [u64], code: &mut [u8], line: &[u8], end: usize, previous: u8) -> LineAnswer
     requires { ⌜ (length (now book) ≡ bookWords) × (length (now code) ≡ ruleBytes) × FirstAt newline (now line) end ⌝ }
     ensures { λ r. ⌜ LineRead (now (book .entry)) (now (code .entry)) (now (line .entry)) previous (now (book .exit)) (now (code .exit)) (r .number) (r .key) ⌝ }
 {
     let framed = fields::frame_at(line, end);
     let key = framed.key;
     if key == 0 {
-        return Answer { number: 4, key: 0 };
+        return LineAnswer { number: 4, key: 0 };
     }
     if key < previous {
-        return Answer { number: 5, key };
+        return LineAnswer { number: 5, key };
     }
     let start = framed.start;
     let stop = framed.end;
     let number = step(book, code, key, &line[start..stop]);
-    Answer { number, key }
+    LineAnswer { number, key }
 }

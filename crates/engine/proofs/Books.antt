@@ -22,7 +22,7 @@ use Rattle.model.proofs.TableLayout.{pairIn, standing-layout}
 use Rattle.bits.specs.Bits.{odd, bit, holds}
 use Rattle.text.specs.Values.{atomWords}
 use Rattle.rows.specs.Rows.{PairRow, PairRows}
-use Rattle.index.specs.Index.{chains, rowPlace, Row, Indexed, Written}
+use Rattle.index.specs.Index.{chains, rowPlace, Row, Indexed, RowWritten}
 use Rattle.session.specs.Words.{SetOf, SetsOf}
 use Rattle.book.specs.Sections as section
 use Rattle.book.specs.Sections.{part}
@@ -69,7 +69,7 @@ module _ (book : List ℕ) (D : Declarations) (well : WellDeclared D) (ix : Inde
       nobody : (i : ℕ) → length (D .pairs) ≤ i → nth (D .pairs) i ≡ none
       nobody i l = no-result (nth (D .pairs) i) (λ a e. let h = nth-lt (D .pairs) i e in omega arith)
 
-      written : (i k : ℕ) (p : Pair) → i < pairLimit → Written (part section.pairs book) pairLimit i (rowOf k p) → PairRow (part pairRows book) i k p
+      written : (i k : ℕ) (p : Pair) → i < pairLimit → RowWritten (part section.pairs book) pairLimit i (rowOf k p) → PairRow (part pairRows book) i k p
       written i k p h w = record {
         attribute = first-so i (k + 1) h (w .w0);
         first = word-so i 1 (atomWords (p .atom) .first) h (omega arith) (w .w1);

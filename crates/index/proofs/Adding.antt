@@ -12,7 +12,7 @@ use lib.ListN.{length, getD, set, length-set}
 use lib.Seq.{getD-set-same, getD-set-other}
 use borrow.Author.Tests.{eqb-true, eqb-false, eq-eqb, ne-eqb}
 use Rattle.model.proofs.WordTables.{none-is-some}
-use Rattle.index.specs.Index.{chains, rowsIn, nextPlace, rowPlace, Row, hashOf, Rows, InChain, Greatest, Written, Indexed, withRow, putRow, added, Added}
+use Rattle.index.specs.Index.{chains, rowsIn, nextPlace, rowPlace, Row, hashOf, Rows, InChain, Greatest, RowWritten, Indexed, withRow, putRow, added, Added}
 use Rattle.index.proofs.ChainWalks.{hash-below, there-below, rows-of, chain-as}
 
 -- what the code writes is the section with the row
@@ -98,7 +98,7 @@ module _ (s : List ℕ) (n k : ℕ) (w : Row) (size : length s ≡ chains + 5 * 
       ∙ getD-set-other linked (hashOf w) (nextPlace k) (k + 1) 0 (λ e. omega arith)
       ∙ getD-set-same s (nextPlace k) (getD s (hashOf w) 0) 0 (omega arith)
 
-  pub added-row : (w .0 ≡ 0 → ⊥) → Written (added s n k w) n k w
+  pub added-row : (w .0 ≡ 0 → ⊥) → RowWritten (added s n k w) n k w
   unfolding added
   added-row there =
       let long : rowPlace n k + 3 < length chained = simp length-set (omega arith) in
@@ -177,10 +177,10 @@ module _ (rows : Rows) (k : ℕ) (w : Row) where
 -- the section with row k more is the index of the rows with it, if k is above every row that is there
 module _ (s : List ℕ) (n k : ℕ) (w : Row) (rows : Rows) (ix : Indexed s n rows) (few : k < n) (there : w .0 ≡ 0 → ⊥)
     (fresh : (j : ℕ) → k ≤ j → rows j ≡ none) where
-  new-written : (j : ℕ) (v : Row) → withRow rows k w j ≡ some v → (j ≡ k) ⊎ (j ≡ k → ⊥) → Written (added s n k w) n j v
+  new-written : (j : ℕ) (v : Row) → withRow rows k w j ≡ some v → (j ≡ k) ⊎ (j ≡ k → ⊥) → RowWritten (added s n k w) n j v
   new-written j v e (inl z) =
-      subst (λ (x : ℕ). Written (added s n k w) n x v) (sym z)
-      (subst (λ (u : Row). Written (added s n k w) n k u) (with-same rows k w j v e z) (added-row s n k w (ix .size) few there))
+      subst (λ (x : ℕ). RowWritten (added s n k w) n x v) (sym z)
+      (subst (λ (u : Row). RowWritten (added s n k w) n k u) (with-same rows k w j v e z) (added-row s n k w (ix .size) few there))
   new-written j v e (inr z) =
       let f = sym (with-other rows k w j z) ∙ e in
       let h = there-below ix j v f in

@@ -13,7 +13,7 @@ use lib.ListN.{length, getD}
 use borrow.Author.Tests.{eqb-true, eq-eqb, le-leb}
 use Rattle.model.proofs.WordTables.{false-is-true, none-is-some}
 use Rattle.model.proofs.Options.{parts}
-use Rattle.index.specs.Index.{chains, rowsIn, nextPlace, rowPlace, Row, hashOf, isAt, linkOf, Rows, InChain, Greatest, Written, Indexed, Found}
+use Rattle.index.specs.Index.{chains, rowsIn, nextPlace, rowPlace, Row, hashOf, isAt, linkOf, Rows, InChain, Greatest, RowWritten, Indexed, RowFound}
 
 pub hash-below : (w : Row) → hashOf w < chains
 unfolding hashOf
@@ -35,7 +35,7 @@ same-row {v} {w} e f g h =
     ∙ ap (λ (x : ℕ). (w .0, w .1, x, v .3)) g
     ∙ ap (λ (x : ℕ). (w .0, w .1, w .2, x)) h
 
-module _ (s : List ℕ) (n k : ℕ) {v : Row} (row : Written s n k v) where
+module _ (s : List ℕ) (n k : ℕ) {v : Row} (row : RowWritten s n k v) where
   pub at-row : isAt s (rowPlace n k) v ≡ true
   unfolding isAt
   at-row = rw (eq-eqb _ _ (row .w0), eq-eqb _ _ (row .w1), eq-eqb _ _ (row .w2), eq-eqb _ _ (row .w3))
@@ -87,7 +87,7 @@ module _ {s : List ℕ} {n : ℕ} {rows : Rows} (ix : Indexed s n rows) (w : Row
       go j f (inl e) = false-is-true (sym other ∙ at-row s n k (ix .written k w (ap rows e ∙ f)))
       go j f (inr h) = walk .passed j (omega arith) f
 
-  pub walk-found : (k : ℕ) → Walk rows w (suc k) → isAt s (rowPlace n k) w ≡ true → Found rows n w k
+  pub walk-found : (k : ℕ) → Walk rows w (suc k) → isAt s (rowPlace n k) w ≡ true → RowFound rows n w k
   walk-found k walk same =
       let (v, e, _) = walk .inside k refl in
       let h = there-below ix k v e in
@@ -97,7 +97,7 @@ module _ {s : List ℕ} {n : ℕ} {rows : Rows} (ix : Indexed s n rows) (w : Row
         nowhere = λ z. absurd (omega arith);
       }
 
-  pub walk-end : Walk rows w 0 → Found rows n w n
+  pub walk-end : Walk rows w 0 → RowFound rows n w n
   walk-end walk = record { within = omega arith; here = λ h. absurd (omega arith); nowhere = λ _ k e. walk .passed k (omega arith) e }
 
 -- the same of whatever rows s is the index of, in the terms of the code: m is the number of rows, v - 1 the number of a row
@@ -120,10 +120,10 @@ module _ (s : List ℕ) (w : Row) (m : ℕ) (size : m ≡ rowsIn (length s)) whe
     walks-on next t e off f n rows ix = rw f (walk-on ix w (v - 1) (row-before n rows ix) (place-of ix t e ∙ off))
 
     pub walks-found : (t : Bool) → t ≡ isAt s (chains + m + 4 * (v - 1)) w → t ≡ true
-        → (n : ℕ) (rows : Rows) → Indexed s n rows → Found rows n w (v - 1)
+        → (n : ℕ) (rows : Rows) → Indexed s n rows → RowFound rows n w (v - 1)
     walks-found t e on n rows ix = walk-found ix w (v - 1) (row-before n rows ix) (place-of ix t e ∙ on)
 
-  pub walks-end : (v : ℕ) → v ≡ 0 → Walks s w v → (n : ℕ) (rows : Rows) → Indexed s n rows → Found rows n w m
+  pub walks-end : (v : ℕ) → v ≡ 0 → Walks s w v → (n : ℕ) (rows : Rows) → Indexed s n rows → RowFound rows n w m
   walks-end v e walks n rows ix = rw (size, rows-of ix) (walk-end ix w (rw e at (walks n rows ix)))
 
 -- a conjunction whose other parts hold

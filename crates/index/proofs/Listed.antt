@@ -15,7 +15,7 @@ use Rattle.model.proofs.WordTables.{false-is-true, none-is-some}
 use Rattle.model.proofs.Options.{bind-some, no-result}
 use Rattle.model.proofs.Lists.{nth-lt, nth-append, place-nth}
 use Rattle.model.proofs.Growing.{nth-last, place-nowhere}
-use Rattle.index.specs.Index.{Row, Rows, Greatest, Indexed, Found, rowsOf, withRow}
+use Rattle.index.specs.Index.{Row, Rows, Greatest, Indexed, RowFound, rowsOf, withRow}
 use Rattle.index.proofs.ChainWalks.{chain-as}
 
 -- the index of some rows is that of the same rows told otherwise
@@ -61,7 +61,7 @@ module _ {A : Type 0} (row : A → Row) (xs : List A) where
         let (y, k, q) = place-nth p xs j f in
         nowhere j (row-there j y k ∙ ap (λ (v : Row). some v) (tells j y k .0 q))
 
-    pub place-found : {n r : ℕ} → Found (rowsOf row xs) n w r → place p xs ≡ onlyIf (ltb r n) r
+    pub place-found : {n r : ℕ} → RowFound (rowsOf row xs) n w r → place p xs ≡ onlyIf (ltb r n) r
     place-found {n} {r} found = go (eq-or-lt-of-le (found .within))
       where
         go : (r ≡ n) ⊎ (r < n) → place p xs ≡ onlyIf (ltb r n) r

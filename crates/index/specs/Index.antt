@@ -56,7 +56,7 @@ pub record Greatest (rows : Rows) (h top v : ℕ) : Type 0 where
   pub above : (k : ℕ) → v ≤ k → k < top → InChain rows h k → ⊥
 
 -- the words of row k are those of w, the first of which is not 0
-pub record Written (s : List ℕ) (n k : ℕ) (w : Row) : Type 0 where
+pub record RowWritten (s : List ℕ) (n k : ℕ) (w : Row) : Type 0 where
   pub there : w .0 ≡ 0 → ⊥
   pub w0 : getD s (rowPlace n k) 0 ≡ w .0
   pub w1 : getD s (rowPlace n k + 1) 0 ≡ w .1
@@ -67,13 +67,13 @@ pub record Written (s : List ℕ) (n k : ℕ) (w : Row) : Type 0 where
 pub record Indexed (s : List ℕ) (n : ℕ) (rows : Rows) : Type 0 where
   pub size : length s ≡ chains + 5 * n
   pub few : (k : ℕ) → n ≤ k → rows k ≡ none
-  pub written : (k : ℕ) (w : Row) → rows k ≡ some w → Written s n k w
+  pub written : (k : ℕ) (w : Row) → rows k ≡ some w → RowWritten s n k w
   pub absent : (k : ℕ) → k < n → rows k ≡ none → getD s (rowPlace n k) 0 ≡ 0
   pub firsts : (h : ℕ) → h < chains → Greatest rows h n (getD s h 0)
   pub nexts : (k : ℕ) (w : Row) → rows k ≡ some w → Greatest rows (hashOf w) k (getD s (nextPlace k) 0)
 
 -- r is the number of a row with the words w, or n where no row has them
-pub record Found (rows : Rows) (n : ℕ) (w : Row) (r : ℕ) : Type 0 where
+pub record RowFound (rows : Rows) (n : ℕ) (w : Row) (r : ℕ) : Type 0 where
   pub within : r ≤ n
   pub here : r < n → rows r ≡ some w
   pub nowhere : r ≡ n → (k : ℕ) → rows k ≡ some w → ⊥
@@ -81,7 +81,7 @@ pub record Found (rows : Rows) (n : ℕ) (w : Row) (r : ℕ) : Type 0 where
 -- what `find` answers on any words, and on an index
 pub record FindsRow (s : List ℕ) (w : Row) (r : ℕ) : Type 0 where
   pub within : r ≤ rowsIn (length s)
-  pub exact : (n : ℕ) (rows : Rows) → Indexed s n rows → Found rows n w r
+  pub exact : (n : ℕ) (rows : Rows) → Indexed s n rows → RowFound rows n w r
 
 -- the rows of a list, numbered by their places in it
 abbrev pub rowsOf : {A : Type 0} → (A → Row) → List A → Rows
