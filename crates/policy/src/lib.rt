@@ -56,8 +56,8 @@ enum Head {
 // where it ends.
 struct Var {
     ok: bool,
-    operand: Operand,
     atoms: u8,
+    operand: Operand,
     next: usize,
 }
 
