@@ -4,7 +4,8 @@ ghost use mathlib.Core.Bool.{_||_, _&&_};
 ghost use Prim.Native.Nat.{ℕ, _*_, _%_, _<_, _≤_};
 ghost use lib.ListN.{length, getD};
 ghost use Rattle.model.specs.Limits.{groupLimit};
-ghost use Rattle.bits.specs.Bits.{bit, member, holds, differ, Numbers, anyBelow};
+ghost use lib.Dec.{eqb};
+ghost use Rattle.bits.specs.Bits.{bit, member, holds, differ, Numbers, anyBelow, Bits};
 ghost use Rattle.sets.specs.Settled.{markWords, Shaped, Marked, unlike, MarksChanged, Stored, Settled, Deep, Spared, AllDeep, StoredEach, StoredTied};
 ghost use Rattle.sets.specs.Filled.{Filled};
 ghost use Rattle.sets.specs.Refreshed.{Rewritten, Refreshed};
@@ -87,6 +88,29 @@ fn store_marked(
     }
 }
 
+// The same for the group of a slot; answers the mask `seen` of the settled groups with it. Where its set stays as it was, nothing is marked, and the
+// walk goes on all the same: a holder below may change by another path.
+fn store_group(
+    table: &mut [u64],
+    marks: &mut [u64],
+    own: &[u64],
+    slots: &[u64],
+    group: usize,
+    mask: u64,
+    seen: u64,
+) -> u64
+    requires { ⌜ (length (now table) % 4 ≡ 0) × (length (now own) ≡ length (now table)) × (length (now slots) ≡ groupLimit) × (length (now table) ≤ 256 * length (now marks)) × (group < groupLimit) ⌝ }
+    ensures { λ r. ⌜ Stored (now (own .entry)) (now (slots .entry)) (getD (now (slots .entry)) group 0) mask (now (table .entry)) (now (table .exit)) × MarksChanged (now (marks .entry)) (now (marks .exit)) (now (table .entry)) (now (table .exit)) × Bits r (λ j. bit seen j || eqb j group) ⌝ }
+{
+    let k = ties::holder_at(slots, group);
+    let settled = bits::with(seen, group);
+    if !store(table, own, slots, k, mask) {
+        return settled;
+    }
+    bits::insert(marks, k);
+    settled
+}
+
 // The set of a group: settles the groups one tie up first, then rewrites its own set from theirs, and marks it if it changed. A group of the
 // mask `done` is settled already, so each is computed once; one of the mask `path` waits for this one, as happens on a circle of ties alone.
 // `height` falls with each call.
@@ -126,8 +150,7 @@ fn settle(
         seen = settle(table, marks, own, ups, slots, q, below, seen, height - 1);
         left = bits::without(left, q);
     }
-    store_marked(table, marks, own, slots, k, mask);
-    bits::with(seen, group)
+    store_group(table, marks, own, slots, group, mask, seen)
 }
 
 // Settles every group that is not in the mask `done`.

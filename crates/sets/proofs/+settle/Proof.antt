@@ -24,7 +24,7 @@ use Rattle.bits.proofs.has.Reads as has-reads
 use Rattle.bits.proofs.lowest.Reads as lowest-reads
 use Rattle.bits.proofs.with.Reads as with-reads
 use Rattle.bits.proofs.without.Reads as without-reads
-use Rattle.sets.proofs.store_marked.Reads as store-marked-reads
+use Rattle.sets.proofs.store_group.Reads as store-group-reads
 use Rattle.ties.proofs.holder_at.Reads as holder-at-reads
 use Rattle.ties.proofs.in_use.Reads as in-use-reads
 use Rattle.ties.proofs.ties_up.Reads as ties-up-reads
@@ -58,8 +58,8 @@ claims t = (
   settle.Post,
   without-reads.Asked,
   without-reads.Learnt,
-  store-marked-reads.Asked,
-  store-marked-reads.Learnt,
+  store-group-reads.Asked,
+  store-group-reads.Learnt,
 )
 
 abbrev settle-Inv-loop : settle-lts.InvT-loop
@@ -182,40 +182,37 @@ settle-loop-again t c =
           (deep-step ups slots (start .args .path) (below .result) (start .args .height) group q (c .before .before .before .before .before .before .before .before .before .before .before .before .before .before .before .before .if3 .left) live (held .0) on (below .ensures)),
     )
 
-settle-store-marked-requires : (t : ℕ) → settle-lts.Need-store-marked-requires (claims t) (settle-at t) settle.Post settle-Inv-loop settle-μ-loop
-settle-store-marked-requires t c κs =
+settle-store-group-requires : (t : ℕ) → settle-lts.Need-store-group-requires (claims t) (settle-at t) settle.Post settle-Inv-loop settle-μ-loop
+settle-store-group-requires t c κs =
     let start = c .before .before .before .before .before .before .before .before .before .before .before .before .before .before .before .before .before .before .before in
     let shape = start .pre .1 .0 in
     let inv = c .before .before .before .loop .inv in
     omega (arith, shape .own-long, shape .slots-long, start .pre .1 .1, inv .0, inv .1)
 
-settle-with-requires-2 : (t : ℕ) → settle-lts.Need-with-requires-2 (claims t) (settle-at t) settle.Post settle-Inv-loop settle-μ-loop
-settle-with-requires-2 t c κs = search needs
-
 settle-same-length : (t : ℕ) → settle-lts.Need-same-length (claims t) (settle-at t) settle.Post settle-Inv-loop settle-μ-loop
-settle-same-length t c = c .before .before .before .before .before .store-marked .kept .0 ∙ c .before .before .before .before .before .before .before .before .before .loop .inv .0 ∙ sym (c .before .before .before .before .before .before .before .before .before .before .before .before .before .before .before .before .before .before .before .before .before .before .before .before .before .pre .1 .0 .table-long)
+settle-same-length t c = c .before .before .before .before .store-group .kept .0 ∙ c .before .before .before .before .before .before .before .before .loop .inv .0 ∙ sym (c .before .before .before .before .before .before .before .before .before .before .before .before .before .before .before .before .before .before .before .before .before .before .before .before .pre .1 .0 .table-long)
 
 settle-same-length-2 : (t : ℕ) → settle-lts.Need-same-length-2 (claims t) (settle-at t) settle.Post settle-Inv-loop settle-μ-loop
-settle-same-length-2 t c = c .before .before .before .before .before .store-marked .kept .1 .0 ∙ c .before .before .before .before .before .before .before .before .before .loop .inv .1
+settle-same-length-2 t c = c .before .before .before .before .store-group .kept .1 .0 ∙ c .before .before .before .before .before .before .before .before .loop .inv .1
 
 settle-returns-5 : (t : ℕ) → settle-lts.Need-returns-5 (claims t) (settle-at t) settle.Post settle-Inv-loop settle-μ-loop
 settle-returns-5 t c =
-    let start = c .before .before .before .before .before .before .before .before .before .before .before .before .before .before .before .before .before .before .before .before .before .before .before .before .before in
-    let head = c .before .before .before .before .before .before .before .before .before in
+    let start = c .before .before .before .before .before .before .before .before .before .before .before .before .before .before .before .before .before .before .before .before .before .before .before .before in
+    let head = c .before .before .before .before .before .before .before .before in
     let inv = head .loop .inv in
     let ups = start .args .ups .now in
     let slots = start .args .slots .now in
     let group = start .args .group in
-    let mask = c .before .before .before .before .before .before .before .before .before .before .before .ties-up in
-    let below = c .before .before .before .before .before .before .before .before .before .before .with in
-    let live : inUse (length ups) slots group ≡ true = sym (c .before .before .before .before .before .before .before .before .before .before .before .before .before .before .in-use .ensures) ∙ not-false (c .before .before .before .before .before .before .before .before .before .before .before .before .before .before .in-use .result) (c .before .before .before .before .before .before .before .before .before .before .before .before .before .if4 .left) in
-    let new : bit (start .args .done) group ≡ false = sym (c .before .before .before .before .before .before .before .before .before .before .before .before .before .before .before .before .before .before .before .has .ensures) ∙ c .before .before .before .before .before .before .before .before .before .before .before .before .before .before .before .before .before .before .if1 .left in
-    let off : bit (start .args .path) group ≡ false = sym (c .before .before .before .before .before .before .before .before .before .before .before .before .before .before .before .before .before .has2 .ensures) ∙ c .before .before .before .before .before .before .before .before .before .before .before .before .before .before .before .before .if2 .left in
-    let stored = c .before .before .before .before .before .store-marked .ensures in (
-      settled-own (c .with2 .result) group (c .before .before .before .before .before .before .before .before .before .before .before .before .holder-at .result) (mask .result) (start .pre .1 .2) live (inv .0) (c .before .before .before .before .before .before .before .before .before .before .before .before .holder-at .ensures) (mask .ensures)
+    let mask = c .before .before .before .before .before .before .before .before .before .before .ties-up in
+    let below = c .before .before .before .before .before .before .before .before .before .with in
+    let live : inUse (length ups) slots group ≡ true = sym (c .before .before .before .before .before .before .before .before .before .before .before .before .before .in-use .ensures) ∙ not-false (c .before .before .before .before .before .before .before .before .before .before .before .before .before .in-use .result) (c .before .before .before .before .before .before .before .before .before .before .before .before .if4 .left) in
+    let new : bit (start .args .done) group ≡ false = sym (c .before .before .before .before .before .before .before .before .before .before .before .before .before .before .before .before .before .before .has .ensures) ∙ c .before .before .before .before .before .before .before .before .before .before .before .before .before .before .before .before .before .if1 .left in
+    let off : bit (start .args .path) group ≡ false = sym (c .before .before .before .before .before .before .before .before .before .before .before .before .before .before .before .before .has2 .ensures) ∙ c .before .before .before .before .before .before .before .before .before .before .before .before .before .before .before .if2 .left in
+    let stored = c .before .before .before .before .store-group in (
+      settled-own (stored .result) group (getD slots group 0) (mask .result) (start .pre .1 .2) live (inv .0) refl (mask .ensures ∙ ap (λ (k : ℕ). getD ups k 0) (c .before .before .before .before .before .before .before .before .before .before .before .holder-at .ensures))
           (group-new (start .args .path) (below .result) group (start .args .done) (head .loop .seen) (below .ensures) (inv .3) new)
-          (settled-less (λ g. bit (mask .result) g ≡ true) (inv .4) (λ g x. (x, ap (λ (w : ℕ). bit w g) (c .before .before .before .before .before .before .before .before .loop-test .left) ∙ bit-none g))) (stored .0) (stored .1) (c .with2 .ensures),
-      spared-own (start .args .path) (below .result) group (start .args .done) (head .loop .seen) (below .ensures) (c .with2 .result) (inv .3) off (c .with2 .ensures),
+          (settled-less (λ g. bit (mask .result) g ≡ true) (inv .4) (λ g x. (x, ap (λ (w : ℕ). bit w g) (c .before .before .before .before .before .before .before .loop-test .left) ∙ bit-none g))) (stored .ensures .0) (stored .ensures .1) (stored .ensures .2),
+      spared-own (start .args .path) (below .result) group (start .args .done) (head .loop .seen) (below .ensures) (stored .result) (inv .3) off (stored .ensures .2),
     )
 
 pub +settle-spec : {M : Type 1} → statement M
@@ -241,8 +238,7 @@ pub +settle-spec : {M : Type 1} → statement M
     (settle-without-requires t)
     (settle-loop-less t)
     (settle-loop-again t)
-    (settle-store-marked-requires t)
-    (settle-with-requires-2 t)
+    (settle-store-group-requires t)
     (settle-same-length t)
     (settle-same-length-2 t)
     (settle-returns-5 t)
