@@ -1,11 +1,9 @@
 -- A command answered prints what the model's output has for it, and leaves what goes together with the state behind it. Assumes nothing.
-use Prim.Native.Nat.{ℕ, _+_, _≤_}
+use Prim.Native.Nat.{ℕ}
 use mathlib.Core.Path.{_≡_, refl, sym, ap, subst, _∙_}
 use mathlib.Core.List.{List, _∷_, _++_}
 use mathlib.Core.Option.{Option, none, some}
-use mathlib.Core.Bool.{Bool, true, false, not}
-use native.Mathlib.Omega.{arith}
-use lib.ListN.{length, take, drop, length-append}
+use lib.ListN.{length}
 use Rattle.model.specs.Limits.{tableWords}
 use Rattle.model.specs.Bytes.{Bytes, bytes}
 use Rattle.model.specs.State.{State}
@@ -13,18 +11,14 @@ use Rattle.model.specs.Ledger.{Call, Answer, edited, decided, step, outcome}
 use Rattle.model.specs.Gate.{callOf, printed, output}
 use Rattle.model.specs.Standing.{Standing}
 use Rattle.engine.specs.Calls.{Gives}
-use Rattle.engine.specs.declared.Decision.{Decision}
-use Rattle.engine.specs.Decisions.{decisionOf, Decides}
+use Rattle.engine.specs.Decisions.{decisionOf}
 use Rattle.engine.specs.Runs.{Memory, Does}
 use Rattle.engine.proofs.Runs.{does-gives, together-after}
 use Rattle.engine.proofs.Promises.{line-edited, request-decided}
-use Rattle.text.specs.declared.Hex.{Hex}
-use Rattle.text.specs.Hex.{Unhexed, leading}
-use Rattle.office.specs.Command.{Requests, part, CommandTold}
+use Rattle.office.specs.Command.{CommandTold}
 use Rattle.office.specs.declared.command.Command.{Command}
 use Rattle.office.specs.Output.{PutShort}
-use Rattle.office.specs.Answers.{memory, MemoryOf, Prints, EditAnswered, CommandAnswered}
-use Rattle.office.proofs.Commands.{request-read, request-bad}
+use Rattle.office.specs.Answers.{memory, MemoryOf, Prints, EditAnswered, RequestAnswered, CommandAnswered}
 
 -- an outcome given: its answer is printed
 pub outcome-prints : (S : State) (c : Call) (words : List ℕ) (after : Memory) (a : Answer) (rest : List (Option Call)) → Standing S
@@ -75,26 +69,10 @@ edit-answered line book words book′ words′ code out at out′ r e p =
     call-answered line (Call.edit line) (memory book code words) (memory book′ code words′) (edited (p .number) (p .count)) e
     (line-edited (memory book code words) (memory book′ code words′) (p .call) refl) (p .call .table-long) (p .answer)
 
-not-true : (b : Bool) → not b ≡ true → b ≡ false
-not-true true e = sym e
-not-true false e = refl
+pub request-answered : (line block : Bytes) (l : Memory) (out : Bytes) (at : ℕ) (out′ : Bytes) (r : ℕ) → callOf line ≡ some (Call.request block)
+    → RequestAnswered block l out at out′ r → CommandAnswered line l l out at out′ r
+request-answered line block l out at out′ r e p =
+    call-answered line (Call.request block) l l (decided (decisionOf (p .decision))) e (request-decided l (p .call)) refl (p .answer)
 
-not-false : (b : Bool) → not b ≡ false → b ≡ true
-not-false true e = refl
-not-false false e = sym e
-
--- the hex read into a buffer
-pub hex-within : (s before after : Bytes) (r : Hex) → Unhexed s before after r → r .len ≤ length after
-hex-within s before after r u = omega (arith, ap length (u .bytes) ∙ length-append (leading s) (drop (length (leading s)) before), u .len)
-
-module _ (line : Bytes) (start end : ℕ) (l : Memory) (before after : Bytes) (h : Hex) (u : Unhexed (part line start end) before after h) {out : Bytes} {at : ℕ} {out′ : Bytes} {r : ℕ} where
-  pub hex-refused : not (h .ok) ≡ true → PutShort out at (bytes "bad=\n") out′ r → Requests line start end → CommandAnswered line l l out at out′ r
-  hex-refused e p q = bad-answered line l (request-bad line start end q before after h u (not-true (h .ok) e)) p
-
-  pub block-decided : not (h .ok) ≡ false → (d : Decision) → Decides (take (h .len) after) (l .book) (l .code) (l .words) d
-      → PutShort out at (printed (decided (decisionOf d))) out′ r → Requests line start end → CommandAnswered line l l out at out′ r
-  block-decided e d promise p q =
-      call-answered line (Call.request (take (h .len) after)) l l (decided (decisionOf d)) (request-read line start end q before after h u (not-false (h .ok) e)) (request-decided l promise) refl p
-
-pub told-as : (line : Bytes) {k kind : Command} → CommandTold line k → k ≡ kind → CommandTold line kind
-told-as line t e = subst (λ (k : Command). CommandTold line k) e t
+pub told-as : (line block : Bytes) {k kind : Command} → CommandTold line block k → k ≡ kind → CommandTold line block kind
+told-as line block t e = subst (λ (k : Command). CommandTold line block k) e t

@@ -1,5 +1,5 @@
 -- Commands answered one after another. Assumes nothing.
-use Prim.Native.Nat.{ℕ, _+_, _*_, _-_, _≤_, _<_}
+use Prim.Native.Nat.{ℕ, _+_, _*_, _≤_, _<_}
 use mathlib.Core.Path.{_≡_, refl, sym, ap, ap₂, subst, _∙_}
 use mathlib.Core.List.{List, [], _∷_, _++_, append-assoc, append-nil}
 use mathlib.Core.Option.{Option}
@@ -11,9 +11,9 @@ use Rattle.model.specs.Bytes.{Bytes, linesOf}
 use Rattle.model.specs.Ledger.{Call}
 use Rattle.model.specs.Gate.{callOf, output}
 use Rattle.engine.specs.Runs.{Memory}
-use Rattle.office.specs.Input.{LineLength}
 use Rattle.office.specs.Output.{PutUpTo, answerBytes}
-use Rattle.office.specs.Answers.{CommandAnswered, AnsweredTo}
+use Rattle.office.specs.declared.answer.Reached.{Reached}
+use Rattle.office.specs.Answers.{FirstAnswered, AnsweredTo}
 use Rattle.office.proofs.OutputPuts.{put-length, put-put}
 
 -- nothing is put
@@ -41,30 +41,30 @@ module _ {commands : Bytes} {i : ℕ} {before middle : Memory} {out : Bytes} {at
       let l : at + length (a .text) ≤ length out = omega (arith, a .short) in
       omega (arith, a .short, a .put .behind, put-length (a .put) l)
 
-  module _ (k : ℕ) (first : LineLength (drop i commands) k) where
+  module _ {after : Memory} {out₂ : Bytes} {r : Reached} (first : FirstAnswered (drop i commands) middle after out₁ n out₂ r) where
     left : 1 ≤ length (drop i commands)
     left = omega (arith, length-drop i commands)
 
-    pub next-place : (i + k ≤ length commands) × (i < i + k)
-    next-place = (omega (arith, first .within, length-drop i commands), omega (arith, first .some left))
+    pub next-place : (i + r .next ≤ length commands) × (i < i + r .next)
+    next-place = (omega (arith, first .line .within, length-drop i commands), omega (arith, first .line .some left))
 
-    next-lines : map callOf (linesOf (drop i commands)) ≡ callOf (take k (drop i commands)) ∷ map callOf (linesOf (drop (i + k) commands))
+    next-lines : map callOf (linesOf (drop i commands)) ≡ callOf (take (r .next) (drop i commands)) ∷ map callOf (linesOf (drop (i + r .next) commands))
     next-lines =
-        ap (map callOf) (first .lines left) ∙ ap (λ (d : Bytes). callOf (take k (drop i commands)) ∷ map callOf (linesOf d)) (drop-drop k i commands)
+        ap (map callOf) (first .line .lines left) ∙ ap (λ (d : Bytes). callOf (take (r .next) (drop i commands)) ∷ map callOf (linesOf d)) (drop-drop (r .next) i commands)
 
     -- one command more
-    pub more-answered : {after : Memory} {out₂ : Bytes} {r : ℕ} → CommandAnswered (take k (drop i commands)) middle after out₁ n out₂ r
-        → AnsweredTo commands (i + k) before after out at out₂ r
-    more-answered b =
+    pub more-answered : AnsweredTo commands (i + r .next) before after out at out₂ (r .end)
+    more-answered =
+        let b = first .answered in
         let e = length-append (a .text) (b .text) in
         let s = b .answer .short in
         let z = a .short in
-        let rest = map callOf (linesOf (drop (i + k) commands)) in
+        let rest = map callOf (linesOf (drop (i + r .next) commands)) in
         record {
           within = next-place .0;
           text = a .text ++ b .text;
           put = put-put (a .put) (omega arith) (b .answer .put);
-          short = omega (arith, first .some left);
+          short = omega (arith, first .line .some left);
           table-long = b .table-long ∙ a .table-long;
           goes-on = λ S stands long.
               let x = a .goes-on S stands long in
@@ -77,9 +77,9 @@ module _ {commands : Bytes} {i : ℕ} {before middle : Memory} {out : Bytes} {at
               };
         }
 
-pub line-as : {line other : Bytes} {before after : Memory} {out : Bytes} {at : ℕ} {out′ : Bytes} {r : ℕ} → line ≡ other → CommandAnswered line before after out at out′ r
-    → CommandAnswered other before after out at out′ r
-line-as {before = before} {after = after} {out = out} {at = at} {out′ = out′} {r = r} e a = subst (λ (l : Bytes). CommandAnswered l before after out at out′ r) e a
+pub first-as : {commands other : Bytes} {before after : Memory} {out : Bytes} {at : ℕ} {out′ : Bytes} {r : Reached} → commands ≡ other
+    → FirstAnswered commands before after out at out′ r → FirstAnswered other before after out at out′ r
+first-as {before = before} {after = after} {out = out} {at = at} {out′ = out′} {r = r} e a = subst (λ (s : Bytes). FirstAnswered s before after out at out′ r) e a
 
 module _ {commands : Bytes} {i : ℕ} {before after : Memory} {out : Bytes} {at : ℕ} {out′ : Bytes} {n : ℕ} (a : AnsweredTo commands i before after out at out′ n) where
   pub all-length : at + answerBytes * length commands ≤ length out → length out′ ≡ length out

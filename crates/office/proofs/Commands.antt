@@ -6,7 +6,7 @@ use mathlib.Core.List.{[], _∷_, _++_}
 use mathlib.Core.Option.{Option, none, some}
 use native.Mathlib.Omega.{arith}
 use borrow.Author.Tests.{ne-eqb}
-use lib.ListN.{length, getD, take, drop}
+use lib.ListN.{length, getD, take, drop, length-append}
 use lib.Seq.{length-take-le, take-all, take-length, take-take, take-add, take-at}
 use Rattle.model.specs.Notation.{_>>=_, _or-else_, isNone}
 use Rattle.model.specs.Bytes.{Bytes, bytes, same, behind, content}
@@ -21,7 +21,17 @@ use Rattle.text.specs.declared.Hex.{Hex}
 use Rattle.text.specs.Hex.{leading, Unhexed}
 use Rattle.text.proofs.HexPairs.{leading-pairs}
 use Rattle.text.proofs.LoopPlaces.{next, done}
-use Rattle.office.specs.Command.{Bare, part, Requests}
+use Rattle.office.specs.Command.{Bare}
+
+-- the bytes between two places
+abbrev pub part : Bytes → ℕ → ℕ → Bytes
+part s start end = take (end - start) (drop start s)
+
+-- the hex of a request stands between two places of the line; the line is a call exactly where it is hex pairs
+pub record Requests (line : Bytes) (start end : ℕ) : Type 0 where
+  pub ordered : start ≤ end
+  pub within : end ≤ length line
+  pub call : callOf line ≡ (hexPairs (part line start end) >>= λ block. some (Call.request block))
 
 -- a line without its byte 10, by the place of the first
 module _ (line : Bytes) where
@@ -96,8 +106,11 @@ module _ (line : Bytes) (start end : ℕ) (q : Requests line start end) (before 
   called : (o : Option Bytes) → hexPairs (part line start end) ≡ o → callOf line ≡ (o >>= λ block. some (Call.request block))
   called o e = q .call ∙ ap (λ (o : Option Bytes). o >>= λ block. some (Call.request block)) e
 
-  pub request-read : r .ok ≡ true → callOf line ≡ some (Call.request (take (r .len) after))
-  request-read e = go (hexPairs (part line start end)) refl
+  block-within : r .len ≤ length after
+  block-within = omega (arith, ap length (u .bytes) ∙ length-append (leading (part line start end)) (drop (length (leading (part line start end))) before), u .len)
+
+  pub request-read : r .ok ≡ true → (r .len ≤ length after) × (callOf line ≡ some (Call.request (take (r .len) after)))
+  request-read e = (block-within, go (hexPairs (part line start end)) refl)
     where
       go : (o : Option Bytes) → hexPairs (part line start end) ≡ o → callOf line ≡ some (Call.request (take (r .len) after))
       go none p = false-is-true (sym (ap (λ (o : Option Bytes). not (isNone o)) p) ∙ sym (u .ok) ∙ e)

@@ -3,16 +3,20 @@ use Prim.Native.Nat.{ℕ, _*_, _≤_}
 use mathlib.Core.Path.{_≡_}
 use mathlib.Core.List.{List, _∷_, _++_}
 use mathlib.Core.Option.{Option}
-use lib.ListN.{length, drop}
+use lib.ListN.{length, take, drop}
 use Rattle.model.specs.Notation.{map}
 use Rattle.model.specs.Limits.{tableWords}
 use Rattle.model.specs.Bytes.{Bytes, linesOf}
 use Rattle.model.specs.State.{State}
-use Rattle.model.specs.Ledger.{Call, edited}
+use Rattle.model.specs.Ledger.{Call, edited, decided}
 use Rattle.model.specs.Gate.{callOf, printed, output}
 use Rattle.engine.specs.Calls.{Together}
 use Rattle.engine.specs.EditSteps.{EditCall}
+use Rattle.engine.specs.declared.Decision.{Decision}
+use Rattle.engine.specs.Decisions.{decisionOf, Decides}
 use Rattle.engine.specs.Runs.{Memory}
+use Rattle.office.specs.declared.answer.Reached.{Reached}
+use Rattle.office.specs.Input.{LineLength}
 use Rattle.office.specs.Output.{PutUpTo, answerBytes, PutShort}
 
 abbrev pub memory : List ℕ → Bytes → List ℕ → Memory
@@ -35,12 +39,23 @@ pub record EditAnswered (line : Bytes) (book words book′ words′ : List ℕ) 
   pub call : EditCall line book words number count words′ book′
   pub answer : PutShort out at (printed (edited number count)) out′ r
 
+-- a request decided, and its answer
+pub record RequestAnswered (block : Bytes) (l : Memory) (out : Bytes) (at : ℕ) (out′ : Bytes) (r : ℕ) : Type 0 where
+  pub decision : Decision
+  pub call : Decides block (l .book) (l .code) (l .words) decision
+  pub answer : PutShort out at (printed (decided (decisionOf decision))) out′ r
+
 -- one command answered
 pub record CommandAnswered (line : Bytes) (before after : Memory) (out : Bytes) (at : ℕ) (out′ : Bytes) (r : ℕ) : Type 0 where
   pub text : Bytes
   pub answer : PutShort out at text out′ r
   pub table-long : length (after .words) ≡ length (before .words)
   pub goes-on : (S : State) (rest : List (Option Call)) → MemoryOf S before → length (before .words) ≡ tableWords → Prints S (callOf line ∷ rest) text rest after
+
+-- the first of some commands answered: where the next begins, and where the output ends
+pub record FirstAnswered (commands : Bytes) (before after : Memory) (out : Bytes) (at : ℕ) (out′ : Bytes) (r : Reached) : Type 0 where
+  pub line : LineLength commands (r .next)
+  pub answered : CommandAnswered (take (r .next) commands) before after out at out′ (r .end)
 
 -- the commands up to a place answered
 pub record AnsweredTo (commands : Bytes) (i : ℕ) (before after : Memory) (out : Bytes) (at : ℕ) (out′ : Bytes) (r : ℕ) : Type 0 where

@@ -5,9 +5,8 @@ ghost use Rattle.model.specs.Limits.{inputBytes};
 ghost use Rattle.model.specs.Ledger.{decided};
 ghost use Rattle.model.specs.Gate.{printed};
 ghost use Rattle.engine.specs.Decisions.{decisionOf};
-ghost use Rattle.office.specs.Command.{Requests};
 ghost use Rattle.office.specs.Output.{answerBytes, PutShort};
-ghost use Rattle.office.specs.Answers.{memory, EditAnswered, CommandAnswered, AnsweredTo};
+ghost use Rattle.office.specs.Answers.{memory, EditAnswered, RequestAnswered, FirstAnswered, AnsweredTo};
 use crate::command::Command;
 use book::BOOK_WORDS;
 use book::RULE_BYTES;
@@ -15,6 +14,12 @@ use engine::Decision;
 
 // The bytes of the longest block that an input has room for.
 const BLOCK_BYTES: usize = 32768;
+
+// Where the next command begins, and where the output ends.
+pub struct Reached {
+    pub next: usize,
+    pub end: usize,
+}
 
 pub fn put_decision(out: &mut [u8], at: usize, decision: Decision) -> usize
     requires { ⌜ at + answerBytes ≤ length (now out) ⌝ }
@@ -42,47 +47,49 @@ pub fn answer_edit(
     crate::output::put_edit(out, at, edited.number, edited.count)
 }
 
-// The hex of the block stands between two places of the line.
 pub fn answer_request(
-    line: &[u8],
-    start: usize,
-    end: usize,
+    block: &[u8],
     book: &[u64; BOOK_WORDS],
     rules: &[u8; RULE_BYTES],
     table: &[u64],
     out: &mut [u8],
     at: usize,
 ) -> usize
-    requires { ⌜ (at + answerBytes ≤ length (now out)) × (start ≤ end) × (end ≤ length (now line)) × (length (now line) ≤ inputBytes) ⌝ }
-    ensures { λ r. ⌜ (Requests (now (line .entry)) start end → CommandAnswered (now (line .entry)) (memory (now (book .entry)) (now (rules .entry)) (now (table .entry))) (memory (now (book .entry)) (now (rules .entry)) (now (table .entry))) (now (out .entry)) at (now (out .exit)) r) ⌝ }
+    requires { ⌜ at + answerBytes ≤ length (now out) ⌝ }
+    ensures { λ r. ⌜ RequestAnswered (now (block .entry)) (memory (now (book .entry)) (now (rules .entry)) (now (table .entry))) (now (out .entry)) at (now (out .exit)) r ⌝ }
 {
-    let mut buffer: [u8; BLOCK_BYTES] = [0; BLOCK_BYTES];
-    let hex = text::unhex(&line[start..end], &mut buffer);
-    if !hex.ok {
-        return crate::output::put_bad(out, at);
-    }
-    let bytes = &buffer[..];
-    let decision = engine::decide(&bytes[..hex.len], book, rules, table);
+    let decision = engine::decide(block, book, rules, table);
     put_decision(out, at, decision)
 }
 
-pub fn answer_line(
-    line: &[u8],
+// Answers the first of some commands. The buffer is room for its block.
+pub fn answer_first(
+    commands: &[u8],
+    block: &mut [u8],
     book: &mut [u64; BOOK_WORDS],
     rules: &[u8; RULE_BYTES],
     table: &mut [u64],
     out: &mut [u8],
     at: usize,
-) -> usize
-    requires { ⌜ (at + answerBytes ≤ length (now out)) × (length (now line) ≤ inputBytes) ⌝ }
-    ensures { λ r. ⌜ CommandAnswered (now (line .entry)) (memory (now (book .entry)) (now (rules .entry)) (now (table .entry))) (memory (now (book .exit)) (now (rules .entry)) (now (table .exit))) (now (out .entry)) at (now (out .exit)) r ⌝ }
+) -> Reached
+    requires { ⌜ (at + answerBytes ≤ length (now out)) × (length (now commands) ≤ 2 * length (now block)) ⌝ }
+    ensures { λ r. ⌜ FirstAnswered (now (commands .entry)) (memory (now (book .entry)) (now (rules .entry)) (now (table .entry))) (memory (now (book .exit)) (now (rules .entry)) (now (table .exit))) (now (out .entry)) at (now (out .exit)) r ⌝ }
 {
-    match crate::command::read(line) {
-        Command::Edit => answer_edit(line, book, table, out, at),
-        Command::Request(start, end) => {
-            answer_request(line, start, end, book, rules, table, out, at)
+    let next = crate::input::line_length(commands);
+    let line = &commands[..next];
+    match crate::command::read(line, block) {
+        Command::Edit => {
+            let end = answer_edit(line, book, table, out, at);
+            Reached { next, end }
         }
-        Command::Neither => crate::output::put_bad(out, at),
+        Command::Request(n) => {
+            let end = answer_request(&block[..n], book, rules, table, out, at);
+            Reached { next, end }
+        }
+        Command::Bad => Reached {
+            next,
+            end: crate::output::put_bad(out, at),
+        },
     }
 }
 
@@ -98,12 +105,13 @@ pub fn answer_commands(
     requires { ⌜ (at + answerBytes * length (now commands) ≤ length (now out)) × (length (now commands) ≤ inputBytes) ⌝ }
     ensures { λ r. ⌜ AnsweredTo (now (commands .entry)) (length (now (commands .entry))) (memory (now (book .entry)) (now (rules .entry)) (now (table .entry))) (memory (now (book .exit)) (now (rules .entry)) (now (table .exit))) (now (out .entry)) at (now (out .exit)) r ⌝ }
 {
+    let mut block: [u8; BLOCK_BYTES] = [0; BLOCK_BYTES];
     let mut i = 0;
     let mut n = at;
     while i < commands.len() {
-        let next = i + crate::input::line_length(&commands[i..]);
-        n = answer_line(&commands[i..next], book, rules, table, out, n);
-        i = next;
+        let reached = answer_first(&commands[i..], &mut block, book, rules, table, out, n);
+        i += reached.next;
+        n = reached.end;
     }
     n
 }

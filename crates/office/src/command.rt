@@ -1,11 +1,13 @@
 // One command: an edit, a request with its block in hex, or neither.
+ghost use Prim.Native.Nat.{_*_, _≤_};
+ghost use lib.ListN.{length};
 ghost use Rattle.office.specs.Command.{Bare, CommandTold};
 
-// The hex of a request stands between two places of the line.
+// A request has the length of its block, whose bytes are in the buffer that was lent to the reader. A line that is neither, bad hex among them, is bad.
 pub enum Command {
     Edit,
-    Request(usize, usize),
-    Neither,
+    Request(usize),
+    Bad,
 }
 
 // The length of a line without its byte 10.
@@ -22,11 +24,13 @@ fn bare_length(line: &[u8]) -> usize
     i
 }
 
-pub fn read(line: &[u8]) -> Command
-    ensures { λ r. ⌜ CommandTold (now (line .entry)) r ⌝ }
+// Reads a line, and the block of a request into a buffer.
+pub fn read(line: &[u8], block: &mut [u8]) -> Command
+    requires { ⌜ length (now line) ≤ 2 * length (now block) ⌝ }
+    ensures { λ r. ⌜ CommandTold (now (line .entry)) (now (block .exit)) r ⌝ }
 {
     if line.len() < 1 {
-        return Command::Neither;
+        return Command::Bad;
     }
     if line[0] == b'+' {
         return Command::Edit;
@@ -36,10 +40,14 @@ pub fn read(line: &[u8]) -> Command
     }
     let end = bare_length(line);
     if end < 4 {
-        return Command::Neither;
+        return Command::Bad;
     }
-    if text::same(&line[..4], b"try=") {
-        return Command::Request(4, end);
+    if !text::same(&line[..4], b"try=") {
+        return Command::Bad;
     }
-    Command::Neither
+    let hex = text::unhex(&line[4..end], block);
+    if !hex.ok {
+        return Command::Bad;
+    }
+    Command::Request(hex.len)
 }

@@ -1,12 +1,26 @@
--- `answer::answer_line` meets its contract, by the kind of command.
-use Rattle.office.specs.Answers.{memory}
-use Rattle.office.proofs.Answering.{told-as, edit-answered, bad-answered}
+-- `answer::answer_first` meets its contract, by the kind of command.
+use mathlib.Core.Path.{sym}
+use native.Mathlib.Omega.{arith}
 use borrow.Author.Needs.{needs}
-use Rattle.office.proofs.answer.answer_line.Statement.{statement}
-use Rattle.office.proofs.answer.answer_line.Tie as tie
+use lib.Seq.{length-take-le}
+use Rattle.office.specs.Answers.{memory}
+use Rattle.office.proofs.Answering.{told-as, edit-answered, request-answered, bad-answered}
+use Rattle.office.proofs.answer.answer_first.Statement.{statement}
+use Rattle.office.proofs.answer.answer_first.Tie as tie
+
+line-length-requires : tie.Need-line-length-requires
+line-length-requires c κs = search needs
+
+slice-aggregate-line : tie.Need-slice-aggregate-line
+slice-aggregate-line c =
+    let l = c .before .line-length in
+    sym (length-take-le (l .result) (c .before .before .before .before .before .before .args .commands .now) (l .ensures .within))
 
 read-requires : tie.Need-read-requires
-read-requires c κs = search needs
+read-requires c κs =
+    let l = c .before .before .line-length in
+    let a = c .before .before .before .before .before .before .before in
+    omega (arith, length-take-le (l .result) (a .args .commands .now) (l .ensures .within), l .ensures .within, a .pre .1)
 
 enum-told : tie.Need-enum-told
 enum-told c = search needs
@@ -14,14 +28,17 @@ enum-told c = search needs
 answer-edit-requires : tie.Need-answer-edit-requires
 answer-edit-requires c κs = search needs
 
-enum-known-start : tie.Need-enum-known-start
-enum-known-start c = search needs
+enum-known-n : tie.Need-enum-known-n
+enum-known-n c = search needs
+
+slice-reshare-prefix-answer-request : tie.Need-slice-reshare-prefix-answer-request
+slice-reshare-prefix-answer-request c = told-as _ _ (c .before .before .before .before .before .read .ensures) (c .before .n .given .1) .0
+
+slice-aggregate-answer-request : tie.Need-slice-aggregate-answer-request
+slice-aggregate-answer-request c = sym (length-take-le _ _ (told-as _ _ (c .before .before .before .before .before .before .read .ensures) (c .before .before .n .given .1) .0))
 
 answer-request-requires : tie.Need-answer-request-requires
-answer-request-requires c κs =
-    let h = c .before .before .before .before .before .before .before .before .before .before in
-    let q = told-as (h .args .line .now) (c .before .before .before .before .before .before .read .ensures) (c .before .before .before .before .start .given .1) in
-    (h .pre .0, q .ordered, q .within, h .pre .1)
+answer-request-requires c κs = search needs
 
 enum-told-2 : tie.Need-enum-told-2
 enum-told-2 c = search needs
@@ -35,48 +52,71 @@ same-length c = search needs
 same-length-2 : tie.Need-same-length-2
 same-length-2 c = search needs
 
-returns : tie.Need-returns
-returns c =
-    let a = c .before .before .before .before .before .before .before .before .before .before .before .before .before .before .args in
-    let t = told-as (a .line .now) (c .before .before .before .before .before .before .before .before .before .before .read .ensures) (c .before .before .before .before .before .before .before .before .enum-told .given .1) in
-    edit-answered (a .line .now) _ _ _ _ (a .rules .now) _ _ _ _ t (c .before .before .before .before .answer-edit .ensures)
-
 same-length-3 : tie.Need-same-length-3
 same-length-3 c = search needs
+
+returns : tie.Need-returns
+returns c =
+    let a = c .before .before .before .before .before .before .before .before .before .before .before .before .before .before .before .before .before .before .before .before .args in
+    record {
+      line = c .before .before .before .before .before .before .before .before .before .before .before .before .before .before .before .line-length .ensures;
+      answered = edit-answered _ _ _ _ _ (a .rules .now) _ _ _ _ (told-as _ _ (c .before .before .before .before .before .before .before .before .before .before .before .before .read .ensures) (c .before .before .before .before .before .before .before .before .enum-told .given .1)) (c .before .before .before .before .answer-edit .ensures);
+    }
 
 same-length-4 : tie.Need-same-length-4
 same-length-4 c = search needs
 
-returns-2 : tie.Need-returns-2
-returns-2 c =
-    let a = c .before .before .before .before .before .before .before .before .before .before .before .before .before .args in
-    c .before .before .answer-request .ensures (told-as (a .line .now) (c .before .before .before .before .before .before .before .before .before .read .ensures) (c .before .before .before .before .before .before .before .start .given .1))
-
 same-length-5 : tie.Need-same-length-5
 same-length-5 c = search needs
 
+same-length-6 : tie.Need-same-length-6
+same-length-6 c = search needs
+
+returns-2 : tie.Need-returns-2
+returns-2 c =
+    let a = c .before .before .before .before .before .before .before .before .before .before .before .before .before .before .before .before .before .before .before .before .args in
+    record {
+      line = c .before .before .before .before .before .before .before .before .before .before .before .before .before .before .before .line-length .ensures;
+      answered = request-answered _ _ (memory (a .book .now) (a .rules .now) (a .table .now)) _ _ _ _ (told-as _ _ (c .before .before .before .before .before .before .before .before .before .before .before .before .read .ensures) (c .before .before .before .before .before .before .before .before .n .given .1) .1) (c .before .before .answer-request .ensures);
+    }
+
+same-length-7 : tie.Need-same-length-7
+same-length-7 c = search needs
+
+same-length-8 : tie.Need-same-length-8
+same-length-8 c = search needs
+
 returns-3 : tie.Need-returns-3
 returns-3 c =
-    let a = c .before .before .before .before .before .before .before .before .before .before .args in
-    let t = told-as (a .line .now) (c .before .before .before .before .before .before .read .ensures) (c .before .before .before .before .enum-told2 .given .1) in
-    bad-answered (a .line .now) (memory (a .book .now) (a .rules .now) (a .table .now)) t (c .before .before .put-bad .ensures)
+    let a = c .before .before .before .before .before .before .before .before .before .before .before .before .before .before .before .before .args in
+    record {
+      line = c .before .before .before .before .before .before .before .before .before .before .before .line-length .ensures;
+      answered = bad-answered _ (memory (a .book .now) (a .rules .now) (a .table .now)) (told-as _ _ (c .before .before .before .before .before .before .before .before .read .ensures) (c .before .before .before .before .enum-told2 .given .1)) (c .before .before .put-bad .ensures);
+    }
 
-pub answer-line-spec : {M : Type 1} → statement M
-answer-line-spec =
+pub answer-first-spec : {M : Type 1} → statement M
+answer-first-spec =
     tie.close
     (tie.spec
+    line-length-requires
+    slice-aggregate-line
     read-requires
     enum-told
     answer-edit-requires
-    enum-known-start
+    enum-known-n
+    slice-reshare-prefix-answer-request
+    slice-aggregate-answer-request
     answer-request-requires
     enum-told-2
     put-bad-requires
     same-length
     same-length-2
-    returns
     same-length-3
+    returns
     same-length-4
-    returns-2
     same-length-5
+    same-length-6
+    returns-2
+    same-length-7
+    same-length-8
     returns-3)

@@ -1,9 +1,10 @@
 -- `command::read` meets its contract.
 use mathlib.Core.Path.{sym, _∙_}
 use native.Mathlib.Omega.{arith}
-use lib.Seq.{length-take-le}
-use Rattle.office.proofs.Commands.{no-bytes, plus-call, minus-call, too-short, not-try, a-try}
 use borrow.Author.Needs.{needs}
+use borrow.Author.Tests.{not-true, not-false}
+use lib.Seq.{length-take-le}
+use Rattle.office.proofs.Commands.{Requests, no-bytes, plus-call, minus-call, too-short, not-try, a-try, request-read, request-bad}
 use Rattle.office.proofs.command.read.Statement.{statement}
 use Rattle.office.proofs.command.read.Tie as tie
 
@@ -14,13 +15,13 @@ shared-slice-read-if2 : tie.Need-shared-slice-read-if2
 shared-slice-read-if2 c = search needs
 
 returns-2 : tie.Need-returns-2
-returns-2 c = plus-call (c .before .before .before .before .args .line .now) (omega arith) (c .if2 .taken)
+returns-2 c = plus-call (c .before .before .before .before .before .args .line .now) (omega arith) (c .if2 .taken)
 
 shared-slice-read-if3 : tie.Need-shared-slice-read-if3
 shared-slice-read-if3 c = search needs
 
 returns-3 : tie.Need-returns-3
-returns-3 c = minus-call (c .before .before .before .before .before .before .args .line .now) (omega arith) (c .if3 .taken)
+returns-3 c = minus-call (c .before .before .before .before .before .before .before .args .line .now) (omega arith) (c .if3 .taken)
 
 bare-length-requires : tie.Need-bare-length-requires
 bare-length-requires c κs = search needs
@@ -28,10 +29,10 @@ bare-length-requires c κs = search needs
 returns-4 : tie.Need-returns-4
 returns-4 c =
     let m = c .before .bare-length in
-    too-short (c .before .before .before .before .before .before .before .before .args .line .now) (omega arith) (c .before .before .before .before .if2 .left) (c .before .before .if3 .left) (m .result) (m .ensures) (c .if4 .taken)
+    too-short (c .before .before .before .before .before .before .before .before .before .args .line .now) (omega arith) (c .before .before .before .before .if2 .left) (c .before .before .if3 .left) (m .result) (m .ensures) (c .if4 .taken)
 
 slice-aggregate-same : tie.Need-slice-aggregate-same
-slice-aggregate-same c = sym (length-take-le 4 (c .before .before .before .before .before .before .before .before .before .args .line .now) (omega (arith, c .before .before .bare-length .ensures .within)))
+slice-aggregate-same c = sym (length-take-le 4 (c .before .before .before .before .before .before .before .before .before .before .args .line .now) (omega (arith, c .before .before .bare-length .ensures .within)))
 
 slice-aggregate-same-2 : tie.Need-slice-aggregate-same-2
 slice-aggregate-same-2 c = search needs
@@ -42,14 +43,40 @@ same-requires c κs = search needs
 returns-5 : tie.Need-returns-5
 returns-5 c =
     let m = c .before .before .before .before .before .bare-length in
-    a-try (c .before .before .before .before .before .before .before .before .before .before .before .before .args .line .now) (omega arith) (c .before .before .before .before .before .before .before .before .if2 .left) (c .before .before .before .before .before .before .if3 .left) (m .result) (m .ensures) (omega arith)
-    (sym (c .before .same .ensures) ∙ c .if5 .taken)
+    not-try (c .before .before .before .before .before .before .before .before .before .before .before .before .before .args .line .now) (omega arith) (c .before .before .before .before .before .before .before .before .if2 .left) (c .before .before .before .before .before .before .if3 .left) (m .result) (m .ensures) (omega arith)
+    (sym (c .before .same .ensures) ∙ not-true (c .before .same .result) (c .if5 .taken))
+
+part-unhex-start : tie.Need-part-unhex-start
+part-unhex-start c = search needs
+
+part-unhex-end : tie.Need-part-unhex-end
+part-unhex-end c = search needs
+
+unhex-requires : tie.Need-unhex-requires
+unhex-requires c κs = search needs
+
+same-length : tie.Need-same-length
+same-length c = search needs
+
+-- `try=` stands at the front
+a-request : (c : tie.After-unhex) → Requests (c .before .before .before .before .before .before .before .before .before .before .before .before .before .before .before .before .args .line .now) 4 (c .before .before .before .before .before .before .before .before .bare-length .result)
+a-request c =
+    let m = c .before .before .before .before .before .before .before .before .bare-length in
+    a-try (c .before .before .before .before .before .before .before .before .before .before .before .before .before .before .before .before .args .line .now) (omega arith) (c .before .before .before .before .before .before .before .before .before .before .before .if2 .left) (c .before .before .before .before .before .before .before .before .before .if3 .left) (m .result) (m .ensures) (omega arith)
+    (sym (c .before .before .before .before .same .ensures) ∙ not-false (c .before .before .before .before .same .result) (c .before .before .before .if5 .left))
 
 returns-6 : tie.Need-returns-6
 returns-6 c =
-    let m = c .before .before .before .before .before .bare-length in
-    not-try (c .before .before .before .before .before .before .before .before .before .before .before .before .args .line .now) (omega arith) (c .before .before .before .before .before .before .before .before .if2 .left) (c .before .before .before .before .before .before .if3 .left) (m .result) (m .ensures) (omega arith)
-    (sym (c .before .same .ensures) ∙ c .if5 .left)
+    let u = c .before .before .before .before .unhex in
+    request-bad _ 4 _ (a-request (c .before .before .before .before)) _ _ (u .result) (u .ensures) (not-true (u .result .ok) (c .if6 .taken))
+
+same-length-2 : tie.Need-same-length-2
+same-length-2 c = search needs
+
+returns-7 : tie.Need-returns-7
+returns-7 c =
+    let u = c .before .before .before .before .unhex in
+    request-read _ 4 _ (a-request (c .before .before .before .before)) _ _ (u .result) (u .ensures) (not-false (u .result .ok) (c .if6 .left))
 
 pub read-spec : {M : Type 1} → statement M
 read-spec =
@@ -66,4 +93,10 @@ read-spec =
     slice-aggregate-same-2
     same-requires
     returns-5
-    returns-6)
+    part-unhex-start
+    part-unhex-end
+    unhex-requires
+    same-length
+    returns-6
+    same-length-2
+    returns-7)
