@@ -25,12 +25,12 @@ use Rattle.codes.specs.Codes.{sourceCode, typeCode}
 use Rattle.text.specs.declared.Packed.{Packed}
 use Rattle.text.specs.Packing.{packedOf}
 use Rattle.bits.specs.Bits.{bit}
-use Rattle.rows.specs.Rows.{AttributeRow, AttributeRows, pairOf, masked, Numbered}
+use Rattle.rows.specs.Rows.{AttributeRow, AttributeRows, isPairOf, masked, Numbered}
 use Rattle.index.specs.Index.{Row, Indexed, putRow}
 use Rattle.index.proofs.Adding.{put-0, put-1, put-2, put-3, put-other}
 use Rattle.index.proofs.Listed.{indexed-same}
 use Rattle.book.specs.Sections as section
-use Rattle.book.specs.Sections.{Section, part}
+use Rattle.book.specs.Sections.{Section, sectionWords}
 use Rattle.book.specs.Held.{CountsOf, OperationRows, SortRows, RuleRows, Holds, pairRow, holderRow}
 use Rattle.book.specs.Declaring.{attributePlace, blockText, attributePut, AttributeStep}
 use Rattle.book.proofs.Writes.{apart, word-beside, word-inside, section-long, section-word, word-at}
@@ -41,7 +41,7 @@ use Rattle.book.proofs.DeclarationTests.{refused-9, refused-10, refused
 
 -- four words of a section, from its word i on
 row-beside : (s t : Section) (book : List ℕ) (place : ℕ) (w : Row) → apart s t ≡ true → t .start ≤ place → place + 3 < t .start + t .size
-    → part s (putRow book place w) ≡ part s book
+    → sectionWords s (putRow book place w) ≡ sectionWords s book
 unfolding putRow
 row-beside s t book place w beside h l =
     word-beside s t (set (set (set book place (w .0)) (place + 1) (w .1)) (place + 2) (w .2)) beside (place + 3) (w .3) (omega arith) (omega arith)
@@ -49,7 +49,7 @@ row-beside s t book place w beside h l =
     ∙ word-beside s t (set book place (w .0)) beside (place + 1) (w .1) (omega arith) (omega arith)
     ∙ word-beside s t book beside place (w .0) (omega arith) (omega arith)
 
-row-inside : (s : Section) (book : List ℕ) (i : ℕ) (w : Row) → i + 3 < s .size → part s (putRow book (s .start + i) w) ≡ putRow (part s book) i w
+row-inside : (s : Section) (book : List ℕ) (i : ℕ) (w : Row) → i + 3 < s .size → sectionWords s (putRow book (s .start + i) w) ≡ putRow (sectionWords s book) i w
 unfolding putRow
 row-inside s book i w h =
     step (set (set (set book (s .start + i) (w .0)) (s .start + i + 1) (w .1)) (s .start + i + 2) (w .2)) 3 (w .3) (omega arith)
@@ -59,28 +59,28 @@ row-inside s book i w h =
     (step (set book (s .start + i) (w .0)) 1 (w .1) (omega arith)
     ∙ ap (λ (l : List ℕ). set l (i + 1) (w .1)) (word-inside s book i (w .0) (omega arith))))
   where
-    step : (b : List ℕ) (t v : ℕ) → t < 4 → part s (set b (s .start + i + t) v) ≡ set (part s b) (i + t) v
+    step : (b : List ℕ) (t v : ℕ) → t < 4 → sectionWords s (set b (s .start + i + t) v) ≡ set (sectionWords s b) (i + t) v
     step b t v l =
         let e : s .start + i + t ≡ s .start + (i + t) = omega arith in
-        ap (λ (j : ℕ). part s (set b j v)) e ∙ word-inside s b (i + t) v (omega arith)
+        ap (λ (j : ℕ). sectionWords s (set b j v)) e ∙ word-inside s b (i + t) v (omega arith)
 
 module _ (book : List ℕ) (k source kind low high : ℕ) (few : k < attributeLimit) where
   abbrev written : List ℕ
   written = putRow book (attributePlace k) (source, kind, low, high)
 
-  put-beside : (s : Section) → apart s section.attributes ≡ true → apart s section.counts ≡ true → part s (attributePut book k source kind low high) ≡ part s book
+  put-beside : (s : Section) → apart s section.attributes ≡ true → apart s section.counts ≡ true → sectionWords s (attributePut book k source kind low high) ≡ sectionWords s book
   unfolding attributePut
   put-beside s a b =
       word-beside s section.counts written b 0 (k + 1) (omega arith) (omega arith)
       ∙ row-beside s section.attributes book (attributePlace k) (source, kind, low, high) a (omega arith) (omega arith)
 
-  put-rows : part section.attributes (attributePut book k source kind low high) ≡ putRow (part section.attributes book) (8 * k) (source, kind, low, high)
+  put-rows : sectionWords section.attributes (attributePut book k source kind low high) ≡ putRow (sectionWords section.attributes book) (8 * k) (source, kind, low, high)
   unfolding attributePut
   put-rows =
       word-beside section.attributes section.counts written refl 0 (k + 1) (omega arith) (omega arith)
       ∙ row-inside section.attributes book (8 * k) (source, kind, low, high) (omega arith)
 
-  put-count : part section.counts (attributePut book k source kind low high) ≡ set (part section.counts book) 0 (k + 1)
+  put-count : sectionWords section.counts (attributePut book k source kind low high) ≡ set (sectionWords section.counts book) 0 (k + 1)
   unfolding attributePut
   put-count =
       word-inside section.counts written 0 (k + 1) (omega arith)
@@ -103,11 +103,11 @@ module _ (D : Declarations) (a : Attribute) where
 
   -- pairs are those of the attributes that they were
   module _ (well : WellDeclared D) where
-    same-pairs : (i p : ℕ) → pairOf (withAttribute a D) i p ≡ pairOf D i p
-    unfolding pairOf
+    same-pairs : (i p : ℕ) → isPairOf (withAttribute a D) i p ≡ isPairOf D i p
+    unfolding isPairOf
     same-pairs i p = go (nth (D .pairs) p) refl
       where
-        go : (o : Option Pair) → nth (D .pairs) p ≡ o → pairOf (withAttribute a D) i p ≡ pairOf D i p
+        go : (o : Option Pair) → nth (D .pairs) p ≡ o → isPairOf (withAttribute a D) i p ≡ isPairOf D i p
         go none e = rw e
         go (some q) e = let d = pair-declared well p q e in rw (e, d .number-is, stay (q .source) (q .name) (d .number) (d .number-is))
 
@@ -184,16 +184,16 @@ attribute-held book code S s n t k held well at few =
       code-long = held .code-long;
       counts =
           subst (λ (w : List ℕ). CountsOf w E) (sym (put-count book k (sourceCode s) (typeCode t) low high few))
-          (counts-more D a (part section.counts book) k (omega (arith, section-long section.counts book (omega arith))) at (held .counts));
+          (counts-more D a (sectionWords section.counts book) k (omega (arith, section-long section.counts book (omega arith))) at (held .counts));
       attributes =
           subst (λ (w : List ℕ). AttributeRows w E) (sym (put-rows book k (sourceCode s) (typeCode t) low high few))
-          (rows-more D a well (part section.attributes book) k (section-long section.attributes book (omega arith)) at few (held .attributes));
+          (rows-more D a well (sectionWords section.attributes book) k (section-long section.attributes book (omega arith)) at few (held .attributes));
       operations = subst (λ (w : List ℕ). OperationRows w (E .operations)) (sym (beside section.operations refl refl)) (held .operations);
       pairs =
           subst (λ (w : List ℕ). Indexed w pairLimit (pairRow E)) (sym (beside section.pairs refl refl))
           (indexed-same (pairRow D) (pairRow E) (same-pair-rows D a well) (held .pairs));
       holders = subst (λ (w : List ℕ). Indexed w holderNumbers (holderRow (E .holders))) (sym (beside section.holders refl refl)) (held .holders);
-      sorts = subst (λ (w : List ℕ). SortRows w E) (sym (beside section.sorts refl refl)) (sorts-kept D E refl (part section.sorts book) (held .sorts));
+      sorts = subst (λ (w : List ℕ). SortRows w E) (sym (beside section.sorts refl refl)) (sorts-kept D E refl (sectionWords section.sorts book) (held .sorts));
       groups = rw (beside section.slots refl refl, beside section.seats refl refl) (groups-kept D E refl _ _ (held .groups));
       ties = rw (beside section.ups refl refl, beside section.own refl refl, beside section.slots refl refl) (held .ties);
       rules =
@@ -225,7 +225,7 @@ module _ (book : List ℕ) (source kind low high : ℕ) where
   attribute-sorted b g on code s n t name from type words S standing held =
       (refused-9 S (attr s n t) refl refl refl (sorted s t b from type g ∙ on), λ z. absurd (omega arith))
 
-  module _ (b : Bool) (g : b ≡ blockText source kind) (off : b ≡ false) (k : ℕ) (found : Numbered (part section.attributes book) source low high k) where
+  module _ (b : Bool) (g : b ≡ blockText source kind) (off : b ≡ false) (k : ℕ) (found : Numbered (sectionWords section.attributes book) source low high k) where
     pub attribute-repeated : (k ≡ attributeLimit → ⊥) → AttributeStep book source kind low high book 10
     attribute-repeated other code s n t name from type words S standing held =
         let e = found .number (S .declared) (standing .declarations) (held .attributes) s n name from words in (

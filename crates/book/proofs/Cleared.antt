@@ -15,13 +15,13 @@ use Rattle.model.proofs.WordTables.{none-is-some}
 use Rattle.text.specs.Packing.{packedOf}
 use Rattle.bits.specs.Bits.{bit}
 use Rattle.bits.proofs.Bits.{bit-none}
-use Rattle.rows.specs.Rows.{pairOf, masked}
+use Rattle.rows.specs.Rows.{isPairOf, masked}
 use Rattle.index.specs.Index.{Indexed, Rows}
 use Rattle.index.proofs.IndexParts.{empty-indexed}
 use Rattle.index.proofs.Listed.{indexed-same}
 use Rattle.ties.proofs.Editing.{keeps-none}
 use Rattle.book.specs.Sections as section
-use Rattle.book.specs.Sections.{Section, part, bookWords, ruleBytes}
+use Rattle.book.specs.Sections.{Section, sectionWords, bookWords, ruleBytes}
 use Rattle.book.specs.Held.{Holds, pairRow, holderRow, sortCode}
 use Rattle.book.specs.Declaring.{holderPut, Emptied}
 use Rattle.book.proofs.Writes.{section-long, section-word}
@@ -49,15 +49,15 @@ abbrev nobody : Declarations
 nobody = record { attributes = []; operations = []; pairs = []; holders = []; rules = [] }
 
 module _ (book : List ℕ) (long : length book ≡ bookWords) (zeros : (i : ℕ) → getD book i 0 ≡ 0) where
-  zero-part : (s : Section) → s .start + s .size ≤ length book → (i : ℕ) → getD (part s book) i 0 ≡ 0
+  zero-part : (s : Section) → s .start + s .size ≤ length book → (i : ℕ) → getD (sectionWords s book) i 0 ≡ 0
   zero-part s fits i = go (decLt i (s .size))
     where
-      go : Dec (i < s .size) → getD (part s book) i 0 ≡ 0
+      go : Dec (i < s .size) → getD (sectionWords s book) i 0 ≡ 0
       go (yes l) = section-word s book i l ∙ zeros (s .start + i)
-      go (no l) = List·getD-eq-default (part s book) 0 {n = i} (omega (arith, section-long s book fits))
+      go (no l) = List·getD-eq-default (sectionWords s book) 0 {n = i} (omega (arith, section-long s book fits))
 
   zeros-held : (code : Bytes) → length code ≡ ruleBytes → Holds book code (record { declared = nobody; ties = noTies })
-  unfolding holderNumbersOf groups sortOf masked pairOf
+  unfolding holderNumbersOf groups sortOf masked isPairOf
   zeros-held code code-long =
       let word = zero-part in
       record {
@@ -91,14 +91,14 @@ module _ (book : List ℕ) (long : length book ≡ bookWords) (zeros : (i : ℕ)
               free = λ q l m. zero-part section.slots (omega arith) q;
             };
         ties =
-            keeps-none (part section.ups book) (part section.own book) (part section.slots book) (zero-part section.ups (omega arith))
+            keeps-none (sectionWords section.ups book) (sectionWords section.own book) (sectionWords section.slots book) (zero-part section.ups (omega arith))
             (zero-part section.own (omega arith)) (zero-part section.slots (omega arith));
         rules = λ i r e. none-is-some e;
       }
     where
-      indexed : (rows : Rows) → ((k : ℕ) → none ≡ rows k) → (s : Section) → s .start + s .size ≤ length book → s .size ≡ 1536 → Indexed (part s book) 256 rows
+      indexed : (rows : Rows) → ((k : ℕ) → none ≡ rows k) → (s : Section) → s .start + s .size ≤ length book → s .size ≡ 1536 → Indexed (sectionWords s book) 256 rows
       indexed rows same s fits e =
-          indexed-same (λ _. none) rows same (empty-indexed (part s book) 256 (section-long s book fits ∙ e) (λ i l. zero-part s fits i))
+          indexed-same (λ _. none) rows same (empty-indexed (sectionWords s book) 256 (section-long s book fits ∙ e) (λ i l. zero-part s fits i))
 
   -- with holder 0
   pub emptied : (next : List ℕ) → next ≡ holderPut book 0 (sortCode Sort.admin) (packedOf (bytes "admin") .low) (packedOf (bytes "admin") .high) → Emptied next

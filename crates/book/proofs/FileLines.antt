@@ -22,7 +22,7 @@ use Rattle.codes.specs.Codes.{coded, keyCode}
 use Rattle.codes.proofs.Codes.{key-injective}
 use Rattle.fields.specs.declared.Framed.{Framed}
 use Rattle.fields.specs.Told.{numbersOr}
-use Rattle.fields.specs.Frames.{part, noFrame, frameNumbers, FrameTold}
+use Rattle.fields.specs.Frames.{bytesBetween, noFrame, frameNumbers, FrameTold}
 use Rattle.book.specs.Held.{Holds}
 use Rattle.book.specs.LineSteps.{fieldsRefusal, FieldsRead, KeyRead, TwoRead, HolderRead, KeyFields, FieldsOf, LineRead}
 
@@ -31,18 +31,18 @@ use Rattle.book.specs.LineSteps.{fieldsRefusal, FieldsRead, KeyRead, Two
 pub not-framed : (line : Bytes) (r : Framed) → FrameTold line r → r .key ≡ 0 → framed line ≡ none
 not-framed line r told e = go (told .frame .parts) (told .frame .read) (told .frame .told)
   where
-    go : (o : Option (Key × ℕ × ℕ)) → framed line ≡ (o >>= λ (k, start, end). some (k, part line start end)) → r ≡ numbersOr noFrame frameNumbers o → framed line ≡ none
+    go : (o : Option (Key × ℕ × ℕ)) → framed line ≡ (o >>= λ (k, start, end). some (k, bytesBetween line start end)) → r ≡ numbersOr noFrame frameNumbers o → framed line ≡ none
     go none f g = f
     go (some (k, start, end)) f g = absurd (omega (arith, ap (λ (x : Framed). x .key) g, e))
 
-pub is-framed : (line : Bytes) (r : Framed) → FrameTold line r → (r .key ≡ 0 → ⊥) → (k : Key) × (r .key ≡ keyCode k) × (framed line ≡ some (k, part line (r .start) (r .end)))
+pub is-framed : (line : Bytes) (r : Framed) → FrameTold line r → (r .key ≡ 0 → ⊥) → (k : Key) × (r .key ≡ keyCode k) × (framed line ≡ some (k, bytesBetween line (r .start) (r .end)))
 is-framed line r told other = go (told .frame .parts) (told .frame .read) (told .frame .told)
   where
-    go : (o : Option (Key × ℕ × ℕ)) → framed line ≡ (o >>= λ (k, start, end). some (k, part line start end)) → r ≡ numbersOr noFrame frameNumbers o
-        → (k : Key) × (r .key ≡ keyCode k) × (framed line ≡ some (k, part line (r .start) (r .end)))
+    go : (o : Option (Key × ℕ × ℕ)) → framed line ≡ (o >>= λ (k, start, end). some (k, bytesBetween line start end)) → r ≡ numbersOr noFrame frameNumbers o
+        → (k : Key) × (r .key ≡ keyCode k) × (framed line ≡ some (k, bytesBetween line (r .start) (r .end)))
     go none f g = absurd (other (ap (λ (x : Framed). x .key) g))
     go (some (k, start, end)) f g =
-        (k, ap (λ (x : Framed). x .key) g, f ∙ ap (λ (x : Framed). some (k, part line (x .start) (x .end))) (sym g))
+        (k, ap (λ (x : Framed). x .key) g, f ∙ ap (λ (x : Framed). some (k, bytesBetween line (x .start) (x .end))) (sym g))
 
 pub fields-short : (line : Bytes) (k : Key) (f : Bytes) → framed line ≡ some (k, f) → length f ≤ lineBytes
 fields-short line k f e =
@@ -101,17 +101,17 @@ module _ (book : List ℕ) (code line : Bytes) (previous : ℕ) (r : Framed) (to
     pub line-early : (book′ : List ℕ) (code′ : Bytes) (key : ℕ) → r .key < previous → LineRead book code line previous book′ code′ 5 key
     line-early book′ code′ key l S standing held p at =
         let (k, n, e) = is-framed line r told there in
-        (sym (by-frame S p line (some (k, part line (r .start) (r .end))) e ∙ rw (is-before k p (r .key) previous n at l)), λ z. absurd (omega arith))
+        (sym (by-frame S p line (some (k, bytesBetween line (r .start) (r .end))) e ∙ rw (is-before k p (r .key) previous n at l)), λ z. absurd (omega arith))
 
-    pub line-fields : length (part line (r .start) (r .end)) ≤ lineBytes
-    line-fields = let (k, n, e) = is-framed line r told there in fields-short line k (part line (r .start) (r .end)) e
+    pub line-fields : length (bytesBetween line (r .start) (r .end)) ≤ lineBytes
+    line-fields = let (k, n, e) = is-framed line r told there in fields-short line k (bytesBetween line (r .start) (r .end)) e
 
-    pub line-stepped : previous ≤ r .key → (book′ : List ℕ) (code′ : Bytes) (number : ℕ) → FieldsOf book code (r .key) (part line (r .start) (r .end)) book′ code′ number
+    pub line-stepped : previous ≤ r .key → (book′ : List ℕ) (code′ : Bytes) (number : ℕ) → FieldsOf book code (r .key) (bytesBetween line (r .start) (r .end)) book′ code′ number
         → LineRead book code line previous book′ code′ number (r .key)
     unfolding readLine
     line-stepped l book′ code′ number step S standing held p at =
         let (k, n, e) = is-framed line r told there in
-        let f = part line (r .start) (r .end) in
+        let f = bytesBetween line (r .start) (r .end) in
         let (is-number, holds) = step k n S standing held in
         let tests = by-frame S p line (some (k, f)) e ∙ behind-order S (p is λ q. ltb (rank k) (rank q)) (readFields k f) (not-before k p (r .key) previous n at l) in
         let read : readLine line ≡ readFields k f = ap (λ (c : Option (Key × Bytes)). c >>= λ (key, fields). readFields key fields) e in (

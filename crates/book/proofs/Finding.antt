@@ -24,7 +24,7 @@ use Rattle.model.proofs.Lists.{same-truth, all-parts, nth-lt, lt-nth}
 use Rattle.model.proofs.Declared.{same-sym, named-eq, eq-named, pair-declared}
 use Rattle.text.specs.declared.Packed.{Packed}
 use Rattle.text.specs.declared.Words.{Words}
-use Rattle.text.specs.Packing.{packedOf, wordsOf, solid}
+use Rattle.text.specs.Packing.{packedOf, twoWords, solid}
 use Rattle.text.specs.Values.{atomWords}
 use Rattle.text.proofs.Packing.{name-same, name-solid, solid-range}
 use Rattle.text.proofs.Values.{words-injective, same-atom-eq, same-atom-refl}
@@ -46,7 +46,7 @@ number-or n r o h e = go (eq-or-lt-of-le h)
 
 -- two names with the same words are the same
 packed-name : (m n : Bytes) → isName m ≡ true → isName n ≡ true → packedOf m .low ≡ packedOf n .low → packedOf m .high ≡ packedOf n .high → same m n ≡ true
-packed-name m n e f low high = sym (name-same m n e f) ∙ rw (low, high) (same-refl (wordsOf (packedOf n)))
+packed-name m n e f low high = sym (name-same m n e f) ∙ rw (low, high) (same-refl (twoWords (packedOf n)))
 
 -- the first word of a name is not 0
 pub name-word : (n : Bytes) → isName n ≡ true → packedOf n .low ≡ 0 → ⊥

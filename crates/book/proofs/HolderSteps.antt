@@ -20,7 +20,7 @@ use Rattle.model.proofs.Lists.{nth-lt, length-below}
 use Rattle.text.specs.declared.Packed.{Packed}
 use Rattle.text.specs.Packing.{packedOf}
 use Rattle.book.specs.Sections as section
-use Rattle.book.specs.Sections.{part}
+use Rattle.book.specs.Sections.{sectionWords}
 use Rattle.book.specs.Held.{Holds, sortCode}
 use Rattle.book.specs.Finding.{HolderFound}
 use Rattle.book.specs.Declaring.{holderPut, groupPut, HolderStep}
@@ -36,7 +36,7 @@ group-code Sort.ogroup e = refl
 group-code Sort.user e = refl
 group-code Sort.object e = refl
 
-module _ (book : List ℕ) (key low high k : ℕ) (found : HolderFound (part section.holders book) low high k) where
+module _ (book : List ℕ) (key low high k : ℕ) (found : HolderFound (sectionWords section.holders book) low high k) where
   pub holder-repeated : (k ≡ holderNumbers → ⊥) → HolderStep book key low high book 10
   holder-repeated other code s n sort name from words S standing held =
       let e = found (S .declared) (standing .declarations) (held .holders) n name words in

@@ -19,14 +19,14 @@ use Rattle.model.proofs.Options.{bind-some}
 use Rattle.model.proofs.Lists.{nth-lt, length-below, count-last}
 use Rattle.codes.specs.Codes.{coded}
 use Rattle.text.specs.Packing.{packedOf}
-use Rattle.rows.specs.Rows.{AttributeRows, pairOf}
-use Rattle.index.specs.Index.{Row, Indexed, Added, added, rowsIn, withRow}
+use Rattle.rows.specs.Rows.{AttributeRows, isPairOf}
+use Rattle.index.specs.Index.{Row, Indexed, Added, rowAdded, rowsIn, withRow}
 use Rattle.index.proofs.Adding.{added-length, added-indexed}
 use Rattle.index.proofs.Listed.{listed-more, listed-fresh}
 use Rattle.ties.specs.TieArrays.{inUse, KeepsTies}
 use Rattle.ties.proofs.Editing.{slot-given}
 use Rattle.book.specs.Sections as section
-use Rattle.book.specs.Sections.{Section, part, bookWords}
+use Rattle.book.specs.Sections.{Section, sectionWords, bookWords}
 use Rattle.book.specs.Held.{CountsOf, OperationRows, SortRows, GroupSlots, RuleRows, Holds, pairRow, holderRow, sortCode}
 use Rattle.book.specs.Declaring.{withSection, holderPut, groupPut}
 use Rattle.book.proofs.Writes.{apart, word-beside, word-inside, section-beside, section-inside, section-long, section-same-length, word-at}
@@ -39,7 +39,7 @@ rowOfName low high = (1, low, high, 0)
 
 module _ (book : List ℕ) (n sort low high : ℕ) (long : length book ≡ bookWords) (few : n < holderNumbers) where
   abbrev row : List ℕ
-  row = added (part section.holders book) holderNumbers n (rowOfName low high)
+  row = rowAdded (sectionWords section.holders book) holderNumbers n (rowOfName low high)
 
   abbrev h1 : List ℕ
   h1 = withSection section.holders book row
@@ -48,31 +48,31 @@ module _ (book : List ℕ) (n sort low high : ℕ) (long : length book ≡ bookW
   h2 = set h1 (section.sorts .start + n) sort
 
   row-long : length row ≡ section.holders .size
-  row-long = added-length (part section.holders book) holderNumbers n (rowOfName low high) ∙ section-long section.holders book (omega arith)
+  row-long = added-length (sectionWords section.holders book) holderNumbers n (rowOfName low high) ∙ section-long section.holders book (omega arith)
 
   holder-beside : (s : Section) → apart s section.holders ≡ true → apart s section.sorts ≡ true → apart s section.counts ≡ true
-      → part s (holderPut book n sort low high) ≡ part s book
+      → sectionWords s (holderPut book n sort low high) ≡ sectionWords s book
   unfolding holderPut
   holder-beside s a b c =
       word-beside s section.counts h2 c 3 (n + 1) (omega arith) (omega arith)
       ∙ word-beside s section.sorts h1 b (section.sorts .start + n) sort (omega arith) (omega arith)
       ∙ section-beside s section.holders book a row (omega arith) row-long
 
-  holder-row : part section.holders (holderPut book n sort low high) ≡ row
+  holder-row : sectionWords section.holders (holderPut book n sort low high) ≡ row
   unfolding holderPut
   holder-row =
       word-beside section.holders section.counts h2 refl 3 (n + 1) (omega arith) (omega arith)
       ∙ word-beside section.holders section.sorts h1 refl (section.sorts .start + n) sort (omega arith) (omega arith)
       ∙ section-inside section.holders book row (omega arith) row-long
 
-  holder-sort : part section.sorts (holderPut book n sort low high) ≡ set (part section.sorts book) n sort
+  holder-sort : sectionWords section.sorts (holderPut book n sort low high) ≡ set (sectionWords section.sorts book) n sort
   unfolding holderPut
   holder-sort =
       word-beside section.sorts section.counts h2 refl 3 (n + 1) (omega arith) (omega arith)
       ∙ word-inside section.sorts h1 n sort (omega arith)
       ∙ ap (λ (l : List ℕ). set l n sort) (section-beside section.sorts section.holders book refl row (omega arith) row-long)
 
-  holder-count : part section.counts (holderPut book n sort low high) ≡ set (part section.counts book) 3 (n + 1)
+  holder-count : sectionWords section.counts (holderPut book n sort low high) ≡ set (sectionWords section.counts book) 3 (n + 1)
   unfolding holderPut
   holder-count =
       word-inside section.counts h2 3 (n + 1) (omega arith)
@@ -89,12 +89,12 @@ module _ (book : List ℕ) (n sort low high : ℕ) (long : length book ≡ bookW
   holder-same-length next e = ap length e ∙ holder-long
 
   -- what the code writes
-  module _ (t : List ℕ) (adds : Added (part section.holders book) t n (rowOfName low high)) where
+  module _ (t : List ℕ) (adds : Added (sectionWords section.holders book) t n (rowOfName low high)) where
     pub wrote-row : t ≡ row
     wrote-row =
         let e = section-long section.holders book (omega arith) in
-        let m : rowsIn (length (part section.holders book)) ≡ holderNumbers = omega arith in
-        adds .words ∙ ap (λ (j : ℕ). added (part section.holders book) j n (rowOfName low high)) m
+        let m : rowsIn (length (sectionWords section.holders book)) ≡ holderNumbers = omega arith in
+        adds .words ∙ ap (λ (j : ℕ). rowAdded (sectionWords section.holders book) j n (rowOfName low high)) m
 
     pub wrote-holder : set (set (withSection section.holders book t) (section.sorts .start + n) sort) 3 (n + 1) ≡ holderPut book n sort low high
     unfolding holderPut
@@ -108,7 +108,7 @@ module _ (book : List ℕ) (n sort low high : ℕ) (long : length book ≡ bookW
 
 module _ (book : List ℕ) (n g : ℕ) (long : length book ≡ bookWords) (few : n < holderNumbers) (low : g < groupLimit) where
   abbrev slots : List ℕ
-  slots = set (part section.slots book) g n
+  slots = set (sectionWords section.slots book) g n
 
   abbrev g1 : List ℕ
   g1 = withSection section.slots book slots
@@ -117,31 +117,31 @@ module _ (book : List ℕ) (n g : ℕ) (long : length book ≡ bookWords) (few :
   g2 = set g1 (section.seats .start + n) (g + 1)
 
   slots-long : length slots ≡ section.slots .size
-  slots-long = length-set (part section.slots book) g n ∙ section-long section.slots book (omega arith)
+  slots-long = length-set (sectionWords section.slots book) g n ∙ section-long section.slots book (omega arith)
 
   group-beside : (s : Section) → apart s section.slots ≡ true → apart s section.seats ≡ true → apart s section.counts ≡ true
-      → part s (groupPut book n g) ≡ part s book
+      → sectionWords s (groupPut book n g) ≡ sectionWords s book
   unfolding groupPut
   group-beside s a b c =
       word-beside s section.counts g2 c 4 (g + 1) (omega arith) (omega arith)
       ∙ word-beside s section.seats g1 b (section.seats .start + n) (g + 1) (omega arith) (omega arith)
       ∙ section-beside s section.slots book a slots (omega arith) slots-long
 
-  group-slots : part section.slots (groupPut book n g) ≡ set (part section.slots book) g n
+  group-slots : sectionWords section.slots (groupPut book n g) ≡ set (sectionWords section.slots book) g n
   unfolding groupPut
   group-slots =
       word-beside section.slots section.counts g2 refl 4 (g + 1) (omega arith) (omega arith)
       ∙ word-beside section.slots section.seats g1 refl (section.seats .start + n) (g + 1) (omega arith) (omega arith)
       ∙ section-inside section.slots book slots (omega arith) slots-long
 
-  group-seats : part section.seats (groupPut book n g) ≡ set (part section.seats book) n (g + 1)
+  group-seats : sectionWords section.seats (groupPut book n g) ≡ set (sectionWords section.seats book) n (g + 1)
   unfolding groupPut
   group-seats =
       word-beside section.seats section.counts g2 refl 4 (g + 1) (omega arith) (omega arith)
       ∙ word-inside section.seats g1 n (g + 1) (omega arith)
       ∙ ap (λ (l : List ℕ). set l n (g + 1)) (section-beside section.seats section.slots book refl slots (omega arith) slots-long)
 
-  group-count : part section.counts (groupPut book n g) ≡ set (part section.counts book) 4 (g + 1)
+  group-count : sectionWords section.counts (groupPut book n g) ≡ set (sectionWords section.counts book) 4 (g + 1)
   unfolding groupPut
   group-count =
       word-inside section.counts g2 4 (g + 1) (omega arith)
@@ -157,12 +157,12 @@ module _ (book : List ℕ) (n g : ℕ) (long : length book ≡ bookWords) (few :
   pub group-same-length : (next : List ℕ) → next ≡ groupPut book n g → length next ≡ length book
   group-same-length next e = ap length e ∙ group-long
 
-  pub wrote-group : (t : List ℕ) → t ≡ set (part section.slots book) g n
+  pub wrote-group : (t : List ℕ) → t ≡ set (sectionWords section.slots book) g n
       → set (set (withSection section.slots book t) (section.seats .start + n) (g + 1)) 4 (g + 1) ≡ groupPut book n g
   unfolding groupPut
   wrote-group t e = ap (λ (l : List ℕ). set (set (withSection section.slots book l) (section.seats .start + n) (g + 1)) 4 (g + 1)) e
 
-  pub wrote-slots-long : (t : List ℕ) → t ≡ set (part section.slots book) g n → (i v : ℕ) → length (set (withSection section.slots book t) i v) ≡ bookWords
+  pub wrote-slots-long : (t : List ℕ) → t ≡ set (sectionWords section.slots book) g n → (i v : ℕ) → length (set (withSection section.slots book t) i v) ≡ bookWords
   wrote-slots-long t e i v =
       length-set (withSection section.slots book t) i v
       ∙ section-same-length section.slots book t (omega arith) (ap length e ∙ slots-long)
@@ -198,12 +198,12 @@ module _ (D : Declarations) (h : Holder) where
 
   -- its row in the index, and its sort
   rows-more : (s : List ℕ) (n : ℕ) → n ≡ length (D .holders) → n < holderNumbers → Indexed s holderNumbers (holderRow (D .holders))
-      → Indexed (added s holderNumbers n (rowOfName (packedOf (h .name) .low) (packedOf (h .name) .high))) holderNumbers (holderRow (E .holders))
+      → Indexed (rowAdded s holderNumbers n (rowOfName (packedOf (h .name) .low) (packedOf (h .name) .high))) holderNumbers (holderRow (E .holders))
   rows-more s n at few ix =
       listed-more (λ (x : Holder). rowOfName (packedOf (x .name) .low) (packedOf (x .name) .high)) (D .holders) h
       (subst
       (λ (j : ℕ).
-      Indexed (added s holderNumbers n (rowOfName (packedOf (h .name) .low) (packedOf (h .name) .high))) holderNumbers
+      Indexed (rowAdded s holderNumbers n (rowOfName (packedOf (h .name) .low) (packedOf (h .name) .high))) holderNumbers
       (withRow (holderRow (D .holders)) j (rowOfName (packedOf (h .name) .low) (packedOf (h .name) .high))))
       at
       (added-indexed s holderNumbers n (rowOfName (packedOf (h .name) .low) (packedOf (h .name) .high)) (holderRow (D .holders)) ix few (λ z. omega arith)
@@ -329,17 +329,17 @@ module _ (D : Declarations) (h : Holder) where
 record Grown (book next : List ℕ) (D : Declarations) (T : Ties) (h : Holder) (n : ℕ) : Type 0 where
   size : length next ≡ length book
   same : (s : Section) → apart s section.holders ≡ true → apart s section.sorts ≡ true → apart s section.counts ≡ true → apart s section.slots ≡ true
-      → apart s section.seats ≡ true → part s next ≡ part s book
-  counted : CountsOf (part section.counts next) (withHolder h D)
-  row : part section.holders next
-      ≡ added (part section.holders book) holderNumbers n (rowOfName (packedOf (h .name) .low) (packedOf (h .name) .high))
-  sort : part section.sorts next ≡ set (part section.sorts book) n (sortCode (h .sort))
-  slotted : GroupSlots (part section.slots next) (part section.seats next) (withHolder h D)
-  tied : KeepsTies (part section.ups next) (part section.own next) (part section.slots next) T
+      → apart s section.seats ≡ true → sectionWords s next ≡ sectionWords s book
+  counted : CountsOf (sectionWords section.counts next) (withHolder h D)
+  row : sectionWords section.holders next
+      ≡ rowAdded (sectionWords section.holders book) holderNumbers n (rowOfName (packedOf (h .name) .low) (packedOf (h .name) .high))
+  sort : sectionWords section.sorts next ≡ set (sectionWords section.sorts book) n (sortCode (h .sort))
+  slotted : GroupSlots (sectionWords section.slots next) (sectionWords section.seats next) (withHolder h D)
+  tied : KeepsTies (sectionWords section.ups next) (sectionWords section.own next) (sectionWords section.slots next) T
 
 grown-held : (book next : List ℕ) (code : Bytes) (D : Declarations) (T : Ties) (h : Holder) (n : ℕ) → Holds book code (record { declared = D; ties = T }) → NamesKnown D
     → n ≡ length (D .holders) → n < holderNumbers → Grown book next D T h n → Holds next code (record { declared = withHolder h D; ties = T })
-unfolding attributeNumber operationNumber pairOf
+unfolding attributeNumber operationNumber isPairOf
 grown-held book next code D T h n held known at few grown =
     let E = withHolder h D in
     let long = held .long in
@@ -353,10 +353,10 @@ grown-held book next code D T h n held known at few grown =
       operations = subst (λ (w : List ℕ). OperationRows w (E .operations)) (sym (same section.operations refl refl refl refl refl)) (held .operations);
       pairs = subst (λ (w : List ℕ). Indexed w pairLimit (pairRow E)) (sym (same section.pairs refl refl refl refl refl)) (held .pairs);
       holders =
-          subst (λ (w : List ℕ). Indexed w holderNumbers (holderRow (E .holders))) (sym (grown .row)) (rows-more D h (part section.holders book) n at few (held .holders));
+          subst (λ (w : List ℕ). Indexed w holderNumbers (holderRow (E .holders))) (sym (grown .row)) (rows-more D h (sectionWords section.holders book) n at few (held .holders));
       sorts =
           subst (λ (w : List ℕ). SortRows w E) (sym (grown .sort))
-          (sorts-more D h (part section.sorts book) n (section-long section.sorts book (omega arith)) at few (held .sorts));
+          (sorts-more D h (sectionWords section.sorts book) n (section-long section.sorts book (omega arith)) at few (held .sorts));
       groups = grown .slotted;
       ties = grown .tied;
       rules =
@@ -382,12 +382,12 @@ module _ (book : List ℕ) (code : Bytes) (D : Declarations) (T : Ties) (h : Hol
         same = λ s a b c d e. beside s a b c;
         counted =
             subst (λ (w : List ℕ). CountsOf w (withHolder h D)) (sym (holder-count book n sort low high long few))
-            (counts-plain D h (part section.counts book) n (omega (arith, section-long section.counts book (omega arith))) at no-group (held .counts));
+            (counts-plain D h (sectionWords section.counts book) n (omega (arith, section-long section.counts book (omega arith))) at no-group (held .counts));
         row = holder-row book n sort low high long few;
         sort = holder-sort book n sort low high long few;
         slotted =
             rw (beside section.slots refl refl refl, beside section.seats refl refl refl)
-            (slots-plain D h (part section.slots book) (part section.seats book) no-group (held .groups));
+            (slots-plain D h (sectionWords section.slots book) (sectionWords section.seats book) no-group (held .groups));
         tied = rw (beside section.ups refl refl refl, beside section.own refl refl refl, beside section.slots refl refl refl) (held .ties);
       })
 
@@ -402,11 +402,11 @@ module _ (book : List ℕ) (code : Bytes) (D : Declarations) (T : Ties) (h : Hol
       let long′ : length put ≡ bookWords = holder-long book n sort low′ high′ long few ∙ held .long in
       let beside = holder-beside book n sort low′ high′ long few in
       let beside′ = group-beside put n g long′ few low in
-      let slots = part section.slots book in
-      let seats = part section.seats book in
-      let slots-are : part section.slots (groupPut put n g) ≡ set slots g n =
+      let slots = sectionWords section.slots book in
+      let seats = sectionWords section.seats book in
+      let slots-are : sectionWords section.slots (groupPut put n g) ≡ set slots g n =
       group-slots put n g long′ few low ∙ ap (λ (l : List ℕ). set l g n) (beside section.slots refl refl refl) in
-      let seats-are : part section.seats (groupPut put n g) ≡ set seats n (g + 1) =
+      let seats-are : sectionWords section.seats (groupPut put n g) ≡ set seats n (g + 1) =
       group-seats put n g long′ few low ∙ ap (λ (l : List ℕ). set l n (g + 1)) (beside section.seats refl refl refl) in
       let slots-long = section-long section.slots book (omega arith) in
       let seats-long = section-long section.seats book (omega arith) in
@@ -416,7 +416,7 @@ module _ (book : List ℕ) (code : Bytes) (D : Declarations) (T : Ties) (h : Hol
         counted =
             subst (λ (w : List ℕ). CountsOf w (withHolder h D))
             (sym (group-count put n g long′ few low ∙ ap (λ (l : List ℕ). set l 4 (g + 1)) (holder-count book n sort low′ high′ long few)))
-            (counts-group D h (part section.counts book) n g (omega (arith, section-long section.counts book (omega arith))) at next is-group (held .counts));
+            (counts-group D h (sectionWords section.counts book) n g (omega (arith, section-long section.counts book (omega arith))) at next is-group (held .counts));
         row = beside′ section.holders refl refl refl ∙ holder-row book n sort low′ high′ long few;
         sort = beside′ section.sorts refl refl refl ∙ holder-sort book n sort low′ high′ long few;
         slotted =
@@ -424,6 +424,6 @@ module _ (book : List ℕ) (code : Bytes) (D : Declarations) (T : Ties) (h : Hol
             (slots-group D h slots seats n g is-group at next few low slots-long seats-long (held .groups));
         tied =
             rw (beside′ section.ups refl refl refl ∙ beside section.ups refl refl refl, beside′ section.own refl refl refl ∙ beside section.own refl refl refl, slots-are)
-            (ties-group D h slots seats n g is-group at next few low slots-long seats-long (held .groups) (part section.ups book) (part section.own book) T some-holder
+            (ties-group D h slots seats n g is-group at next few low slots-long seats-long (held .groups) (sectionWords section.ups book) (sectionWords section.own book) T some-holder
             (held .ties));
       })

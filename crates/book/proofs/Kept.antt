@@ -18,8 +18,8 @@ use Rattle.model.proofs.Options.{is-there, no-result}
 use Rattle.model.proofs.Lists.{nth-append}
 use Rattle.model.proofs.Growing.{nth-last}
 use Rattle.codes.specs.Codes.{kindOf}
-use Rattle.rows.specs.Rows.{AttributeRows, pairOf, numberOr}
-use Rattle.tokens.specs.RuleCode.{unknownNumber, carried, encodeToken}
+use Rattle.rows.specs.Rows.{AttributeRows, isPairOf, numberOr}
+use Rattle.tokens.specs.RuleCode.{unknownNumber, carriedBytes, encodeToken}
 use Rattle.book.specs.Held.{SortRows, GroupSlots, RuleRows}
 
 -- one more at the end: the others are as they were
@@ -54,7 +54,7 @@ NamesKnown D = Each (λ r. any (unknownName D) (r .tokens) ≡ false) (D .rules)
 
 -- the code of declared names is the same
 module _ (D E : Declarations) (stay : AttributesStay D E) where
-  carried-same : (t : Token) → unknownName D t ≡ false → carried E t ≡ carried D t
+  carried-same : (t : Token) → unknownName D t ≡ false → carriedBytes E t ≡ carriedBytes D t
   carried-same (name s n) e =
       let (k, f) = is-there (attributeNumber D s n) e in ap (λ (o : Option ℕ). numberOr unknownNumber o ∷ []) (stay s n k f ∙ sym f)
   carried-same (int n) e = refl
@@ -103,7 +103,7 @@ module _ (D E : Declarations) (same : E .holders ≡ D .holders) where
   }
 
 -- the rows of attributes, with the same attributes and pairs of the same attributes
-pub attributes-kept : (D E : Declarations) → E .attributes ≡ D .attributes → ((i p : ℕ) → pairOf E i p ≡ pairOf D i p) → (rows : List ℕ) → AttributeRows rows D
+pub attributes-kept : (D E : Declarations) → E .attributes ≡ D .attributes → ((i p : ℕ) → isPairOf E i p ≡ isPairOf D i p) → (rows : List ℕ) → AttributeRows rows D
     → AttributeRows rows E
 attributes-kept D E same pairs rows a = record {
   within = rw same (a .within);

@@ -21,10 +21,10 @@ use Rattle.model.proofs.Lists.{nth-lt}
 use Rattle.model.proofs.Growing.{nth-last, place-append}
 use Rattle.text.specs.declared.Packed.{Packed}
 use Rattle.text.specs.Packing.{packedOf}
-use Rattle.rows.specs.Rows.{AttributeRows, pairOf}
+use Rattle.rows.specs.Rows.{AttributeRows, isPairOf}
 use Rattle.index.specs.Index.{Indexed}
 use Rattle.book.specs.Sections as section
-use Rattle.book.specs.Sections.{Section, part}
+use Rattle.book.specs.Sections.{Section, sectionWords}
 use Rattle.book.specs.Held.{CountsOf, OperationRows, SortRows, RuleRows, Holds, pairRow, holderRow}
 use Rattle.book.specs.Finding.{OperationFound}
 use Rattle.book.specs.Declaring.{operationPlace, operationPut, OperationStep}
@@ -41,25 +41,25 @@ module _ (book : List ℕ) (k low high : ℕ) (few : k < operationLimit) where
   abbrev b2 : List ℕ
   b2 = set b1 (operationPlace k + 1) high
 
-  rows-beside : (s : Section) → apart s section.operations ≡ true → part s b2 ≡ part s book
+  rows-beside : (s : Section) → apart s section.operations ≡ true → sectionWords s b2 ≡ sectionWords s book
   rows-beside s a =
       word-beside s section.operations b1 a (operationPlace k + 1) high (omega arith) (omega arith)
       ∙ word-beside s section.operations book a (operationPlace k) low (omega arith) (omega arith)
 
-  put-beside : (s : Section) → apart s section.operations ≡ true → apart s section.counts ≡ true → part s (operationPut book k low high) ≡ part s book
+  put-beside : (s : Section) → apart s section.operations ≡ true → apart s section.counts ≡ true → sectionWords s (operationPut book k low high) ≡ sectionWords s book
   unfolding operationPut
   put-beside s a b = word-beside s section.counts b2 b 1 (k + 1) (omega arith) (omega arith) ∙ rows-beside s a
 
-  put-rows : part section.operations (operationPut book k low high) ≡ set (set (part section.operations book) (2 * k) low) (2 * k + 1) high
+  put-rows : sectionWords section.operations (operationPut book k low high) ≡ set (set (sectionWords section.operations book) (2 * k) low) (2 * k + 1) high
   unfolding operationPut
   put-rows =
       let e : operationPlace k + 1 ≡ section.operations .start + (2 * k + 1) = omega arith in
       word-beside section.operations section.counts b2 refl 1 (k + 1) (omega arith) (omega arith)
-      ∙ ap (λ (i : ℕ). part section.operations (set b1 i high)) e
+      ∙ ap (λ (i : ℕ). sectionWords section.operations (set b1 i high)) e
       ∙ word-inside section.operations b1 (2 * k + 1) high (omega arith)
       ∙ ap (λ (l : List ℕ). set l (2 * k + 1) high) (word-inside section.operations book (2 * k) low (omega arith))
 
-  put-count : part section.counts (operationPut book k low high) ≡ set (part section.counts book) 1 (k + 1)
+  put-count : sectionWords section.counts (operationPut book k low high) ≡ set (sectionWords section.counts book) 1 (k + 1)
   unfolding operationPut
   put-count = word-inside section.counts b2 1 (k + 1) (omega arith) ∙ ap (λ (l : List ℕ). set l 1 (k + 1)) (rows-beside section.counts refl)
 
@@ -133,7 +133,7 @@ module _ (book : List ℕ) (code : Bytes) (D : Declarations) (n : Bytes) (k : �
 -- the book with an operation more
 pub operation-held : (book : List ℕ) (code : Bytes) (S : State) (n : Bytes) (k : ℕ) → Holds book code S → NamesKnown (S .declared)
     → k ≡ length (S .declared .operations) → k < operationLimit → Holds (operationPut book k (packedOf n .low) (packedOf n .high)) code (after (op n) S)
-unfolding after attributeNumber operationNumber pairOf
+unfolding after attributeNumber operationNumber isPairOf
 operation-held book code S n k held known at few =
     let D = S .declared in
     let E = withOperation n D in
@@ -146,14 +146,14 @@ operation-held book code S n k held known at few =
       code-long = held .code-long;
       counts =
           subst (λ (w : List ℕ). CountsOf w E) (sym (put-count book k low high few))
-          (counts-more book code D n k (part section.counts book) (omega (arith, section-long section.counts book (omega arith))) at (held .counts));
+          (counts-more book code D n k (sectionWords section.counts book) (omega (arith, section-long section.counts book (omega arith))) at (held .counts));
       attributes = subst (λ (w : List ℕ). AttributeRows w E) (sym (beside section.attributes refl refl)) (attributes-kept D E refl (λ i p. refl) _ (held .attributes));
       operations =
           subst (λ (w : List ℕ). OperationRows w (E .operations)) (sym (put-rows book k low high few))
-          (rows-more (part section.operations book) (D .operations) n k (section-long section.operations book (omega arith)) at few (held .operations));
+          (rows-more (sectionWords section.operations book) (D .operations) n k (section-long section.operations book (omega arith)) at few (held .operations));
       pairs = subst (λ (w : List ℕ). Indexed w 256 (pairRow E)) (sym (beside section.pairs refl refl)) (held .pairs);
       holders = subst (λ (w : List ℕ). Indexed w 256 (holderRow (E .holders))) (sym (beside section.holders refl refl)) (held .holders);
-      sorts = subst (λ (w : List ℕ). SortRows w E) (sym (beside section.sorts refl refl)) (sorts-kept D E refl (part section.sorts book) (held .sorts));
+      sorts = subst (λ (w : List ℕ). SortRows w E) (sym (beside section.sorts refl refl)) (sorts-kept D E refl (sectionWords section.sorts book) (held .sorts));
       groups = rw (beside section.slots refl refl, beside section.seats refl refl) (groups-kept D E refl _ _ (held .groups));
       ties = rw (beside section.ups refl refl, beside section.own refl refl, beside section.slots refl refl) (held .ties);
       rules =
@@ -162,7 +162,7 @@ operation-held book code S n k held known at few =
     }
 
 -- the three ways of the step; k is the number that was found, m the count
-module _ (book : List ℕ) (low high k : ℕ) (found : OperationFound (part section.operations book) low high k) where
+module _ (book : List ℕ) (low high k : ℕ) (found : OperationFound (sectionWords section.operations book) low high k) where
   pub operation-repeated : (k ≡ operationLimit → ⊥) → OperationStep book low high book 10
   operation-repeated other code n name words S standing held =
       let e = found (S .declared) (standing .declarations) (held .operations) n name words in

@@ -22,12 +22,12 @@ use Rattle.text.specs.declared.Words.{Words}
 use Rattle.text.specs.Values.{atomWords}
 use Rattle.bits.specs.Bits.{bit, Bits, member}
 use Rattle.bits.proofs.Sets.{member-with}
-use Rattle.rows.specs.Rows.{AttributeRows, pairOf, masked}
-use Rattle.index.specs.Index.{Row, Indexed, Added, added, rowsIn, withRow}
+use Rattle.rows.specs.Rows.{AttributeRows, isPairOf, masked}
+use Rattle.index.specs.Index.{Row, Indexed, Added, rowAdded, rowsIn, withRow}
 use Rattle.index.proofs.Adding.{added-length, added-indexed, with-this, with-other}
 use Rattle.index.proofs.Listed.{indexed-same}
 use Rattle.book.specs.Sections as section
-use Rattle.book.specs.Sections.{Section, part, bookWords}
+use Rattle.book.specs.Sections.{Section, sectionWords, bookWords}
 use Rattle.book.specs.Held.{CountsOf, OperationRows, SortRows, RuleRows, Holds, pairRow, holderRow}
 use Rattle.book.specs.Declaring.{withSection, maskPlace, pairPut, PairPut}
 use Rattle.book.proofs.Writes.{apart, word-beside, word-inside, section-beside, section-inside, section-long, section-same-length, section-word, word-at}
@@ -46,19 +46,19 @@ module _ (book : List ℕ) (n k : ℕ) (words : Words) (mask : ℕ) (long : leng
   marked-long = length-set book (maskPlace k n) mask ∙ long
 
   abbrev row : List ℕ
-  row = added (part section.pairs marked) pairLimit n (rowOf k words)
+  row = rowAdded (sectionWords section.pairs marked) pairLimit n (rowOf k words)
 
   abbrev placed : List ℕ
   placed = withSection section.pairs marked row
 
-  marked-pairs : part section.pairs marked ≡ part section.pairs book
+  marked-pairs : sectionWords section.pairs marked ≡ sectionWords section.pairs book
   marked-pairs = word-beside section.pairs section.attributes book refl (maskPlace k n) mask (omega arith) (omega arith)
 
   row-long : length row ≡ section.pairs .size
-  row-long = let m = marked-long in added-length (part section.pairs marked) pairLimit n (rowOf k words) ∙ section-long section.pairs marked (omega arith)
+  row-long = let m = marked-long in added-length (sectionWords section.pairs marked) pairLimit n (rowOf k words) ∙ section-long section.pairs marked (omega arith)
 
   put-beside : (s : Section) → apart s section.attributes ≡ true → apart s section.pairs ≡ true → apart s section.counts ≡ true
-      → part s (pairPut book n k words mask) ≡ part s book
+      → sectionWords s (pairPut book n k words mask) ≡ sectionWords s book
   unfolding pairPut
   put-beside s a b c =
       let m = marked-long in
@@ -66,15 +66,15 @@ module _ (book : List ℕ) (n k : ℕ) (words : Words) (mask : ℕ) (long : leng
       ∙ section-beside s section.pairs marked b row (omega arith) row-long
       ∙ word-beside s section.attributes book a (maskPlace k n) mask (omega arith) (omega arith)
 
-  put-row : part section.pairs (pairPut book n k words mask) ≡ added (part section.pairs book) pairLimit n (rowOf k words)
+  put-row : sectionWords section.pairs (pairPut book n k words mask) ≡ rowAdded (sectionWords section.pairs book) pairLimit n (rowOf k words)
   unfolding pairPut
   put-row =
       let m = marked-long in
       word-beside section.pairs section.counts placed refl 2 (n + 1) (omega arith) (omega arith)
       ∙ section-inside section.pairs marked row (omega arith) row-long
-      ∙ ap (λ (l : List ℕ). added l pairLimit n (rowOf k words)) marked-pairs
+      ∙ ap (λ (l : List ℕ). rowAdded l pairLimit n (rowOf k words)) marked-pairs
 
-  put-mask : part section.attributes (pairPut book n k words mask) ≡ set (part section.attributes book) (8 * k + 4 + n / 64) mask
+  put-mask : sectionWords section.attributes (pairPut book n k words mask) ≡ set (sectionWords section.attributes book) (8 * k + 4 + n / 64) mask
   unfolding pairPut
   put-mask =
       let m = marked-long in
@@ -82,7 +82,7 @@ module _ (book : List ℕ) (n k : ℕ) (words : Words) (mask : ℕ) (long : leng
       ∙ section-beside section.attributes section.pairs marked refl row (omega arith) row-long
       ∙ word-inside section.attributes book (8 * k + 4 + n / 64) mask (omega arith)
 
-  put-count : part section.counts (pairPut book n k words mask) ≡ set (part section.counts book) 2 (n + 1)
+  put-count : sectionWords section.counts (pairPut book n k words mask) ≡ set (sectionWords section.counts book) 2 (n + 1)
   unfolding pairPut
   put-count =
       let m = marked-long in
@@ -98,13 +98,13 @@ module _ (book : List ℕ) (n k : ℕ) (words : Words) (mask : ℕ) (long : leng
       length-set placed 2 (n + 1) ∙ section-same-length section.pairs marked row (omega arith) row-long ∙ length-set book (maskPlace k n) mask
 
   -- what the code writes
-  module _ (t : List ℕ) (adds : Added (part section.pairs marked) t n (rowOf k words)) where
+  module _ (t : List ℕ) (adds : Added (sectionWords section.pairs marked) t n (rowOf k words)) where
     pub wrote-row : t ≡ row
     wrote-row =
         let e = marked-long in
         let f = section-long section.pairs marked (omega arith) in
-        let m : rowsIn (length (part section.pairs marked)) ≡ pairLimit = omega arith in
-        adds .words ∙ ap (λ (j : ℕ). added (part section.pairs marked) j n (rowOf k words)) m
+        let m : rowsIn (length (sectionWords section.pairs marked)) ≡ pairLimit = omega arith in
+        adds .words ∙ ap (λ (j : ℕ). rowAdded (sectionWords section.pairs marked) j n (rowOf k words)) m
 
     pub wrote-pair : Bits mask (λ j. bit (getD book (maskPlace k n) 0) j || eqb j (n % wordBits))
         → PairPut book n k words (set (withSection section.pairs marked t) 2 (n + 1))
@@ -156,8 +156,8 @@ module _ (D : Declarations) (q : Pair) (k n : ℕ) (number : attributeNumber D (
   nothing-yet : (j : ℕ) → n ≤ j → nth (D .pairs) j ≡ none
   nothing-yet j h = no-result (nth (D .pairs) j) (λ x e. let l = nth-lt (D .pairs) j e in omega arith)
 
-  pairs-of : (i p : ℕ) → pairOf E i p ≡ (pairOf D i p || (eqb i k && eqb p n))
-  unfolding pairOf attributeNumber
+  pairs-of : (i p : ℕ) → isPairOf E i p ≡ (isPairOf D i p || (eqb i k && eqb p n))
+  unfolding isPairOf attributeNumber
   pairs-of i p = go (ℕ-discrete p n)
     where
       of : Option Pair → Bool
@@ -175,14 +175,14 @@ module _ (D : Declarations) (q : Pair) (k n : ℕ) (number : attributeNumber D (
       and-true true = refl
       and-true false = refl
 
-      go : Dec (p ≡ n) → pairOf E i p ≡ (pairOf D i p || (eqb i k && eqb p n))
+      go : Dec (p ≡ n) → isPairOf E i p ≡ (isPairOf D i p || (eqb i k && eqb p n))
       go (yes z) =
           ap of (ap (nth (E .pairs)) (z ∙ at) ∙ nth-new (D .pairs) q)
           ∙ ap (λ (o : Option ℕ). o is eqb i) number
           ∙ sym
           (ap₂ (λ (x y : Bool). x || (eqb i k && y)) (ap of (nothing-yet p (omega arith))) (eq-eqb p n z)
           ∙ and-true (eqb i k))
-      go (no z) = ap of (nth-old (D .pairs) q p (λ y. z (y ∙ sym at))) ∙ right (pairOf D i p) (eqb p n) (ne-eqb p n z)
+      go (no z) = ap of (nth-old (D .pairs) q p (λ y. z (y ∙ sym at))) ∙ right (isPairOf D i p) (eqb p n) (ne-eqb p n z)
 
   attributes-more : (rows : List ℕ) (mask : ℕ) → length rows ≡ section.attributes .size → k < attributeLimit → n < pairLimit
       → Bits mask (λ j. bit (getD rows (8 * k + 4 + n / 64) 0) j || eqb j (n % 64)) → AttributeRows rows D
@@ -205,7 +205,7 @@ module _ (D : Declarations) (q : Pair) (k n : ℕ) (number : attributeNumber D (
       other : (j : ℕ) → (j ≡ 8 * k + 4 + n / 64 → ⊥) → getD (set rows (8 * k + 4 + n / 64) mask) j 0 ≡ getD rows j 0
       other j z = getD-set-other rows (8 * k + 4 + n / 64) j mask 0 z
 
-  rows-more : (s : List ℕ) → n < pairLimit → Indexed s pairLimit (pairRow D) → Indexed (added s pairLimit n (rowOf k (atomWords (q .atom)))) pairLimit (pairRow E)
+  rows-more : (s : List ℕ) → n < pairLimit → Indexed s pairLimit (pairRow D) → Indexed (rowAdded s pairLimit n (rowOf k (atomWords (q .atom)))) pairLimit (pairRow E)
   unfolding attributeNumber
   rows-more s few ix =
       indexed-same (withRow (pairRow D) n w) (pairRow E) same
@@ -251,26 +251,26 @@ pair-held book next code D T q n k held known number at few low put =
     let words = atomWords (q .atom) in
     let mask = put .mask in
     let e = put .written in
-    let beside : (s : Section) → apart s section.attributes ≡ true → apart s section.pairs ≡ true → apart s section.counts ≡ true → part s next ≡ part s book =
-    λ s a b c. ap (part s) e ∙ put-beside book n k words mask long few low s a b c in
-    let word : getD (part section.attributes book) (8 * k + 4 + n / 64) 0 ≡ getD book (maskPlace k n) 0 =
+    let beside : (s : Section) → apart s section.attributes ≡ true → apart s section.pairs ≡ true → apart s section.counts ≡ true → sectionWords s next ≡ sectionWords s book =
+    λ s a b c. ap (sectionWords s) e ∙ put-beside book n k words mask long few low s a b c in
+    let word : getD (sectionWords section.attributes book) (8 * k + 4 + n / 64) 0 ≡ getD book (maskPlace k n) 0 =
     section-word section.attributes book (8 * k + 4 + n / 64) (omega arith) in
     record {
       long = ap length e ∙ put-long book n k words mask long few low ∙ held .long;
       code-long = held .code-long;
       counts =
-          subst (λ (w : List ℕ). CountsOf w E) (sym (ap (part section.counts) e ∙ put-count book n k words mask long few low))
-          (counts-more D q k n number at (part section.counts book) (omega (arith, section-long section.counts book (omega arith))) (held .counts));
+          subst (λ (w : List ℕ). CountsOf w E) (sym (ap (sectionWords section.counts) e ∙ put-count book n k words mask long few low))
+          (counts-more D q k n number at (sectionWords section.counts book) (omega (arith, section-long section.counts book (omega arith))) (held .counts));
       attributes =
-          subst (λ (w : List ℕ). AttributeRows w E) (sym (ap (part section.attributes) e ∙ put-mask book n k words mask long few low))
-          (attributes-more D q k n number at (part section.attributes book) mask (section-long section.attributes book (omega arith)) low few
+          subst (λ (w : List ℕ). AttributeRows w E) (sym (ap (sectionWords section.attributes) e ∙ put-mask book n k words mask long few low))
+          (attributes-more D q k n number at (sectionWords section.attributes book) mask (section-long section.attributes book (omega arith)) low few
           (λ j. put .marked j ∙ ap (λ (x : ℕ). bit x j || eqb j (n % 64)) (sym word)) (held .attributes));
       operations = subst (λ (w : List ℕ). OperationRows w (E .operations)) (sym (beside section.operations refl refl refl)) (held .operations);
       pairs =
-          subst (λ (w : List ℕ). Indexed w pairLimit (pairRow E)) (sym (ap (part section.pairs) e ∙ put-row book n k words mask long few low))
-          (rows-more D q k n number at (part section.pairs book) few (held .pairs));
+          subst (λ (w : List ℕ). Indexed w pairLimit (pairRow E)) (sym (ap (sectionWords section.pairs) e ∙ put-row book n k words mask long few low))
+          (rows-more D q k n number at (sectionWords section.pairs book) few (held .pairs));
       holders = subst (λ (w : List ℕ). Indexed w holderNumbers (holderRow (E .holders))) (sym (beside section.holders refl refl refl)) (held .holders);
-      sorts = subst (λ (w : List ℕ). SortRows w E) (sym (beside section.sorts refl refl refl)) (sorts-kept D E refl (part section.sorts book) (held .sorts));
+      sorts = subst (λ (w : List ℕ). SortRows w E) (sym (beside section.sorts refl refl refl)) (sorts-kept D E refl (sectionWords section.sorts book) (held .sorts));
       groups = rw (beside section.slots refl refl refl, beside section.seats refl refl refl) (groups-kept D E refl _ _ (held .groups));
       ties = rw (beside section.ups refl refl refl, beside section.own refl refl refl, beside section.slots refl refl refl) (held .ties);
       rules =

@@ -27,7 +27,7 @@ use Rattle.text.specs.Packing.{packedOf}
 use Rattle.text.specs.Values.{atomValue}
 use Rattle.rows.specs.Rows.{Numbered, numberOr}
 use Rattle.book.specs.Sections as section
-use Rattle.book.specs.Sections.{part}
+use Rattle.book.specs.Sections.{sectionWords}
 use Rattle.book.specs.Held.{Holds}
 use Rattle.book.specs.Finding.{PairFound}
 use Rattle.book.specs.Declaring.{PairPut, PairStep}
@@ -48,7 +48,7 @@ same-type-code AtomType.bool AtomType.str = refl
 same-type-code AtomType.bool AtomType.bool = refl
 
 -- k is the number of the attribute that was found
-module _ (book : List ℕ) (source low high : ℕ) (value : Value) (k : ℕ) (found : Numbered (part section.attributes book) source low high k) where
+module _ (book : List ℕ) (source low high : ℕ) (value : Value) (k : ℕ) (found : Numbered (sectionWords section.attributes book) source low high k) where
   pub pair-undeclared : attributeLimit ≤ k → PairStep book source low high value book 8
   unfolding attributeNumber
   pair-undeclared over code s n a name written from words atom-is S standing held =
@@ -114,7 +114,7 @@ module _ (book : List ℕ) (source low high : ℕ) (value : Value) (k : ℕ) (fo
             λ z. absurd (omega arith),
           )
 
-      module _ (typed : getD book (section.attributes .start + (8 * k + 1)) 0 ≡ value .kind) (p : ℕ) (found-pair : PairFound (part section.pairs book) k (value .words) p) where
+      module _ (typed : getD book (section.attributes .start + (8 * k + 1)) 0 ≡ value .kind) (p : ℕ) (found-pair : PairFound (sectionWords section.pairs book) k (value .words) p) where
         right-type : (a : Atom) (b : Attribute) → atomValue a ≡ value → getD book (section.attributes .start + (8 * k + 1)) 0 ≡ typeCode (b .type)
             → typeCode (b .type) ≡ typeCode (typeOf a)
         right-type a b atom-is kind = sym kind ∙ typed ∙ sym (ap (λ (v : Value). v .kind) atom-is)

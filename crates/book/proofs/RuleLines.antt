@@ -29,20 +29,20 @@ use Rattle.model.proofs.Options.{parts, bind-some}
 use Rattle.model.proofs.Lists.{nth-lt}
 use Rattle.model.proofs.Lines.{fields-said}
 use Rattle.model.proofs.Growing.{nth-last}
-use Rattle.rows.specs.Rows.{AttributeRows, pairOf, numberOr}
+use Rattle.rows.specs.Rows.{AttributeRows, isPairOf, numberOr}
 use Rattle.tokens.specs.RuleCode.{encodeToken, Coded}
 use Rattle.index.specs.Index.{Indexed}
-use Rattle.policy.specs.Judgements.{Judges, judged}
+use Rattle.policy.specs.Judgements.{Judges, policyNumber}
 use Rattle.fields.specs.declared.RuleFields.{RuleFields}
 use Rattle.fields.specs.Forms.{noRule, ruleNumbers, ruleOf, RuleTold}
 use Rattle.fields.specs.Told.{numbersOr}
 use Rattle.text.specs.Packing.{packedOf}
 use Rattle.text.proofs.LoopPlaces.{tail-part}
 use Rattle.book.specs.Sections as section
-use Rattle.book.specs.Sections.{Section, part, ruleBytes}
+use Rattle.book.specs.Sections.{Section, sectionWords, ruleBytes}
 use Rattle.book.specs.Held.{CountsOf, OperationRows, SortRows, RuleHeld, RuleRows, Holds, pairRow, holderRow}
 use Rattle.book.specs.Finding.{OperationFound}
-use Rattle.book.specs.LineSteps.{fieldsRefusal, FieldsRead, codeOf, RuleJudged, ruleTests, rulePut}
+use Rattle.book.specs.LineSteps.{fieldsRefusal, FieldsRead, codeOfRule, RuleJudged, ruleTests, rulePut}
 use Rattle.book.proofs.Sections.{mid-inside, mid-before}
 use Rattle.book.proofs.Writes.{apart, word-beside, word-inside, section-long, section-word, word-at}
 use Rattle.book.proofs.Kept.{length-more, sorts-kept, groups-kept, attributes-kept}
@@ -92,10 +92,10 @@ missing D well o n e = go (operationNumber D o) refl
         let l = place-few (same o) (D .operations) k f in
         lt-leb operationLimit n (omega (arith, e ∙ ap (numberOr operationLimit) f, well .operations .few))
 
-module _ (S : State) (standing : Standing S) (o p : Bytes) (policy operation rules : ℕ) (judge : policy ≡ judged (S .declared) p) (counted : rules ≡ length (S .declared .rules))
+module _ (S : State) (standing : Standing S) (o p : Bytes) (policy operation rules : ℕ) (judge : policy ≡ policyNumber (S .declared) p) (counted : rules ≡ length (S .declared .rules))
     (found : (ts : List Token) → ruleOf o p ≡ some (rule o ts) → operation ≡ numberOr operationLimit (operationNumber (S .declared) o)) where
   pub rule-refusal : first (ruleTests policy operation rules) ≡ fieldsRefusal S (ruleOf o p)
-  unfolding judged circular
+  unfolding policyNumber circular
   rule-refusal = go (tokensOf p) refl
     where
       D : Declarations
@@ -163,17 +163,17 @@ module _ (book : List ℕ) (k operation : ℕ) (few : k < ruleLimit) where
   abbrev word : List ℕ
   word = set book (section.rules .start + k) operation
 
-  put-beside : (s : Section) → apart s section.rules ≡ true → apart s section.counts ≡ true → part s (rulePut book k operation) ≡ part s book
+  put-beside : (s : Section) → apart s section.rules ≡ true → apart s section.counts ≡ true → sectionWords s (rulePut book k operation) ≡ sectionWords s book
   unfolding rulePut
   put-beside s a b =
       word-beside s section.counts word b 5 (k + 1) (omega arith) (omega arith)
       ∙ word-beside s section.rules book a (section.rules .start + k) operation (omega arith) (omega arith)
 
-  put-rows : part section.rules (rulePut book k operation) ≡ set (part section.rules book) k operation
+  put-rows : sectionWords section.rules (rulePut book k operation) ≡ set (sectionWords section.rules book) k operation
   unfolding rulePut
   put-rows = word-beside section.rules section.counts word refl 5 (k + 1) (omega arith) (omega arith) ∙ word-inside section.rules book k operation few
 
-  put-count : part section.counts (rulePut book k operation) ≡ set (part section.counts book) 5 (k + 1)
+  put-count : sectionWords section.counts (rulePut book k operation) ≡ set (sectionWords section.counts book) 5 (k + 1)
   unfolding rulePut
   put-count =
       word-inside section.counts word 5 (k + 1) (omega arith)
@@ -195,7 +195,7 @@ counts-more D r k words long at c = record {
 }
 
 rows-more : (D : Declarations) (r : Rule) (k operation : ℕ) (words : List ℕ) (code code′ : Bytes) → length words ≡ section.rules .size → k ≡ length (D .rules) → k < ruleLimit
-    → operationNumber D (r .operation) ≡ some operation → ((i : ℕ) → i < k → codeOf code′ i ≡ codeOf code i) → Coded D (codeOf code′ k) 0 (r .tokens)
+    → operationNumber D (r .operation) ≡ some operation → ((i : ℕ) → i < k → codeOfRule code′ i ≡ codeOfRule code i) → Coded D (codeOfRule code′ k) 0 (r .tokens)
     → RuleRows words code D → RuleRows (set words k operation) code′ (withRule r D)
 unfolding attributeNumber operationNumber
 rows-more D r k operation words code code′ long at few known kept here rows i q e = ⊎-elim old new (nth-last (D .rules) r i e)
@@ -211,7 +211,7 @@ rows-more D r k operation words code code′ long at few known kept here rows i 
           operation = h .operation;
           operation-is = h .operation-is;
           word = getD-set-other words k i operation 0 (λ z. omega arith) ∙ h .word;
-          tokens = coded-same D (withRule r D) (λ s n. refl) (codeOf code′ i) 0 (q .tokens) (subst (λ (c : Bytes). Coded D c 0 (q .tokens)) (sym (kept i (omega arith))) (h .tokens));
+          tokens = coded-same D (withRule r D) (λ s n. refl) (codeOfRule code′ i) 0 (q .tokens) (subst (λ (c : Bytes). Coded D c 0 (q .tokens)) (sym (kept i (omega arith))) (h .tokens));
         }
 
     new : (i ≡ length (D .rules)) × (r ≡ q) → RuleHeld (set words k operation) code′ (withRule r D) i q
@@ -221,14 +221,14 @@ rows-more D r k operation words code code′ long at few known kept here rows i 
           operation = operation;
           operation-is = ap (λ (x : Rule). operationNumber D (x .operation)) (sym g) ∙ known;
           word = ap (λ (j : ℕ). getD (set words k operation) j 0) z ∙ getD-set-same words k operation 0 (omega arith);
-          tokens = coded-same D (withRule r D) (λ s n. refl) (codeOf code′ i) 0 (q .tokens)
-              (subst (λ (j : ℕ). Coded D (codeOf code′ j) 0 (q .tokens)) (sym z) (subst (λ (x : Rule). Coded D (codeOf code′ k) 0 (x .tokens)) g here));
+          tokens = coded-same D (withRule r D) (λ s n. refl) (codeOfRule code′ i) 0 (q .tokens)
+              (subst (λ (j : ℕ). Coded D (codeOfRule code′ j) 0 (q .tokens)) (sym z) (subst (λ (x : Rule). Coded D (codeOfRule code′ k) 0 (x .tokens)) g here));
         }
 
 pub rule-held : (book : List ℕ) (code code′ : Bytes) (S : State) (o : Bytes) (ts : List Token) (k operation : ℕ) → Holds book code S → length code′ ≡ ruleBytes
-    → k ≡ length (S .declared .rules) → k < ruleLimit → operationNumber (S .declared) o ≡ some operation → ((i : ℕ) → i < k → codeOf code′ i ≡ codeOf code i)
-    → Coded (S .declared) (codeOf code′ k) 0 ts → Holds (rulePut book k operation) code′ (after (rule o ts) S)
-unfolding after attributeNumber operationNumber pairOf
+    → k ≡ length (S .declared .rules) → k < ruleLimit → operationNumber (S .declared) o ≡ some operation → ((i : ℕ) → i < k → codeOfRule code′ i ≡ codeOfRule code i)
+    → Coded (S .declared) (codeOfRule code′ k) 0 ts → Holds (rulePut book k operation) code′ (after (rule o ts) S)
+unfolding after attributeNumber operationNumber isPairOf
 rule-held book code code′ S o ts k operation held size at few known kept here =
     let D = S .declared in
     let r : Rule = record { operation = o; tokens = ts } in
@@ -240,17 +240,17 @@ rule-held book code code′ S o ts k operation held size at few known kept here 
       code-long = size;
       counts =
           subst (λ (w : List ℕ). CountsOf w E) (sym (put-count book k operation few))
-          (counts-more D r k (part section.counts book) (omega (arith, section-long section.counts book (omega arith))) at (held .counts));
+          (counts-more D r k (sectionWords section.counts book) (omega (arith, section-long section.counts book (omega arith))) at (held .counts));
       attributes = subst (λ (w : List ℕ). AttributeRows w E) (sym (beside section.attributes refl refl)) (attributes-kept D E refl (λ i p. refl) _ (held .attributes));
       operations = subst (λ (w : List ℕ). OperationRows w (E .operations)) (sym (beside section.operations refl refl)) (held .operations);
       pairs = subst (λ (w : List ℕ). Indexed w 256 (pairRow E)) (sym (beside section.pairs refl refl)) (held .pairs);
       holders = subst (λ (w : List ℕ). Indexed w 256 (holderRow (E .holders))) (sym (beside section.holders refl refl)) (held .holders);
-      sorts = subst (λ (w : List ℕ). SortRows w E) (sym (beside section.sorts refl refl)) (sorts-kept D E refl (part section.sorts book) (held .sorts));
+      sorts = subst (λ (w : List ℕ). SortRows w E) (sym (beside section.sorts refl refl)) (sorts-kept D E refl (sectionWords section.sorts book) (held .sorts));
       groups = rw (beside section.slots refl refl, beside section.seats refl refl) (groups-kept D E refl _ _ (held .groups));
       ties = rw (beside section.ups refl refl, beside section.own refl refl, beside section.slots refl refl) (held .ties);
       rules =
           subst (λ (w : List ℕ). RuleRows w code′ E) (sym (put-rows book k operation few))
-          (rows-more D r k operation (part section.rules book) code code′ (section-long section.rules book (omega arith)) at few known kept here (held .rules));
+          (rows-more D r k operation (sectionWords section.rules book) code code′ (section-long section.rules book (omega arith)) at few known kept here (held .rules));
     }
 
 -- ---- the ways of the step
@@ -308,10 +308,10 @@ accepted-read S none e = absurd (omega arith)
 accepted-read S (some l) e = (l, refl)
 
 module _ (f : Bytes) (r : RuleFields) (told : RuleTold f r) (ok : r .ok ≡ true) (book : List ℕ) (code code′ : Bytes) (k policy operation : ℕ) (count : k ≡ getD book 5 0)
-    (judge-part : RuleJudged (take (length f - r .start) (drop (r .start) f)) (part section.attributes book) k code code′ policy)
-    (found : OperationFound (part section.operations book) (r .low) (r .high) operation) where
-  judge : RuleJudged (drop (r .start) f) (part section.attributes book) k code code′ policy
-  judge = subst (λ (s : Bytes). RuleJudged s (part section.attributes book) k code code′ policy) (tail-part (r .start) f) judge-part
+    (judge-part : RuleJudged (take (length f - r .start) (drop (r .start) f)) (sectionWords section.attributes book) k code code′ policy)
+    (found : OperationFound (sectionWords section.operations book) (r .low) (r .high) operation) where
+  judge : RuleJudged (drop (r .start) f) (sectionWords section.attributes book) k code code′ policy
+  judge = subst (λ (s : Bytes). RuleJudged s (sectionWords section.attributes book) k code code′ policy) (tail-part (r .start) f) judge-part
 
   counted : (S : State) → Holds book code S → k ≡ length (S .declared .rules)
   counted S held = count ∙ sym (section-word section.counts book 5 (omega arith)) ∙ held .counts .rules

@@ -19,11 +19,11 @@ use Rattle.model.proofs.WordTables.{none-is-some}
 use Rattle.model.proofs.Options.{bind-some, both}
 use Rattle.model.proofs.Lists.{nth-lt, same-truth}
 use Rattle.model.proofs.Standing.{holders-fit}
-use Rattle.ties.specs.TieArrays.{inUse, tied, Distinct}
+use Rattle.ties.specs.TieArrays.{inUse, tiedUp, Distinct}
 use Rattle.ties.specs.TieEdits.{LeadsUp}
 use Rattle.ties.proofs.Keeps.{up-slot, slot-up}
 use Rattle.book.specs.Sections as section
-use Rattle.book.specs.Sections.{part}
+use Rattle.book.specs.Sections.{sectionWords}
 use Rattle.book.specs.Held.{Holds}
 use Rattle.book.proofs.TieSections.{part-size}
 
@@ -89,14 +89,14 @@ module _ {S : State} (standing : Standing S) where
   module _ {book : List ℕ} {code : Bytes} (held : Holds book code S) where
     -- the slot of a group, by its seat
     pub seat-slot : (g : ℕ) (s : Sort) → sortOf (S .declared) g ≡ some s → isGroup s ≡ true
-        → (q : ℕ) × (getD (part section.seats book) g 0 ≡ suc q) × (q < groupLimit) × (inUse holderNumbers (part section.slots book) q ≡ true)
-        × (getD (part section.slots book) q 0 ≡ g)
+        → (q : ℕ) × (getD (sectionWords section.seats book) g 0 ≡ suc q) × (q < groupLimit) × (inUse holderNumbers (sectionWords section.slots book) q ≡ true)
+        × (getD (sectionWords section.slots book) q 0 ≡ g)
     unfolding inUse
     seat-slot g s e i =
         let r = held .groups .seated g s e i in
         let low = group-no-admin g s e i in
         let few = sorted-few g e in
-        let slot = getD (part section.slots book) (r .0) 0 in (
+        let slot = getD (sectionWords section.slots book) (r .0) 0 in (
           r .0,
           r .1,
           omega (arith, r .2, standing .declarations .holders .few-groups),
@@ -105,19 +105,19 @@ module _ {S : State} (standing : Standing S) where
         )
 
     -- a tie up to the group of slot q is bit q of the holder's word
-    pub slot-bit : (h g q : ℕ) → h < holderNumbers → q < groupLimit → inUse holderNumbers (part section.slots book) q ≡ true → getD (part section.slots book) q 0 ≡ g
-        → tied (part section.ups book) h q ≡ up (S .ties) h g
+    pub slot-bit : (h g q : ℕ) → h < holderNumbers → q < groupLimit → inUse holderNumbers (sectionWords section.slots book) q ≡ true → getD (sectionWords section.slots book) q 0 ≡ g
+        → tiedUp (sectionWords section.ups book) h q ≡ up (S .ties) h g
     unfolding Distinct
     slot-bit h g q few low live is =
         let long = part-size section.ups book (held .long) (omega arith) in
-        let within : h < length (part section.ups book) = omega arith in
-        same-truth (tied (part section.ups book) h q) (up (S .ties) h g)
+        let within : h < length (sectionWords section.ups book) = omega arith in
+        same-truth (tiedUp (sectionWords section.ups book) h q) (up (S .ties) h g)
         (λ on. ap (up (S .ties) h) (sym is) ∙ slot-up (held .ties) h q within low on)
         (λ on.
         let r = up-slot (held .ties) h g within on in
-        let alive : inUse (length (part section.ups book)) (part section.slots book) q ≡ true = ap (λ (n : ℕ). inUse n (part section.slots book) q) long ∙ live in
+        let alive : inUse (length (sectionWords section.ups book)) (sectionWords section.slots book) q ≡ true = ap (λ (n : ℕ). inUse n (sectionWords section.slots book) q) long ∙ live in
         let same : r .0 ≡ q = held .ties .distinct q (r .0) low (r .1) alive (r .3 ∙ sym is) in
-        ap (tied (part section.ups book) h) (sym same) ∙ r .2)
+        ap (tiedUp (sectionWords section.ups book) h) (sym same) ∙ r .2)
 
   -- a tie up that fits stands where some tie leads up so: the other kind does not fit
   pub one-kind : (t : Tie) (h g : ℕ) → LeadsUp t h g → TieFits (S .declared) t → up (S .ties) h g ≡ S .ties t

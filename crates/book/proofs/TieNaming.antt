@@ -29,7 +29,7 @@ use Rattle.text.specs.declared.Packed.{Packed}
 use Rattle.text.specs.Packing.{packedOf}
 use Rattle.rows.specs.Rows.{numberOr, Numbered}
 use Rattle.book.specs.Sections as section
-use Rattle.book.specs.Sections.{part}
+use Rattle.book.specs.Sections.{sectionWords}
 use Rattle.book.specs.Held.{sortCode, Holds}
 use Rattle.book.specs.Finding.{HolderFound}
 use Rattle.book.specs.TieSteps.{tieBy, aboveFor, TwoNamed}
@@ -88,7 +88,7 @@ module _ {S : State} (standing : Standing S) where
 -- what is found in a book that holds the state
 module _ {S : State} {book : List ℕ} {code : Bytes} (standing : Standing S) (held : Holds book code S) (n : Bytes) (named : isName n ≡ true) (p : Packed)
     (packed : packedOf n ≡ p) (r : ℕ) where
-  module _ (found : HolderFound (part section.holders book) (p .low) (p .high) r) where
+  module _ (found : HolderFound (sectionWords section.holders book) (p .low) (p .high) r) where
     number-is : r ≡ numberOr holderNumbers (holderNumber (S .declared) n)
     number-is = found (S .declared) (standing .declarations) (held .holders) n named packed
 
@@ -98,7 +98,7 @@ module _ {S : State} {book : List ℕ} {code : Bytes} (standing : Standing S) (h
     pub holder-absent : holderNumbers ≤ r → holderNumber (S .declared) n ≡ none
     holder-absent far = number-gone holderNumbers r (holderNumber (S .declared) n) (holder-few standing n) number-is far
 
-  module _ (s : Source) (source : ℕ) (coded-as : source ≡ sourceCode s) (found : Numbered (part section.attributes book) source (p .low) (p .high) r) where
+  module _ (s : Source) (source : ℕ) (coded-as : source ≡ sourceCode s) (found : Numbered (sectionWords section.attributes book) source (p .low) (p .high) r) where
     attribute-is : r ≡ numberOr attributeLimit (attributeNumber (S .declared) s n)
     attribute-is = found .number (S .declared) (standing .declarations) (held .attributes) s n named coded-as packed
 

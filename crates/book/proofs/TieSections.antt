@@ -15,7 +15,7 @@ use Rattle.rows.specs.Rows.{AttributeRows}
 use Rattle.index.specs.Index.{Indexed}
 use Rattle.ties.specs.TieArrays.{KeepsTies}
 use Rattle.book.specs.Sections as section
-use Rattle.book.specs.Sections.{Section, part, bookWords}
+use Rattle.book.specs.Sections.{Section, sectionWords, bookWords}
 use Rattle.book.specs.Held.{CountsOf, OperationRows, pairRow, holderRow, SortRows, GroupSlots, RuleRows, Holds}
 use Rattle.book.specs.TieSteps.{TiesEdited}
 use Rattle.book.proofs.Sections.{front, mid-inside, mid-before}
@@ -23,14 +23,14 @@ use Rattle.book.proofs.Sections.{front, mid-inside, mid-before}
 module _ {book : List ℕ} {code : Bytes} {S : State} (held : Holds book code S) (book′ : List ℕ) (long : length book′ ≡ bookWords)
     (before : take (section.ups .start) book′ ≡ take (section.ups .start) book) (behind : drop (section.rules .start) book′ ≡ drop (section.rules .start) book) where
   -- a section before those of ties
-  pub section-before : (s : Section) → s .start + s .size ≤ section.ups .start → part s book′ ≡ part s book
+  pub section-before : (s : Section) → s .start + s .size ≤ section.ups .start → sectionWords s book′ ≡ sectionWords s book
   section-before s l =
       sym (front (s .size) (s .start) (section.ups .start) book′ l) ∙ ap (λ (z : List ℕ). take (s .size) (drop (s .start) z)) before ∙ front (s .size) (s .start) (section.ups .start) book l
 
-  slots-same : part section.slots book′ ≡ part section.slots book
+  slots-same : sectionWords section.slots book′ ≡ sectionWords section.slots book
   slots-same = section-before section.slots (omega arith)
 
-  pub with-ties : (T : Ties) → KeepsTies (part section.ups book′) (part section.own book′) (part section.slots book) T → Holds book′ code (record { declared = S .declared; ties = T })
+  pub with-ties : (T : Ties) → KeepsTies (sectionWords section.ups book′) (sectionWords section.own book′) (sectionWords section.slots book) T → Holds book′ code (record { declared = S .declared; ties = T })
   with-ties T kept = record {
     long = long;
     code-long = held .code-long;
@@ -40,14 +40,14 @@ module _ {book : List ℕ} {code : Bytes} {S : State} (held : Holds book code S)
     pairs = subst (λ (w : List ℕ). Indexed w pairLimit (pairRow (S .declared))) (sym (section-before section.pairs (omega arith))) (held .pairs);
     holders = subst (λ (w : List ℕ). Indexed w holderNumbers (holderRow (S .declared .holders))) (sym (section-before section.holders (omega arith))) (held .holders);
     sorts = subst (λ (w : List ℕ). SortRows w (S .declared)) (sym (section-before section.sorts (omega arith))) (held .sorts);
-    groups = subst (λ (w : List ℕ). GroupSlots w (part section.seats book′) (S .declared)) (sym slots-same)
-        (subst (λ (w : List ℕ). GroupSlots (part section.slots book) w (S .declared)) (sym (section-before section.seats (omega arith))) (held .groups));
-    ties = subst (λ (w : List ℕ). KeepsTies (part section.ups book′) (part section.own book′) w T) (sym slots-same) kept;
+    groups = subst (λ (w : List ℕ). GroupSlots w (sectionWords section.seats book′) (S .declared)) (sym slots-same)
+        (subst (λ (w : List ℕ). GroupSlots (sectionWords section.slots book) w (S .declared)) (sym (section-before section.seats (omega arith))) (held .groups));
+    ties = subst (λ (w : List ℕ). KeepsTies (sectionWords section.ups book′) (sectionWords section.own book′) w T) (sym slots-same) kept;
     rules = subst (λ (w : List ℕ). RuleRows w code (S .declared)) (sym (ap (take (section.rules .size)) behind)) (held .rules);
   }
 
 -- how many words a section has
-pub part-size : (s : Section) (book : List ℕ) → length book ≡ bookWords → s .start + s .size ≤ bookWords → length (part s book) ≡ s .size
+pub part-size : (s : Section) (book : List ℕ) → length book ≡ bookWords → s .start + s .size ≤ bookWords → length (sectionWords s book) ≡ s .size
 part-size s book long fits = length-take-le (s .size) (drop (s .start) book) (simp length-drop (omega arith))
 
 -- a book as it was, where nothing may be changed so
@@ -58,7 +58,7 @@ unedited book long never = record { long = long; before = refl; behind = refl; h
 -- words written in the section of ties up, and in that of own pairs
 module _ (book ys : List ℕ) (long : length book ≡ bookWords) (may : State → Type 0) (change : Ties → Ties) where
   pub ups-edited : length ys ≡ section.ups .size
-      → ((S : State) (code : Bytes) → Standing S → Holds book code S → may S → KeepsTies ys (part section.own book) (part section.slots book) (change (S .ties)))
+      → ((S : State) (code : Bytes) → Standing S → Holds book code S → may S → KeepsTies ys (sectionWords section.own book) (sectionWords section.slots book) (change (S .ties)))
       → TiesEdited may change book (putMid (section.ups .start) (section.ups .size) book ys)
   ups-edited size keeps =
       let start = section.ups .start in
@@ -75,13 +75,13 @@ module _ (book ys : List ℕ) (long : length book ≡ bookWords) (may : State �
         behind = behind;
         holds = λ S code standing held m.
             with-ties held book′ all before behind (change (S .ties))
-            (subst (λ (w : List ℕ). KeepsTies w (part section.own book′) (part section.slots book) (change (S .ties)))
+            (subst (λ (w : List ℕ). KeepsTies w (sectionWords section.own book′) (sectionWords section.slots book) (change (S .ties)))
             (sym (mid-inside start (section.ups .size) book ys (omega arith) size))
-            (subst (λ (w : List ℕ). KeepsTies ys w (part section.slots book) (change (S .ties))) (sym (ap (take (section.own .size)) from)) (keeps S code standing held m)));
+            (subst (λ (w : List ℕ). KeepsTies ys w (sectionWords section.slots book) (change (S .ties))) (sym (ap (take (section.own .size)) from)) (keeps S code standing held m)));
       }
 
   pub own-edited : length ys ≡ section.own .size
-      → ((S : State) (code : Bytes) → Standing S → Holds book code S → may S → KeepsTies (part section.ups book) ys (part section.slots book) (change (S .ties)))
+      → ((S : State) (code : Bytes) → Standing S → Holds book code S → may S → KeepsTies (sectionWords section.ups book) ys (sectionWords section.slots book) (change (S .ties)))
       → TiesEdited may change book (putMid (section.own .start) (section.own .size) book ys)
   own-edited size keeps =
       let start = section.own .start in
@@ -97,8 +97,8 @@ module _ (book ys : List ℕ) (long : length book ≡ bookWords) (may : State �
         behind = behind;
         holds = λ S code standing held m.
             with-ties held book′ all before behind (change (S .ties))
-            (subst (λ (w : List ℕ). KeepsTies (part section.ups book′) w (part section.slots book) (change (S .ties)))
+            (subst (λ (w : List ℕ). KeepsTies (sectionWords section.ups book′) w (sectionWords section.slots book) (change (S .ties)))
             (sym (mid-inside start (section.own .size) book ys (omega arith) size))
-            (subst (λ (w : List ℕ). KeepsTies w ys (part section.slots book) (change (S .ties)))
+            (subst (λ (w : List ℕ). KeepsTies w ys (sectionWords section.slots book) (change (S .ties)))
             (sym (mid-before start (section.own .size) book ys (omega arith) (section.ups .start) (section.ups .size) (omega arith))) (keeps S code standing held m)));
       }

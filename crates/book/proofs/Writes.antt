@@ -12,7 +12,7 @@ use borrow.Author.Tests.{eqb-true, eqb-false, leb-true}
 use borrow.Rule.Slice.PartMut.{same-len-mid}
 use Rattle.model.specs.Notation.{if_then_else_}
 use Rattle.model.proofs.Lists.{or-cases}
-use Rattle.book.specs.Sections.{Section, part}
+use Rattle.book.specs.Sections.{Section, sectionWords}
 use Rattle.book.specs.Declaring.{withSection}
 use Rattle.book.proofs.Sections.{mid-inside, mid-before, mid-behind}
 
@@ -25,10 +25,10 @@ module _ (s t : Section) (book : List ℕ) (beside : apart s t ≡ true) where
   sides = ⊎-elim (λ e. inl (leb-true _ _ e)) (λ e. inr (leb-true _ _ e)) (or-cases (leb (s .start + s .size) (t .start)) (leb (t .start + t .size) (s .start)) beside)
 
   -- a word of t
-  pub word-beside : (i v : ℕ) → t .start ≤ i → i < t .start + t .size → part s (set book i v) ≡ part s book
+  pub word-beside : (i v : ℕ) → t .start ≤ i → i < t .start + t .size → sectionWords s (set book i v) ≡ sectionWords s book
   word-beside i v h l = go sides
     where
-      go : (s .start + s .size ≤ t .start) ⊎ (t .start + t .size ≤ s .start) → part s (set book i v) ≡ part s book
+      go : (s .start + s .size ≤ t .start) ⊎ (t .start + t .size ≤ s .start) → sectionWords s (set book i v) ≡ sectionWords s book
       go (inl m) =
           let e : s .start + (i - s .start) ≡ i = omega arith in
           ap (take (s .size)) (ap (λ (j : ℕ). drop (s .start) (set book j v)) (sym e) ∙ drop-set-add (s .start) book (i - s .start) v)
@@ -36,28 +36,28 @@ module _ (s t : Section) (book : List ℕ) (beside : apart s t ≡ true) where
       go (inr m) = ap (take (s .size)) (drop-set-lt (s .start) book i v (omega arith))
 
   -- the whole of t
-  pub section-beside : (words : List ℕ) → t .start + t .size ≤ length book → length words ≡ t .size → part s (withSection t book words) ≡ part s book
+  pub section-beside : (words : List ℕ) → t .start + t .size ≤ length book → length words ≡ t .size → sectionWords s (withSection t book words) ≡ sectionWords s book
   section-beside words fits long = go sides
     where
-      go : (s .start + s .size ≤ t .start) ⊎ (t .start + t .size ≤ s .start) → part s (withSection t book words) ≡ part s book
+      go : (s .start + s .size ≤ t .start) ⊎ (t .start + t .size ≤ s .start) → sectionWords s (withSection t book words) ≡ sectionWords s book
       go (inl m) = mid-before (t .start) (t .size) book words fits (s .start) (s .size) m
       go (inr m) = mid-behind (t .start) (t .size) book words fits (s .start) (s .size) long m
 
 module _ (s : Section) (book : List ℕ) where
   -- a word of the section itself
-  pub word-inside : (i v : ℕ) → i < s .size → part s (set book (s .start + i) v) ≡ set (part s book) i v
+  pub word-inside : (i v : ℕ) → i < s .size → sectionWords s (set book (s .start + i) v) ≡ set (sectionWords s book) i v
   word-inside i v h = ap (take (s .size)) (drop-set-add (s .start) book i v) ∙ take-set-lt (s .size) (drop (s .start) book) i v h
 
-  pub section-inside : (words : List ℕ) → s .start + s .size ≤ length book → length words ≡ s .size → part s (withSection s book words) ≡ words
+  pub section-inside : (words : List ℕ) → s .start + s .size ≤ length book → length words ≡ s .size → sectionWords s (withSection s book words) ≡ words
   section-inside words fits long = mid-inside (s .start) (s .size) book words fits long
 
-  pub section-long : s .start + s .size ≤ length book → length (part s book) ≡ s .size
+  pub section-long : s .start + s .size ≤ length book → length (sectionWords s book) ≡ s .size
   section-long fits = length-take-le (s .size) (drop (s .start) book) (omega (arith, length-drop (s .start) book))
 
   pub section-same-length : (words : List ℕ) → s .start + s .size ≤ length book → length words ≡ s .size → length (withSection s book words) ≡ length book
   section-same-length words fits long = same-len-mid (s .start) (s .size) book words (long ∙ sym (section-long fits))
 
-  pub section-word : (i : ℕ) → i < s .size → getD (part s book) i 0 ≡ getD book (s .start + i) 0
+  pub section-word : (i : ℕ) → i < s .size → getD (sectionWords s book) i 0 ≡ getD book (s .start + i) 0
   section-word i h = getD-take (s .size) (drop (s .start) book) i 0 h ∙ getD-drop (s .start) book i 0
 
 -- a word of a list in which one was written

@@ -19,8 +19,8 @@ use Rattle.text.specs.declared.Words.{Words}
 use Rattle.text.specs.declared.Value.{Value}
 use Rattle.text.specs.Packing.{packedOf}
 use Rattle.text.specs.Values.{atomValue}
-use Rattle.index.specs.Index.{putRow, added}
-use Rattle.book.specs.Sections.{Section, part, ruleBytes}
+use Rattle.index.specs.Index.{putRow, rowAdded}
+use Rattle.book.specs.Sections.{Section, sectionWords, ruleBytes}
 use Rattle.book.specs.Sections as section
 use Rattle.book.specs.Held.{Holds, sortCode}
 use Rattle.book.specs.Steps.{Steps}
@@ -50,7 +50,7 @@ maskPlace k n = section.attributes .start + (8 * k + 4 + n / wordBits)
 unfoldable pub pairPut : List ℕ → ℕ → ℕ → Words → ℕ → List ℕ
 pairPut book n k words mask =
     let marked = set book (maskPlace k n) mask in
-    set (withSection section.pairs marked (added (part section.pairs marked) pairLimit n (k + 1, words .first, words .second, words .third))) 2 (n + 1)
+    set (withSection section.pairs marked (rowAdded (sectionWords section.pairs marked) pairLimit n (k + 1, words .first, words .second, words .third))) 2 (n + 1)
 
 pub record PairPut (book : List ℕ) (n k : ℕ) (words : Words) (next : List ℕ) : Type 0 where
   pub mask : ℕ
@@ -61,13 +61,13 @@ pub record PairPut (book : List ℕ) (n k : ℕ) (words : Words) (next : List �
 unfoldable pub holderPut : List ℕ → ℕ → ℕ → ℕ → ℕ → List ℕ
 holderPut book n sort low high =
     set
-    (set (withSection section.holders book (added (part section.holders book) holderNumbers n (1, low, high, 0))) (section.sorts .start + n) sort)
+    (set (withSection section.holders book (rowAdded (sectionWords section.holders book) holderNumbers n (1, low, high, 0))) (section.sorts .start + n) sort)
     3
     (n + 1)
 
 -- the slot of a group, its seat, and the count with it
 unfoldable pub groupPut : List ℕ → ℕ → ℕ → List ℕ
-groupPut book n g = set (set (withSection section.slots book (set (part section.slots book) g n)) (section.seats .start + n) (g + 1)) 4 (g + 1)
+groupPut book n g = set (set (withSection section.slots book (set (sectionWords section.slots book) g n)) (section.seats .start + n) (g + 1)) 4 (g + 1)
 
 -- an attribute would be a str of env or connect
 abbrev pub blockText : ℕ → ℕ → Bool

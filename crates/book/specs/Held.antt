@@ -18,7 +18,7 @@ use Rattle.tokens.specs.RuleCode.{Coded}
 use Rattle.index.specs.Index.{Row, Indexed}
 use Rattle.ties.specs.TieArrays.{KeepsTies}
 use Rattle.book.specs.Sections as section
-use Rattle.book.specs.Sections.{part, bookWords, codeBytes, ruleBytes}
+use Rattle.book.specs.Sections.{sectionWords, bookWords, codeBytes, ruleBytes}
 
 -- how many there are of each
 pub record CountsOf (words : List ℕ) (D : Declarations) : Type 0 where
@@ -79,12 +79,12 @@ RuleRows words code D = (i : ℕ) (r : Rule) → nth (D .rules) i ≡ some r →
 pub record Holds (book : List ℕ) (code : Bytes) (S : State) : Type 0 where
   pub long : length book ≡ bookWords
   pub code-long : length code ≡ ruleBytes
-  pub counts : CountsOf (part section.counts book) (S .declared)
-  pub attributes : AttributeRows (part section.attributes book) (S .declared)
-  pub operations : OperationRows (part section.operations book) (S .declared .operations)
-  pub pairs : Indexed (part section.pairs book) pairLimit (pairRow (S .declared))
-  pub holders : Indexed (part section.holders book) holderNumbers (holderRow (S .declared .holders))
-  pub sorts : SortRows (part section.sorts book) (S .declared)
-  pub groups : GroupSlots (part section.slots book) (part section.seats book) (S .declared)
-  pub ties : KeepsTies (part section.ups book) (part section.own book) (part section.slots book) (S .ties)
-  pub rules : RuleRows (part section.rules book) code (S .declared)
+  pub counts : CountsOf (sectionWords section.counts book) (S .declared)
+  pub attributes : AttributeRows (sectionWords section.attributes book) (S .declared)
+  pub operations : OperationRows (sectionWords section.operations book) (S .declared .operations)
+  pub pairs : Indexed (sectionWords section.pairs book) pairLimit (pairRow (S .declared))
+  pub holders : Indexed (sectionWords section.holders book) holderNumbers (holderRow (S .declared .holders))
+  pub sorts : SortRows (sectionWords section.sorts book) (S .declared)
+  pub groups : GroupSlots (sectionWords section.slots book) (sectionWords section.seats book) (S .declared)
+  pub ties : KeepsTies (sectionWords section.ups book) (sectionWords section.own book) (sectionWords section.slots book) (S .ties)
+  pub rules : RuleRows (sectionWords section.rules book) code (S .declared)

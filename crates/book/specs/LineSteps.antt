@@ -21,7 +21,7 @@ use Rattle.codes.specs.Codes.{coded, keyCode}
 use Rattle.text.specs.Parts.{FirstAt}
 use Rattle.rows.specs.Rows.{AttributeRows}
 use Rattle.tokens.specs.RuleCode.{Coded}
-use Rattle.policy.specs.Judgements.{judged}
+use Rattle.policy.specs.Judgements.{policyNumber}
 use Rattle.book.specs.Sections as section
 use Rattle.book.specs.Sections.{codeBytes}
 use Rattle.book.specs.Held.{sortCode, Holds}
@@ -47,15 +47,15 @@ KeyRead book o book′ r = (code : Bytes) → FieldsRead book code o book′ cod
 -- ---- rules
 
 -- the bytes of rule i
-abbrev pub codeOf : Bytes → ℕ → Bytes
-codeOf code i = take codeBytes (drop (codeBytes * i) code)
+abbrev pub codeOfRule : Bytes → ℕ → Bytes
+codeOfRule code i = take codeBytes (drop (codeBytes * i) code)
 
 -- n is what the policy s alone is refused for, whatever declarations the rows are those of; rule k, where there can be one, has the code of its
 -- tokens, and the rules before it have the code that they had
 pub record RuleJudged (s : Bytes) (rows : List ℕ) (k : ℕ) (code code′ : Bytes) (n : ℕ) : Type 0 where
-  pub number : (D : Declarations) → WellDeclared D → AttributeRows rows D → n ≡ judged D s
-  pub before : (i : ℕ) → i < k → codeOf code′ i ≡ codeOf code i
-  pub here : k < ruleLimit → (D : Declarations) → WellDeclared D → AttributeRows rows D → (ts : List Token) → tokensOf s ≡ some ts → Coded D (codeOf code′ k) 0 ts
+  pub number : (D : Declarations) → WellDeclared D → AttributeRows rows D → n ≡ policyNumber D s
+  pub before : (i : ℕ) → i < k → codeOfRule code′ i ≡ codeOfRule code i
+  pub here : k < ruleLimit → (D : Declarations) → WellDeclared D → AttributeRows rows D → (ts : List Token) → tokensOf s ≡ some ts → Coded D (codeOfRule code′ k) 0 ts
 
 -- the tests of a rule, by what its policy alone is refused for, its operation's number and the number of rules
 abbrev pub ruleTests : ℕ → ℕ → ℕ → List Test

@@ -9,8 +9,8 @@ pub record Section : Type 0 where
   pub size : ℕ
 
 -- the words of a section
-abbrev pub part : Section → List ℕ → List ℕ
-part s book = take (s .size) (drop (s .start) book)
+abbrev pub sectionWords : Section → List ℕ → List ℕ
+sectionWords s book = take (s .size) (drop (s .start) book)
 
 -- how many attributes, operations, pairs, holders, groups and rules there are
 abbrev pub counts : Section

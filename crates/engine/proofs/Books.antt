@@ -25,21 +25,21 @@ use Rattle.rows.specs.Rows.{PairRow, PairRows}
 use Rattle.index.specs.Index.{chains, rowPlace, Row, Indexed, RowWritten}
 use Rattle.session.specs.Words.{SetOf, SetsOf}
 use Rattle.book.specs.Sections as section
-use Rattle.book.specs.Sections.{part}
+use Rattle.book.specs.Sections.{sectionWords}
 use Rattle.book.specs.Held.{Holds, pairRow}
 use Rattle.engine.specs.Requests.{pairRows, NumbersOf, RequestOf}
 use Rattle.engine.proofs.Blocks.{head-of, entries-behind}
 
 -- ---- the rows of pairs, in the section of their index
 
-same-word : (book : List ℕ) (i : ℕ) → i < pairRows .size → getD (part pairRows book) i 0 ≡ getD (part section.pairs book) (chains + pairLimit + i) 0
+same-word : (book : List ℕ) (i : ℕ) → i < pairRows .size → getD (sectionWords pairRows book) i 0 ≡ getD (sectionWords section.pairs book) (chains + pairLimit + i) 0
 same-word book i h =
     let e : pairRows .start + i ≡ section.pairs .start + (chains + pairLimit + i) = omega arith in
     getD-take (pairRows .size) (drop (pairRows .start) book) i 0 h ∙ getD-drop (pairRows .start) book i 0 ∙ ap (λ (k : ℕ). getD book k 0) e
     ∙ sym (getD-take (section.pairs .size) (drop (section.pairs .start) book) (chains + pairLimit + i) 0 (omega arith)
     ∙ getD-drop (section.pairs .start) book (chains + pairLimit + i) 0)
 
-module _ (book : List ℕ) (D : Declarations) (well : WellDeclared D) (ix : Indexed (part section.pairs book) pairLimit (pairRow D)) where
+module _ (book : List ℕ) (D : Declarations) (well : WellDeclared D) (ix : Indexed (sectionWords section.pairs book) pairLimit (pairRow D)) where
   abbrev rowOf : ℕ → Pair → Row
   rowOf k p = (k + 1, atomWords (p .atom) .first, atomWords (p .atom) .second, atomWords (p .atom) .third)
 
@@ -48,18 +48,18 @@ module _ (book : List ℕ) (D : Declarations) (well : WellDeclared D) (ix : Inde
       ap (λ (o : Option Pair). o >>= λ q. attributeNumber D (q .source) (q .name) >>= λ k. some (rowOf k q)) at
       ∙ ap (λ (o : Option ℕ). o >>= λ k. some (rowOf k p)) number
 
-  word-so : (i j w : ℕ) → i < pairLimit → j < 4 → getD (part section.pairs book) (rowPlace pairLimit i + j) 0 ≡ w → getD (part pairRows book) (4 * i + j) 0 ≡ w
+  word-so : (i j w : ℕ) → i < pairLimit → j < 4 → getD (sectionWords section.pairs book) (rowPlace pairLimit i + j) 0 ≡ w → getD (sectionWords pairRows book) (4 * i + j) 0 ≡ w
   word-so i j w h l e =
       let z : chains + pairLimit + (4 * i + j) ≡ rowPlace pairLimit i + j = omega arith in
-      same-word book (4 * i + j) (omega arith) ∙ ap (λ (n : ℕ). getD (part section.pairs book) n 0) z ∙ e
+      same-word book (4 * i + j) (omega arith) ∙ ap (λ (n : ℕ). getD (sectionWords section.pairs book) n 0) z ∙ e
 
-  first-so : (i w : ℕ) → i < pairLimit → getD (part section.pairs book) (rowPlace pairLimit i) 0 ≡ w → getD (part pairRows book) (4 * i) 0 ≡ w
+  first-so : (i w : ℕ) → i < pairLimit → getD (sectionWords section.pairs book) (rowPlace pairLimit i) 0 ≡ w → getD (sectionWords pairRows book) (4 * i) 0 ≡ w
   first-so i w h e = same-word book (4 * i) (omega arith) ∙ e
 
   few : length (D .pairs) ≤ pairLimit
   few = well .pairs .few
 
-  pub pair-rows : PairRows (part pairRows book) D
+  pub pair-rows : PairRows (sectionWords pairRows book) D
   pair-rows = record {
     within = few;
     row = λ i k p at number. written i k p (omega (arith, nth-lt (D .pairs) i at, few)) (ix .written i (rowOf k p) (row-so i k p at number));
@@ -69,7 +69,7 @@ module _ (book : List ℕ) (D : Declarations) (well : WellDeclared D) (ix : Inde
       nobody : (i : ℕ) → length (D .pairs) ≤ i → nth (D .pairs) i ≡ none
       nobody i l = no-result (nth (D .pairs) i) (λ a e. let h = nth-lt (D .pairs) i e in omega arith)
 
-      written : (i k : ℕ) (p : Pair) → i < pairLimit → RowWritten (part section.pairs book) pairLimit i (rowOf k p) → PairRow (part pairRows book) i k p
+      written : (i k : ℕ) (p : Pair) → i < pairLimit → RowWritten (sectionWords section.pairs book) pairLimit i (rowOf k p) → PairRow (sectionWords pairRows book) i k p
       written i k p h w = record {
         attribute = first-so i (k + 1) h (w .w0);
         first = word-so i 1 (atomWords (p .atom) .first) h (omega arith) (w .w1);
@@ -100,7 +100,7 @@ module _ {S : State} (standing : Standing S) where
 
 module _ {S : State} {book : List ℕ} {code : Bytes} (standing : Standing S) (holds : Holds book code S)
     (block : Bytes) (b : Block) (read : readBlock block ≡ some b) (bytes : (i : ℕ) → getD block i 0 < 256) where
-  pub numbers-of : NumbersOf (S .declared) b (part section.counts book) (part section.sorts book) (part section.attributes book) block (take (length block - 10) (drop 10 block))
+  pub numbers-of : NumbersOf (S .declared) b (sectionWords section.counts book) (sectionWords section.sorts book) (sectionWords section.attributes book) block (take (length block - 10) (drop 10 block))
   numbers-of = record {
     read = read;
     counts-are = holds .counts;
@@ -110,7 +110,7 @@ module _ {S : State} {book : List ℕ} {code : Bytes} (standing : Standing S) (h
   }
 
   pub request-of : (t : List ℕ) → t ≡ table (S .declared) (S .ties)
-      → RequestOf S b (part section.counts book) (part section.rules book) code (part section.attributes book) (part pairRows book) t block (take (length block - 10) (drop 10 block))
+      → RequestOf S b (sectionWords section.counts book) (sectionWords section.rules book) code (sectionWords section.attributes book) (sectionWords pairRows book) t block (take (length block - 10) (drop 10 block))
   request-of t e =
       let head = head-of block b read in
       let well = standing .declarations in

@@ -27,7 +27,7 @@ use Rattle.fields.specs.declared.TwoFields.{TwoFields}
 use Rattle.fields.specs.declared.ValueFields.{ValueFields}
 use Rattle.fields.specs.Told.{numbersOr, Told}
 use Rattle.fields.specs.Forms.{TwoTold, ValueTold}
-use Rattle.fields.specs.Frames.{part, FrameTold}
+use Rattle.fields.specs.Frames.{bytesBetween, FrameTold}
 use Rattle.book.specs.TieSteps.{TieOfLine, TwoNamed, ValueNamed}
 use Rattle.engine.specs.EditSteps.{BookTie, fieldTests, FieldsTie, TwoFieldsTie, KeyTie, LineTie}
 
@@ -139,10 +139,10 @@ module _ {book : List ℕ} {n : ℕ} {t : Tie} where
     tie = λ w. absurd (omega (arith, z, w));
   }
 
-  pub in-frame : (line : Bytes) (r : Framed) → FrameTold line r → (r .key ≡ 0 → ⊥) → KeyTie book (r .key) (part line (r .start) (r .end)) n t → LineTie book line n t
+  pub in-frame : (line : Bytes) (r : Framed) → FrameTold line r → (r .key ≡ 0 → ⊥) → KeyTie book (r .key) (bytesBetween line (r .start) (r .end)) n t → LineTie book line n t
   unfolding unframed otherKey malformed readLine
   in-frame line r told there keyed S code standing held =
       told-some (told .frame) has-key refl (ap not (ne-eqb (r .key) 0 there)) λ (k, start, end) e q.
-      let here : framed line ≡ some (k, part line (r .start) (r .end)) = e ∙ ap (λ (x : Framed). some (k, part line (x .start) (x .end))) (sym q) in
+      let here : framed line ≡ some (k, bytesBetween line (r .start) (r .end)) = e ∙ ap (λ (x : Framed). some (k, bytesBetween line (x .start) (x .end))) (sym q) in
       let a = keyed k (ap (λ (x : Framed). x .key) q) S code standing held in
       record { refusal = rw here (a .refusal); tie = rw here (a .tie) }

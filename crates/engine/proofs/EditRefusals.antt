@@ -23,7 +23,7 @@ use Rattle.model.proofs.Tests.{allNumbered, none-holds}
 use Rattle.model.proofs.Standing.{tie-fits}
 use Rattle.text.proofs.LoopPlaces.{tail-part}
 use Rattle.fields.specs.Frames.{Signed}
-use Rattle.engine.specs.EditSteps.{ReadTie, lineTests, signTests}
+use Rattle.engine.specs.EditSteps.{ReadTie, behindSignTests, signTests}
 
 -- ---- tests one after another
 
@@ -127,29 +127,29 @@ tie-tests S false line l t r e =
 -- ---- the whole
 
 module _ (S : State) (edit : Bytes) (plus : Bool) (line : Bytes) (signed : SignedLine edit plus line) where
-  line-and-tie : editRefusal S edit ≡ first (lineTests line S ++ tieTests S plus line)
+  line-and-tie : editRefusal S edit ≡ first (behindSignTests line S ++ tieTests S plus line)
   line-and-tie = refusal-of S edit (signed .plus-is) (signed .minus-is) ∙ go plus
     where
-      go : (b : Bool) → first (testsOf S (onlyIf b line) (onlyIf (not b) line)) ≡ first (lineTests line S ++ tieTests S b line)
+      go : (b : Bool) → first (testsOf S (onlyIf b line) (onlyIf (not b) line)) ≡ first (behindSignTests line S ++ tieTests S b line)
       go true = refl
       go false = refl
 
-  module _ (n : ℕ) (t : Tie) (read : ReadTie S (lineTests line S) (readLine line) n t) where
+  module _ (n : ℕ) (t : Tie) (read : ReadTie S (behindSignTests line S) (readLine line) n t) where
     pub line-refused : (n ≡ 0 → ⊥) → editRefusal S edit ≡ n
-    line-refused z = line-and-tie ∙ first-refused (lineTests line S) (tieTests S plus line) n (read .refusal) z
+    line-refused z = line-and-tie ∙ first-refused (behindSignTests line S) (tieTests S plus line) n (read .refusal) z
 
     module _ (z : n ≡ 0) where
       -- its tie fits the declarations
       pub tie-fitting : TieFits (S .declared) t
       tie-fitting =
           let (l, r, e) = bind-some (readLine line) (tieOf (S .declared)) (read .tie z) in
-          let none-refused = none-holds (lineTests line S) refl (sym (read .refusal) ∙ z) in
+          let none-refused = none-holds (behindSignTests line S) refl (sym (read .refusal) ∙ z) in
           tie-fits (S .declared) l t e (some-not (readLine line) (wrongSort (S .declared)) (none-refused .1 .1 .1 .1 .0) l r)
 
       pub tie-refusal : editRefusal S edit ≡ first (signTests S plus t)
       tie-refusal =
           let (l, r, e) = bind-some (readLine line) (tieOf (S .declared)) (read .tie z) in
-          line-and-tie ∙ first-passed (lineTests line S) (tieTests S plus line) refl (sym (read .refusal) ∙ z) ∙ tie-tests S plus line l t r e
+          line-and-tie ∙ first-passed (behindSignTests line S) (tieTests S plus line) refl (sym (read .refusal) ∙ z) ∙ tie-tests S plus line l t r e
 
       pub edited-tie : editedTie S edit ≡ some t
       unfolding editedTie

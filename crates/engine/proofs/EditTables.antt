@@ -17,7 +17,7 @@ use Rattle.model.proofs.Ties.{other-tie}
 use Rattle.model.proofs.Standing.{added-standing, removed-standing}
 use Rattle.sets.specs.Refreshed.{EditedAt}
 use Rattle.book.specs.Sections as section
-use Rattle.book.specs.Sections.{part}
+use Rattle.book.specs.Sections.{sectionWords}
 use Rattle.book.specs.TieSteps.{tieBy}
 use Rattle.book.proofs.TieSections.{part-size}
 use Rattle.engine.specs.EditSteps.{signTests, TieChanged, TableKept, Applied}
@@ -55,7 +55,7 @@ module _ (plus : Bool) (t : Tie) (book book′ words words′ : List ℕ) (e cou
       let none-refused = none-holds (signTests S plus t) refl (sym passed) in
       let held′ = changed .holds S code standing held (fits, stood S t plus none-refused) in
       let U = editedTies plus (some t) (S .ties) in
-      let edit : EditedAt (part section.ups book′) (part section.own book′) (part section.slots book′) e (S .declared) (S .ties) U =
+      let edit : EditedAt (sectionWords section.ups book′) (sectionWords section.own book′) (sectionWords section.slots book′) e (S .declared) (S .ties) U =
       record {
         before = standing;
         after = edited-standing S t standing plus fits none-refused;

@@ -22,7 +22,7 @@ use Rattle.session.specs.Words.{OpenedFirst, unheldWords}
 use Rattle.session.proofs.Opens.{zeros-hold, opens}
 use Rattle.session.proofs.Activated.{unheld-so}
 use Rattle.book.specs.Sections as section
-use Rattle.book.specs.Sections.{part}
+use Rattle.book.specs.Sections.{sectionWords}
 use Rattle.book.specs.Held.{Holds}
 use Rattle.engine.specs.declared.Decision.{Decision}
 use Rattle.engine.specs.Requests.{pairRows, WrongNumber, RequestOf}
@@ -130,7 +130,7 @@ module _ (S : State) (block : Bytes) where
 
 module _ {S : State} {book : List ℕ} {code : Bytes} (standing : Standing S) (holds : Holds book code S)
     (block : Bytes) (bytes : (i : ℕ) → getD block i 0 < 256) (fit : isBlock block ≡ true)
-    (w : Bool) (told : WrongNumber (part section.counts book) (part section.sorts book) (part section.attributes book) block (take (length block - 10) (drop 10 block)) w) where
+    (w : Bool) (told : WrongNumber (sectionWords section.counts book) (sectionWords section.sorts book) (sectionWords section.attributes book) block (take (length block - 10) (drop 10 block)) w) where
   abbrev b : Block
   b = headed block
 
@@ -144,7 +144,7 @@ module _ {S : State} {book : List ℕ} {code : Bytes} (standing : Standing S) (h
   refuses-numbers e = wrong S block b read (sym e ∙ told-so)
 
   pub answers : w ≡ false → (t : List ℕ) → t ≡ table (S .declared) (S .ties) → (d : Decision)
-      → Answered (part section.counts book) (part section.rules book) code (part section.attributes book) (part pairRows book) t block (take (length block - 10) (drop 10 block)) d
+      → Answered (sectionWords section.counts book) (sectionWords section.rules book) code (sectionWords section.attributes book) (sectionWords pairRows book) t block (take (length block - 10) (drop 10 block)) d
       → decisionOf d ≡ model.decide S block
   answers e t f d g = g S b (request-of standing holds block b read bytes t f) ∙ right S block b read (sym e ∙ told-so)
 

@@ -21,7 +21,7 @@ use Rattle.model.specs.Standing.{Standing, TieFits}
 use Rattle.codes.specs.Codes.{keyCode}
 use Rattle.sets.specs.Refreshed.{Refreshed}
 use Rattle.book.specs.Sections as section
-use Rattle.book.specs.Sections.{part}
+use Rattle.book.specs.Sections.{sectionWords}
 use Rattle.book.specs.Held.{Holds}
 use Rattle.book.specs.TieSteps.{TiesEdited}
 use Rattle.engine.specs.Calls.{Edits}
@@ -53,8 +53,8 @@ KeyTie book key f number t =
     (k : Key) → key ≡ keyCode k → BookTie book (λ S. 13 if not (isTieKey k) ∷ fieldTests (readFields k f) S) (readFields k f) number t
 
 -- the line behind the sign: 4, 13, 6, 8 and 9
-abbrev pub lineTests : Bytes → State → List Test
-lineTests line S =
+abbrev pub behindSignTests : Bytes → State → List Test
+behindSignTests line S =
     4 if unframed line
     ∷ 13 if otherKey line
     ∷ 6 if malformed line
@@ -63,7 +63,7 @@ lineTests line S =
     ∷ []
 
 abbrev pub LineTie : List ℕ → Bytes → ℕ → Tie → Type 0
-LineTie book line number t = BookTie book (lineTests line) (readLine line) number t
+LineTie book line number t = BookTie book (behindSignTests line) (readLine line) number t
 
 -- what a tie is refused for: 10 and 12 behind `+`, 14 behind `-`
 abbrev pub signTests : State → Bool → Tie → List Test
@@ -82,7 +82,7 @@ TieChanged plus t book book′ = TiesEdited (λ S. TieFits (S .declared) t × (S
 
 -- the table after an edit of holder e, by the sections of the book
 abbrev pub TableKept : List ℕ → ℕ → List ℕ → List ℕ → ℕ → Type 0
-TableKept book e words words′ r = Refreshed (part section.ups book) (part section.own book) (part section.slots book) e words words′ r
+TableKept book e words words′ r = Refreshed (sectionWords section.ups book) (sectionWords section.own book) (sectionWords section.slots book) e words words′ r
 
 -- a tie of which nothing is refused, on the table of the state: the book then holds the state with the change, and the table is that state's
 pub record Changed (S : State) (code : Bytes) (plus : Bool) (t : Tie) (book′ words′ : List ℕ) (count : ℕ) : Type 0 where

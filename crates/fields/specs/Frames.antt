@@ -20,12 +20,12 @@ abbrev pub frameNumbers : Key × ℕ × ℕ → Framed
 frameNumbers (k, start, end) = record { key = keyCode k; start = start; end = end }
 
 -- the bytes between two places
-abbrev pub part : Bytes → ℕ → ℕ → Bytes
-part s start end = take (end - start) (drop start s)
+abbrev pub bytesBetween : Bytes → ℕ → ℕ → Bytes
+bytesBetween s start end = take (end - start) (drop start s)
 
 -- the key, and the places between which the fields stand; 0 for the key where a line is not so framed
 pub record FrameTold (line : Bytes) (r : Framed) : Type 0 where
-  pub frame : Told noFrame frameNumbers (λ (k, start, end). some (k, part line start end)) (framed line) r
+  pub frame : Told noFrame frameNumbers (λ (k, start, end). some (k, bytesBetween line start end)) (framed line) r
   pub ordered : r .start ≤ r .end
   pub within : r .end ≤ length line
 

@@ -16,13 +16,13 @@ pub record Packs (number carried r : ℕ) : Type 0 where
   pub high-bits : r / high ≡ carried
 
 -- the value that a decision carries, 0 where it carries none
-abbrev pub carried : List ℕ → ℕ
-carried [] = 0
-carried (v ∷ values) = v
+abbrev pub carriedValue : List ℕ → ℕ
+carriedValue [] = 0
+carriedValue (v ∷ values) = v
 
 -- r is the number of the decision on a request, and the rule of a permit
 pub record RequestNumber (block : Bytes) (book : List ℕ) (code : Bytes) (words : List ℕ) (r : ℕ) : Type 0 where
   pub decision : Decision
   pub decides : Decides block book code words decision
   pub number : r % high ≡ numberAndValuesOf decision .0
-  pub rule : r / high ≡ carried (numberAndValuesOf decision .1)
+  pub rule : r / high ≡ carriedValue (numberAndValuesOf decision .1)

@@ -6,7 +6,7 @@ ghost use Rattle.model.specs.Host.{hostCall, hostTable};
 ghost use Rattle.engine.specs.Decisions.{numberAndValuesOf};
 ghost use Rattle.engine.specs.Calls.{Loads};
 ghost use Rattle.engine.specs.EditSteps.{EditCall};
-ghost use Rattle.host.specs.AnswerNumbers.{high, carried, Packs, RequestNumber};
+ghost use Rattle.host.specs.AnswerNumbers.{high, carriedValue, Packs, RequestNumber};
 use book::BOOK_WORDS;
 use book::RULE_BYTES;
 use engine::Decision;
@@ -25,7 +25,7 @@ fn number_of(d: Decision) -> u32
 
 // The rule of a permit.
 fn rule_of(d: Decision) -> u32
-    ensures { λ r. ⌜ r ≡ carried (numberAndValuesOf d .1) ⌝ }
+    ensures { λ r. ⌜ r ≡ carriedValue (numberAndValuesOf d .1) ⌝ }
 {
     match d {
         Decision::Permit(k) => k as u32,

@@ -12,17 +12,17 @@ use lib.ListN.{length, getD, set, length-set}
 use lib.Seq.{getD-set-same, getD-set-other}
 use borrow.Author.Tests.{eqb-true, eqb-false, eq-eqb, ne-eqb}
 use Rattle.model.proofs.WordTables.{none-is-some}
-use Rattle.index.specs.Index.{chains, rowsIn, nextPlace, rowPlace, Row, hashOf, Rows, InChain, Greatest, RowWritten, Indexed, withRow, putRow, added, Added}
+use Rattle.index.specs.Index.{chains, rowsIn, nextPlace, rowPlace, Row, hashOf, Rows, InChain, Greatest, RowWritten, Indexed, withRow, putRow, rowAdded, Added}
 use Rattle.index.proofs.ChainWalks.{hash-below, there-below, rows-of, chain-as}
 
 -- what the code writes is the section with the row
 pub adds : (s : List ℕ) {t : List ℕ} (k n h : ℕ) (w : Row) → h ≡ hashOf w → n ≡ rowsIn (length s)
-    → t ≡ putRow (set (set s (chains + k) (getD s h 0)) h (k + 1)) (chains + n + 4 * k) w → t ≡ added s (rowsIn (length s)) k w
-unfolding added
+    → t ≡ putRow (set (set s (chains + k) (getD s h 0)) h (k + 1)) (chains + n + 4 * k) w → t ≡ rowAdded s (rowsIn (length s)) k w
+unfolding rowAdded
 adds s k n h w e f g = g ∙ rw (e, f)
 
-pub added-length : (s : List ℕ) (n k : ℕ) (w : Row) → length (added s n k w) ≡ length s
-unfolding added putRow
+pub added-length : (s : List ℕ) (n k : ℕ) (w : Row) → length (rowAdded s n k w) ≡ length s
+unfolding rowAdded putRow
 added-length s n k w = simp length-set
 
 -- the words of a row that was written, and those that stay: s1 to s4 is the list after each of the four words
@@ -77,29 +77,29 @@ module _ (s : List ℕ) (n k : ℕ) (w : Row) (size : length s ≡ chains + 5 * 
   chained = set linked (hashOf w) (k + 1)
 
   pub added-other : (i : ℕ) → (i ≡ nextPlace k → ⊥) → (i ≡ hashOf w → ⊥) → ((t : ℕ) → t < 4 → i ≡ rowPlace n k + t → ⊥)
-      → getD (added s n k w) i 0 ≡ getD s i 0
-  unfolding added
+      → getD (rowAdded s n k w) i 0 ≡ getD s i 0
+  unfolding rowAdded
   added-other i a b out =
       put-other chained (rowPlace n k) w i out
       ∙ getD-set-other linked (hashOf w) i (k + 1) 0 b
       ∙ getD-set-other s (nextPlace k) i (getD s (hashOf w) 0) 0 a
 
-  pub added-first : getD (added s n k w) (hashOf w) 0 ≡ k + 1
-  unfolding added
+  pub added-first : getD (rowAdded s n k w) (hashOf w) 0 ≡ k + 1
+  unfolding rowAdded
   added-first =
       let h = hash-below w in
       put-other chained (rowPlace n k) w (hashOf w) (λ t l e. omega arith) ∙ getD-set-same linked (hashOf w) (k + 1) 0 (simp length-set (omega arith))
 
-  pub added-next : getD (added s n k w) (nextPlace k) 0 ≡ getD s (hashOf w) 0
-  unfolding added
+  pub added-next : getD (rowAdded s n k w) (nextPlace k) 0 ≡ getD s (hashOf w) 0
+  unfolding rowAdded
   added-next =
       let h = hash-below w in
       put-other chained (rowPlace n k) w (nextPlace k) (λ t l e. omega arith)
       ∙ getD-set-other linked (hashOf w) (nextPlace k) (k + 1) 0 (λ e. omega arith)
       ∙ getD-set-same s (nextPlace k) (getD s (hashOf w) 0) 0 (omega arith)
 
-  pub added-row : (w .0 ≡ 0 → ⊥) → RowWritten (added s n k w) n k w
-  unfolding added
+  pub added-row : (w .0 ≡ 0 → ⊥) → RowWritten (rowAdded s n k w) n k w
+  unfolding rowAdded
   added-row there =
       let long : rowPlace n k + 3 < length chained = simp length-set (omega arith) in
       record {
@@ -111,13 +111,13 @@ module _ (s : List ℕ) (n k : ℕ) (w : Row) (size : length s ≡ chains + 5 * 
       }
 
   -- the other rows, nexts and firsts stay
-  pub row-kept : (j : ℕ) → j < n → (j ≡ k → ⊥) → (i : ℕ) → rowPlace n j ≤ i → i < rowPlace n j + 4 → getD (added s n k w) i 0 ≡ getD s i 0
+  pub row-kept : (j : ℕ) → j < n → (j ≡ k → ⊥) → (i : ℕ) → rowPlace n j ≤ i → i < rowPlace n j + 4 → getD (rowAdded s n k w) i 0 ≡ getD s i 0
   row-kept j h other i l m = let b = hash-below w in added-other i (λ e. omega arith) (λ e. omega arith) (λ u p e. omega arith)
 
-  pub next-kept : (j : ℕ) → j < n → (j ≡ k → ⊥) → getD (added s n k w) (nextPlace j) 0 ≡ getD s (nextPlace j) 0
+  pub next-kept : (j : ℕ) → j < n → (j ≡ k → ⊥) → getD (rowAdded s n k w) (nextPlace j) 0 ≡ getD s (nextPlace j) 0
   next-kept j h other = let b = hash-below w in added-other (nextPlace j) (λ e. omega arith) (λ e. omega arith) (λ u m e. omega arith)
 
-  pub first-kept : (h : ℕ) → h < chains → (h ≡ hashOf w → ⊥) → getD (added s n k w) h 0 ≡ getD s h 0
+  pub first-kept : (h : ℕ) → h < chains → (h ≡ hashOf w → ⊥) → getD (rowAdded s n k w) h 0 ≡ getD s h 0
   first-kept h l other = added-other h (λ e. omega arith) other (λ u m e. omega arith)
 
 same-number : (j k : ℕ) → (j ≡ k) ⊎ (j ≡ k → ⊥)
@@ -177,10 +177,10 @@ module _ (rows : Rows) (k : ℕ) (w : Row) where
 -- the section with row k more is the index of the rows with it, if k is above every row that is there
 module _ (s : List ℕ) (n k : ℕ) (w : Row) (rows : Rows) (ix : Indexed s n rows) (few : k < n) (there : w .0 ≡ 0 → ⊥)
     (fresh : (j : ℕ) → k ≤ j → rows j ≡ none) where
-  new-written : (j : ℕ) (v : Row) → withRow rows k w j ≡ some v → (j ≡ k) ⊎ (j ≡ k → ⊥) → RowWritten (added s n k w) n j v
+  new-written : (j : ℕ) (v : Row) → withRow rows k w j ≡ some v → (j ≡ k) ⊎ (j ≡ k → ⊥) → RowWritten (rowAdded s n k w) n j v
   new-written j v e (inl z) =
-      subst (λ (x : ℕ). RowWritten (added s n k w) n x v) (sym z)
-      (subst (λ (u : Row). RowWritten (added s n k w) n k u) (with-same rows k w j v e z) (added-row s n k w (ix .size) few there))
+      subst (λ (x : ℕ). RowWritten (rowAdded s n k w) n x v) (sym z)
+      (subst (λ (u : Row). RowWritten (rowAdded s n k w) n k u) (with-same rows k w j v e z) (added-row s n k w (ix .size) few there))
   new-written j v e (inr z) =
       let f = sym (with-other rows k w j z) ∙ e in
       let h = there-below ix j v f in
@@ -194,24 +194,24 @@ module _ (s : List ℕ) (n k : ℕ) (w : Row) (rows : Rows) (ix : Indexed s n ro
         w3 = same (rowPlace n j + 3) (omega arith) (omega arith) ∙ row .w3;
       }
 
-  new-absent : (j : ℕ) → j < n → withRow rows k w j ≡ none → (j ≡ k) ⊎ (j ≡ k → ⊥) → getD (added s n k w) (rowPlace n j) 0 ≡ 0
+  new-absent : (j : ℕ) → j < n → withRow rows k w j ≡ none → (j ≡ k) ⊎ (j ≡ k → ⊥) → getD (rowAdded s n k w) (rowPlace n j) 0 ≡ 0
   new-absent j h e (inl z) = none-is-some (sym e ∙ ap (withRow rows k w) z ∙ with-this rows k w)
   new-absent j h e (inr z) =
       row-kept s n k w (ix .size) few j h z (rowPlace n j) (omega arith) (omega arith) ∙ ix .absent j h (sym (with-other rows k w j z) ∙ e)
 
-  new-first : (h : ℕ) → h < chains → (h ≡ hashOf w) ⊎ (h ≡ hashOf w → ⊥) → Greatest (withRow rows k w) h n (getD (added s n k w) h 0)
+  new-first : (h : ℕ) → h < chains → (h ≡ hashOf w) ⊎ (h ≡ hashOf w → ⊥) → Greatest (withRow rows k w) h n (getD (rowAdded s n k w) h 0)
   new-first h l (inl z) =
-      subst (λ (x : ℕ). Greatest (withRow rows k w) x n (getD (added s n k w) x 0)) (sym z)
+      subst (λ (x : ℕ). Greatest (withRow rows k w) x n (getD (rowAdded s n k w) x 0)) (sym z)
       (subst (λ (v : ℕ). Greatest (withRow rows k w) (hashOf w) n v) (sym (added-first s n k w (ix .size) few)) (this-first rows k w fresh n few))
   new-first h l (inr z) =
       subst (λ (v : ℕ). Greatest (withRow rows k w) h n v) (sym (first-kept s n k w (ix .size) few h l z))
       (still rows k w fresh h n _ (λ j m c e. z (chain-of-this rows k w h j c e)) (ix .firsts h l))
 
   new-next : (j : ℕ) (v : Row) → withRow rows k w j ≡ some v → (j ≡ k) ⊎ (j ≡ k → ⊥)
-      → Greatest (withRow rows k w) (hashOf v) j (getD (added s n k w) (nextPlace j) 0)
+      → Greatest (withRow rows k w) (hashOf v) j (getD (rowAdded s n k w) (nextPlace j) 0)
   new-next j v e (inl z) =
-      subst (λ (x : ℕ). Greatest (withRow rows k w) (hashOf v) x (getD (added s n k w) (nextPlace x) 0)) (sym z)
-      (subst (λ (u : Row). Greatest (withRow rows k w) (hashOf u) k (getD (added s n k w) (nextPlace k) 0)) (with-same rows k w j v e z)
+      subst (λ (x : ℕ). Greatest (withRow rows k w) (hashOf v) x (getD (rowAdded s n k w) (nextPlace x) 0)) (sym z)
+      (subst (λ (u : Row). Greatest (withRow rows k w) (hashOf u) k (getD (rowAdded s n k w) (nextPlace k) 0)) (with-same rows k w j v e z)
       (subst (λ (x : ℕ). Greatest (withRow rows k w) (hashOf w) k x) (sym (added-next s n k w (ix .size) few))
       (still rows k w fresh (hashOf w) k _ (λ i m c z. omega arith)
       (first-below rows k w fresh (hashOf w) n _ few (ix .firsts (hashOf w) (hash-below w))))))
@@ -222,7 +222,7 @@ module _ (s : List ℕ) (n k : ℕ) (w : Row) (rows : Rows) (ix : Indexed s n ro
       subst (λ (x : ℕ). Greatest (withRow rows k w) (hashOf v) j x) (sym (next-kept s n k w (ix .size) few j h z))
       (still rows k w fresh (hashOf v) j _ (λ i m c y. omega arith) (ix .nexts j v f))
 
-  pub added-indexed : Indexed (added s n k w) n (withRow rows k w)
+  pub added-indexed : Indexed (rowAdded s n k w) n (withRow rows k w)
   added-indexed = record {
     size = added-length s n k w ∙ ix .size;
     few = λ j h. with-other rows k w j (λ z. omega arith) ∙ ix .few j h;
@@ -233,11 +233,11 @@ module _ (s : List ℕ) (n k : ℕ) (w : Row) (rows : Rows) (ix : Indexed s n ro
   }
 
 -- what `add` promises, from what it writes
-pub new-row : (s : List ℕ) {t : List ℕ} (k : ℕ) (w : Row) → k < rowsIn (length s) → t ≡ added s (rowsIn (length s)) k w → Added s t k w
+pub new-row : (s : List ℕ) {t : List ℕ} (k : ℕ) (w : Row) → k < rowsIn (length s) → t ≡ rowAdded s (rowsIn (length s)) k w → Added s t k w
 new-row s k w h e = record {
   words = e;
   index = λ n rows ix there fresh.
       let z = rows-of ix in
-      subst (λ (l : List ℕ). Indexed l n (withRow rows k w)) (sym (e ∙ ap (λ (m : ℕ). added s m k w) z))
+      subst (λ (l : List ℕ). Indexed l n (withRow rows k w)) (sym (e ∙ ap (λ (m : ℕ). rowAdded s m k w) z))
       (added-indexed s n k w rows ix (omega arith) there fresh);
 }

@@ -96,10 +96,10 @@ unfoldable pub putRow : List ℕ → ℕ → Row → List ℕ
 putRow s place w = set (set (set (set s place (w .0)) (place + 1) (w .1)) (place + 2) (w .2)) (place + 3) (w .3)
 
 -- the section with row k, as the greatest of its chain: two words of chains, four of the row
-unfoldable pub added : List ℕ → ℕ → ℕ → Row → List ℕ
-added s n k w = putRow (set (set s (nextPlace k) (getD s (hashOf w) 0)) (hashOf w) (k + 1)) (rowPlace n k) w
+unfoldable pub rowAdded : List ℕ → ℕ → ℕ → Row → List ℕ
+rowAdded s n k w = putRow (set (set s (nextPlace k) (getD s (hashOf w) 0)) (hashOf w) (k + 1)) (rowPlace n k) w
 
 -- what `add` makes of a section on any words, and of an index whose rows all have numbers below k
 pub record Added (s t : List ℕ) (k : ℕ) (w : Row) : Type 0 where
-  pub words : t ≡ added s (rowsIn (length s)) k w
+  pub words : t ≡ rowAdded s (rowsIn (length s)) k w
   pub index : (n : ℕ) (rows : Rows) → Indexed s n rows → (w .0 ≡ 0 → ⊥) → ((j : ℕ) → k ≤ j → rows j ≡ none) → Indexed t n (withRow rows k w)

@@ -17,21 +17,18 @@ use Rattle.model.proofs.WordTables.{false-is-true, same-eq}
 use Rattle.model.proofs.Options.{no-result}
 use Rattle.model.proofs.Cuts.{behind-parts}
 use Rattle.text.specs.Parts.{FirstAt}
+use Rattle.fields.specs.Frames.{bytesBetween}
 use Rattle.text.specs.declared.Hex.{Hex}
 use Rattle.text.specs.Hex.{leading, Unhexed}
 use Rattle.text.proofs.HexPairs.{leading-pairs}
 use Rattle.text.proofs.LoopPlaces.{next, done}
 use Rattle.office.specs.Command.{Bare}
 
--- the bytes between two places
-abbrev pub part : Bytes → ℕ → ℕ → Bytes
-part s start end = take (end - start) (drop start s)
-
 -- the hex of a request stands between two places of the line; the line is a call exactly where it is hex pairs
 pub record Requests (line : Bytes) (start end : ℕ) : Type 0 where
   pub ordered : start ≤ end
   pub within : end ≤ length line
-  pub call : callOf line ≡ (hexPairs (part line start end) >>= λ block. some (Call.request block))
+  pub call : callOf line ≡ (hexPairs (bytesBetween line start end) >>= λ block. some (Call.request block))
 
 -- a line without its byte 10, by the place of the first
 module _ (line : Bytes) where
@@ -102,26 +99,26 @@ module _ (line : Bytes) (h : 1 ≤ length line) (p : getD line 0 0 ≡ 43 → �
       }
 
 -- the hex of a request, read into a buffer: the call, or none
-module _ (line : Bytes) (start end : ℕ) (q : Requests line start end) (before after : Bytes) (r : Hex) (u : Unhexed (part line start end) before after r) where
-  called : (o : Option Bytes) → hexPairs (part line start end) ≡ o → callOf line ≡ (o >>= λ block. some (Call.request block))
+module _ (line : Bytes) (start end : ℕ) (q : Requests line start end) (before after : Bytes) (r : Hex) (u : Unhexed (bytesBetween line start end) before after r) where
+  called : (o : Option Bytes) → hexPairs (bytesBetween line start end) ≡ o → callOf line ≡ (o >>= λ block. some (Call.request block))
   called o e = q .call ∙ ap (λ (o : Option Bytes). o >>= λ block. some (Call.request block)) e
 
   block-within : r .len ≤ length after
-  block-within = omega (arith, ap length (u .bytes) ∙ length-append (leading (part line start end)) (drop (length (leading (part line start end))) before), u .len)
+  block-within = omega (arith, ap length (u .bytes) ∙ length-append (leading (bytesBetween line start end)) (drop (length (leading (bytesBetween line start end))) before), u .len)
 
   pub request-read : r .ok ≡ true → (r .len ≤ length after) × (callOf line ≡ some (Call.request (take (r .len) after)))
-  request-read e = (block-within, go (hexPairs (part line start end)) refl)
+  request-read e = (block-within, go (hexPairs (bytesBetween line start end)) refl)
     where
-      go : (o : Option Bytes) → hexPairs (part line start end) ≡ o → callOf line ≡ some (Call.request (take (r .len) after))
+      go : (o : Option Bytes) → hexPairs (bytesBetween line start end) ≡ o → callOf line ≡ some (Call.request (take (r .len) after))
       go none p = false-is-true (sym (ap (λ (o : Option Bytes). not (isNone o)) p) ∙ sym (u .ok) ∙ e)
       go (some block) p =
-          let l = leading-pairs (part line start end) block p in
-          let t : take (r .len) after ≡ block = ap (take (r .len)) (u .bytes) ∙ take-at (leading (part line start end)) _ (r .len) (sym (u .len)) ∙ l in
+          let l = leading-pairs (bytesBetween line start end) block p in
+          let t : take (r .len) after ≡ block = ap (take (r .len)) (u .bytes) ∙ take-at (leading (bytesBetween line start end)) _ (r .len) (sym (u .len)) ∙ l in
           called (some block) p ∙ ap (λ (b : Bytes). some (Call.request b)) (sym t)
 
   pub request-bad : r .ok ≡ false → callOf line ≡ none
-  request-bad e = go (hexPairs (part line start end)) refl
+  request-bad e = go (hexPairs (bytesBetween line start end)) refl
     where
-      go : (o : Option Bytes) → hexPairs (part line start end) ≡ o → callOf line ≡ none
+      go : (o : Option Bytes) → hexPairs (bytesBetween line start end) ≡ o → callOf line ≡ none
       go none p = called none p
       go (some block) p = false-is-true (sym e ∙ u .ok ∙ ap (λ (o : Option Bytes). not (isNone o)) p)

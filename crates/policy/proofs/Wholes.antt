@@ -32,7 +32,7 @@ use Rattle.policy.specs.declared.Part.{Part}
 use Rattle.policy.specs.declared.Reading.{Reading}
 use Rattle.policy.specs.declared.Reading.the-variants.{Read, Malformed}
 use Rattle.policy.specs.Readers.{Lending, Asked, From, Reads, Answers, Policies}
-use Rattle.policy.specs.Judgements.{WholeAnswers, Ends, policyTests, judged, Refuses, Judges, Evaluated}
+use Rattle.policy.specs.Judgements.{WholeAnswers, Ends, policyTests, policyNumber, Refuses, Judges, Evaluated}
 use Rattle.policy.proofs.CodeFronts.{told, ended}
 
 -- ---- nothing behind a policy
@@ -130,7 +130,7 @@ module _ (r : Reading) (unknown : Bool) where
 -- ---- judging
 
 module _ (s : Bytes) (rows : List ℕ) (before after : Bytes) (c : Encoded) (E : Encodes s rows before after c) where
-  judges-by : (n : ℕ) → ((D : Declarations) → WellDeclared D → AttributeRows rows D → n ≡ judged D s) → Judges s rows before after n
+  judges-by : (n : ℕ) → ((D : Declarations) → WellDeclared D → AttributeRows rows D → n ≡ policyNumber D s) → Judges s rows before after n
   judges-by n f = record {
     number = f;
     code = λ D ord ar ts e. E .tokens D ord ar ts e .code;
@@ -142,7 +142,7 @@ module _ (s : Bytes) (rows : List ℕ) (before after : Bytes) (c : Encoded) (E :
   }
 
   pub judge-bad : c .bad ≡ true → Judges s rows before after 6
-  unfolding judged
+  unfolding policyNumber
   judge-bad z = judges-by 6 (λ D ord ar. go D (tokensOf s) (sym (E .bad) ∙ z))
     where
       go : (D : Declarations) (o : Option (List Token)) → isNone o ≡ true → 6 ≡ first (policyTests D o (o >>= readPolicy))
@@ -150,7 +150,7 @@ module _ (s : Bytes) (rows : List ℕ) (before after : Bytes) (c : Encoded) (E :
       go D (some ts) e = false-is-true e
 
   pub judge-read : c .bad ≡ false → (L : Lending) (r q : Reading) → Policies after L 0 r → Ends after r q → (n : ℕ) → Refuses q (c .unknown) n → Judges s rows before after n
-  unfolding judged
+  unfolding policyNumber
   judge-read z L r q P W n R = judges-by n (λ D ord ar. go D ord ar (tokensOf s) refl (sym (E .bad) ∙ z))
     where
       go : (D : Declarations) → WellDeclared D → AttributeRows rows D → (o : Option (List Token)) → tokensOf s ≡ o → isNone o ≡ false

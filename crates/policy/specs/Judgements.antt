@@ -36,8 +36,8 @@ Ends code r q = (L : Lending) (A : Asked) (o : grammar.Reading) → Answers code
 abbrev pub policyTests : Declarations → Option (List Token) → Option Policy → List Test
 policyTests D ts p = 6 if isNone p ∷ 7 if (p is tooLarge) ∷ 8 if (ts is any (unknownName D)) ∷ []
 
-unfoldable pub judged : Declarations → Bytes → ℕ
-judged D s = first (policyTests D (tokensOf s) (tokensOf s >>= readPolicy))
+unfoldable pub policyNumber : Declarations → Bytes → ℕ
+policyNumber D s = first (policyTests D (tokensOf s) (tokensOf s >>= readPolicy))
 
 -- n is the number of the first test that holds of what was read
 abbrev pub Refuses : Reading → Bool → ℕ → Type 0
@@ -48,7 +48,7 @@ Refuses r unknown n =
 -- n is what the policy s alone is refused for, whatever declarations the rows are those of; where it has tokens, `after` is `before` with their
 -- code at its front, and what lies behind the bytes that any code of s may take keeps its content
 pub record Judges (s : Bytes) (rows : List ℕ) (before after : Bytes) (n : ℕ) : Type 0 where
-  pub number : (D : Declarations) → WellDeclared D → AttributeRows rows D → n ≡ judged D s
+  pub number : (D : Declarations) → WellDeclared D → AttributeRows rows D → n ≡ policyNumber D s
   pub code : (D : Declarations) → WellDeclared D → AttributeRows rows D → (ts : List Token) → tokensOf s ≡ some ts
       → after ≡ ruleCode D ts ++ drop (length (ruleCode D ts)) before
   pub long : length after ≡ length before

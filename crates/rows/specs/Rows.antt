@@ -29,8 +29,8 @@ pub record AttributeRow (rows : List ℕ) (i : ℕ) (a : Attribute) : Type 0 whe
   pub high : getD rows (8 * i + 3) 0 ≡ packedOf (a .name) .high
 
 -- pair p is declared, and is one of attribute i
-unfoldable pub pairOf : Declarations → ℕ → ℕ → Bool
-pairOf D i p = nth (D .pairs) p is λ q. attributeNumber D (q .source) (q .name) is eqb i
+unfoldable pub isPairOf : Declarations → ℕ → ℕ → Bool
+isPairOf D i p = nth (D .pairs) p is λ q. attributeNumber D (q .source) (q .name) is eqb i
 
 -- pair p is in the mask of row i
 unfoldable pub masked : List ℕ → ℕ → ℕ → Bool
@@ -41,7 +41,7 @@ pub record AttributeRows (rows : List ℕ) (D : Declarations) : Type 0 where
   pub within : length (D .attributes) ≤ attributeLimit
   pub row : (i : ℕ) (a : Attribute) → nth (D .attributes) i ≡ some a → AttributeRow rows i a
   pub other : (i : ℕ) → length (D .attributes) ≤ i → i < attributeLimit → getD rows (8 * i) 0 ≡ 0
-  pub mask : (i p : ℕ) → i < attributeLimit → p < pairLimit → masked rows i p ≡ pairOf D i p
+  pub mask : (i p : ℕ) → i < attributeLimit → p < pairLimit → masked rows i p ≡ isPairOf D i p
 
 -- row i is that of a pair of the attribute k
 pub record PairRow (rows : List ℕ) (i k : ℕ) (p : Pair) : Type 0 where

@@ -22,7 +22,7 @@ use Rattle.bits.specs.Bits.{bit, holds, anyBelow}
 use Rattle.codes.specs.Codes.{sourceCode}
 use Rattle.text.specs.declared.Words.{Words}
 use Rattle.text.specs.Values.{atomWords}
-use Rattle.rows.specs.Rows.{AttributeRows, PairRows, pairOf}
+use Rattle.rows.specs.Rows.{AttributeRows, PairRows, isPairOf}
 use Rattle.rows.proofs.FirstPlaces.{place-first}
 use Rattle.rows.proofs.RowsOfAttributes.{eq-named}
 use Rattle.values.specs.Operands.{upFrom, chosen, pairWords}
@@ -96,11 +96,11 @@ module _ (S : State) (b : Block) (attributes pairs session : List ℕ) (declarat
 
     module _ (on : activated b k ≡ true) (a : Attribute) (at : nth (D .attributes) k ≡ some a) (user : a .source ≡ Source.user) where
       -- the pairs of an activated user attribute in the session
-      here-so : (p : ℕ) → p < 256 → holds session k p ≡ (pairOf D k p && effectiveSet D (S .ties) (b .user) p)
+      here-so : (p : ℕ) → p < 256 → holds session k p ≡ (isPairOf D k p && effectiveSet D (S .ties) (b .user) p)
       unfolding mayRead
       here-so p h =
           opened k p small h
-          ∙ ap (λ (t : Bool). pairOf D k p && t)
+          ∙ ap (λ (t : Bool). isPairOf D k p && t)
           (ap (λ (o : Option Attribute). o is λ c. readsPair S b k p (c .source)) at
           ∙ ap (readsPair S b k p) user
           ∙ ap (λ (t : Bool). t && effectiveSet D (S .ties) (b .user) p) on)

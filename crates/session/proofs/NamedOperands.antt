@@ -26,7 +26,7 @@ use Rattle.codes.specs.Codes.{sourceCode, typeCode}
 use Rattle.text.specs.declared.Words.{Words}
 use Rattle.text.specs.Values.{words, atomWords}
 use Rattle.model.proofs.Declared.{PairDeclared, pair-declared}
-use Rattle.rows.specs.Rows.{pairOf, numberOr, PairRows}
+use Rattle.rows.specs.Rows.{isPairOf, numberOr, PairRows}
 use Rattle.rows.proofs.RowsOfAttributes.{named-eq, eq-named, number-small, number-injective}
 use Rattle.values.specs.declared.Operand.{Operand}
 use Rattle.values.specs.Operands.{Lent, lent, chosen, pairWords, rowType, attributeOperand, operand, Stands}
@@ -107,16 +107,16 @@ module _ {D : Declarations} (declarations : WellDeclared D) (s : Source) (n : By
       let (q, r) = named-eq (x .source) (x .name) s n e in
       eq-eqb k (p .number) (Option·some-injective k (p .number) (sym number ∙ sym (ap₂ (attributeNumber D) q r) ∙ p .number-is)))
 
-  pair-of : (i : ℕ) (x : Pair) → nth (D .pairs) i ≡ some x → pairOf D k i ≡ named s n x
-  unfolding pairOf
+  pair-of : (i : ℕ) (x : Pair) → nth (D .pairs) i ≡ some x → isPairOf D k i ≡ named s n x
+  unfolding isPairOf
   pair-of i x e =
       let p = pair-declared declarations i x e in
       ap (λ (o : Option Pair). o is λ q. attributeNumber D (q .source) (q .name) is eqb k) e
       ∙ ap (λ (o : Option ℕ). o is eqb k) (p .number-is)
       ∙ named-number x p
 
-  no-pair-of : (i : ℕ) → length (D .pairs) ≤ i → pairOf D k i ≡ false
-  unfolding pairOf
+  no-pair-of : (i : ℕ) → length (D .pairs) ≤ i → isPairOf D k i ≡ false
+  unfolding isPairOf
   no-pair-of i h = ap (λ (o : Option Pair). o is λ q. attributeNumber D (q .source) (q .name) is eqb k) (behind (D .pairs) i h)
     where
       behind : {A : Type 0} (xs : List A) (i : ℕ) → length xs ≤ i → nth xs i ≡ none
@@ -125,7 +125,7 @@ module _ {D : Declarations} (declarations : WellDeclared D) (s : Source) (n : By
       behind (x ∷ xs) (suc i) h = behind xs i (omega arith)
 
   -- words that hold those of its pairs that are in a set
-  module _ (pairs : List ℕ) (pair-rows : PairRows pairs D) (eff here : ℕ → Bool) (so : (p : ℕ) → p < 256 → here p ≡ (pairOf D k p && eff p)) where
+  module _ (pairs : List ℕ) (pair-rows : PairRows pairs D) (eff here : ℕ → Bool) (so : (p : ℕ) → p < 256 → here p ≡ (isPairOf D k p && eff p)) where
     pair-at : (i : ℕ) (x : Pair) → nth (D .pairs) i ≡ some x → At eff (named s n) here (pairWords pairs) 256 i x
     pair-at i x e =
         let p = pair-declared declarations i x e in
@@ -176,12 +176,12 @@ module _ (S : State) (b : Block) (attributes pairs session : List ℕ) (entries 
         p .typed ∙ ap (λ (c : Attribute). c .type) (Option·some-injective (p .attribute) a (sym (p .attribute-is) ∙ ap (nth (D .attributes)) (sym m) ∙ at))
 
     -- the bits of the attribute's words
-    bits-so : (p : ℕ) → p < 256 → holds session k p ≡ (pairOf D k p && readsPair S b k p s)
+    bits-so : (p : ℕ) → p < 256 → holds session k p ≡ (isPairOf D k p && readsPair S b k p s)
     unfolding mayRead
     bits-so p h =
         of .opened k p small h
-        ∙ ap (λ (o : Option Attribute). pairOf D k p && (o is λ c. readsPair S b k p (c .source))) at
-        ∙ ap (λ (t : Source). pairOf D k p && readsPair S b k p t) (named-eq (a .source) (a .name) s n has .0)
+        ∙ ap (λ (o : Option Attribute). isPairOf D k p && (o is λ c. readsPair S b k p (c .source))) at
+        ∙ ap (λ (t : Source). isPairOf D k p && readsPair S b k p t) (named-eq (a .source) (a .name) s n has .0)
 
     module _ (eff : ℕ → Bool) (reads : (p : ℕ) → readsPair S b k p s ≡ eff p) where
       held-stand : fromBlock s ≡ false → Stands L (attributeOperand attributes k) (heldFrom eff (named s n) 0 (D .pairs))
@@ -189,7 +189,7 @@ module _ (S : State) (b : Block) (attributes pairs session : List ℕ) (entries 
           subst (λ (o : Operand). Stands L o (heldFrom eff (named s n) 0 (D .pairs))) (words-operand from)
           (record {
             coded = session-values L (typeCode (a .type)) k small
-                ∙ held-pairs (of .declarations) s n k number pairs (of .pair-rows) eff (holds session k) (λ p h. bits-so p h ∙ ap (λ (t : Bool). pairOf D k p && t) (reads p));
+                ∙ held-pairs (of .declarations) s n k number pairs (of .pair-rows) eff (holds session k) (λ p h. bits-so p h ∙ ap (λ (t : Bool). isPairOf D k p && t) (reads p));
             typed = held-each eff (named s n) (λ x. eqb (typeCode (typeOf x)) (typeCode (a .type))) 0 (D .pairs)
                 (λ i x e q. eq-eqb (typeCode (typeOf (x .atom))) (typeCode (a .type)) (ap typeCode (same-type x (pair-declared (of .declarations) i x e) q)));
             written = held-each eff (named s n) isAtom 0 (D .pairs) (λ i x e q. of .declarations .pairs .each i x e .written);

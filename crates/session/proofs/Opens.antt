@@ -20,7 +20,7 @@ use Rattle.model.proofs.Lists.{lt-nth}
 use Rattle.bits.specs.Bits.{odd, bit, holds}
 use Rattle.bits.proofs.Bits.{bit-none}
 use Rattle.codes.specs.Codes.{sourceCode}
-use Rattle.rows.specs.Rows.{AttributeRows, masked, pairOf}
+use Rattle.rows.specs.Rows.{AttributeRows, masked, isPairOf}
 use Rattle.session.specs.Opened.{readsPair, mayRead, Opened}
 use Rattle.session.specs.Words.{holderFor, inTable, openedPair, OpenedFirst, SetOf, SetsOf}
 
@@ -70,7 +70,7 @@ module _ (S : State) (b : Block) (rows table : List ℕ) (ar : AttributeRows row
   unfolding openedPair holderFor mayRead
   opened-pair =
       ap₂ (λ (x y : Bool). x && y) (go (nth (S .declared .attributes) k) refl) (ar .mask k p small h)
-      ∙ and-comm (nth (S .declared .attributes) k is λ a. readsPair S b k p (a .source)) (pairOf (S .declared) k p)
+      ∙ and-comm (nth (S .declared .attributes) k is λ a. readsPair S b k p (a .source)) (isPairOf (S .declared) k p)
     where
       go : (o : Option Attribute) → nth (S .declared .attributes) k ≡ o → read (getD rows (8 * k) 0) ≡ (o is λ a. readsPair S b k p (a .source))
       go (some a) e = ap read (ar .row k a e .source) ∙ by-source (a .source)

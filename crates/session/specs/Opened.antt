@@ -12,7 +12,7 @@ use Rattle.model.specs.State.{State}
 use Rattle.model.specs.Block.{Block, activated}
 use Rattle.bits.specs.Bits.{holds}
 use Rattle.model.specs.Standing.{WellDeclared}
-use Rattle.rows.specs.Rows.{pairOf, AttributeRows, PairRows}
+use Rattle.rows.specs.Rows.{isPairOf, AttributeRows, PairRows}
 use Rattle.session.specs.Entries.{EntriesOf}
 
 -- whether the set that names of a source read has pair p: "the user's effective values of activated attributes only", the object's, admin's
@@ -25,7 +25,7 @@ readsPair S b k p Source.connect = false
 
 -- pair p is one of attribute k, and rules may read it
 unfoldable pub mayRead : State → Block → ℕ → ℕ → Bool
-mayRead S b k p = pairOf (S .declared) k p && (nth (S .declared .attributes) k is λ a. readsPair S b k p (a .source))
+mayRead S b k p = isPairOf (S .declared) k p && (nth (S .declared .attributes) k is λ a. readsPair S b k p (a .source))
 
 -- the four words of each attribute are those of the pairs that rules may read
 abbrev pub Opened : State → Block → List ℕ → Type 0

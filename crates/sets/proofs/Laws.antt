@@ -15,7 +15,7 @@ use Rattle.model.proofs.Lists.{or-cases}
 use Rattle.bits.specs.Bits.{bit, member, holds, anyBelow}
 use Rattle.bits.proofs.Counts.{any-ext, any-find, find-any}
 use Rattle.bits.proofs.Bits.{bit-none}
-use Rattle.ties.specs.TieArrays.{inUse, tied, Distinct}
+use Rattle.ties.specs.TieArrays.{inUse, tiedUp, Distinct}
 use Rattle.ties.proofs.Masks.{in-use-lt}
 use Rattle.sets.specs.Settled.{Solves, RightAt, Right, Stored, ShortChains, Chain, one, more, Deep, Settled, Spared, AllDeep, GroupsRight, NoGroups, MarksChanged, StoredEach, StoredTied}
 use Rattle.sets.proofs.LentSets.{holds-kept}
@@ -37,7 +37,7 @@ module _ (ups slots : List ℕ) where
   unfolding ShortChains
   no-depth n g e d = subst (λ (m : ℕ). ShortChains ups slots m g) e d
 
-  depth-down : (n g q : ℕ) → ShortChains ups slots n g → q < 64 → tied ups (getD slots g 0) q ≡ true → (m : ℕ) × (m < n) × ShortChains ups slots m q
+  depth-down : (n g q : ℕ) → ShortChains ups slots n g → q < 64 → tiedUp ups (getD slots g 0) q ≡ true → (m : ℕ) × (m < n) × ShortChains ups slots m q
   unfolding ShortChains
   depth-down zero g q d l e = absurd d
   depth-down (suc n) g q d l e = (n, omega arith, d q l e)
@@ -59,7 +59,7 @@ module _ (ups slots : List ℕ) where
   no-cycle n g d c = no-cycle-in n n g (omega arith) d c
 
   -- one tie up, from a group in live
-  pub deep-step : (path below n g q : ℕ) → (n ≡ 0 → ⊥) → inUse (length ups) slots g ≡ true → q < 64 → tied ups (getD slots g 0) q ≡ true
+  pub deep-step : (path below n g q : ℕ) → (n ≡ 0 → ⊥) → inUse (length ups) slots g ≡ true → q < 64 → tiedUp ups (getD slots g 0) q ≡ true
       → ((j : ℕ) → bit below j ≡ (bit path j || eqb j g)) → Deep ups slots path n g → Deep ups slots below (n - 1) q
   unfolding ShortChains Deep
   deep-step path below zero g q high live l e o d = absurd (high refl)
@@ -166,7 +166,7 @@ module _ (path below group d d₁ : ℕ) (with-group : (j : ℕ) → bit below j
 module _ (ups own slots : List ℕ) {t₁ t₂ : List ℕ} (k mask : ℕ) (f : ℕ → ℕ → Bool) (s : Solves ups own slots f) (few : k < length ups)
     (long : length t₁ ≡ 4 * length ups) (by : mask ≡ getD ups k 0) (b : Stored own slots k mask t₁ t₂) where
   pub stored-right : ((q : ℕ) → q < 64 → inUse (length ups) slots q ≡ true → bit mask q ≡ true → RightAt f t₁ (getD slots q 0)) → RightAt f t₂ k
-  unfolding RightAt tied
+  unfolding RightAt tiedUp
   stored-right r p h =
       b .pairs (omega arith) p h
       ∙ ap (λ (x : Bool). holds own k p || x)

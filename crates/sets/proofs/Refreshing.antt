@@ -23,7 +23,7 @@ use Rattle.bits.specs.Bits.{bit, member, holds, anyBelow, countBelow}
 use Rattle.bits.proofs.Bits.{bit-none, bit-not}
 use Rattle.bits.proofs.Sets.{same-beq}
 use Rattle.bits.proofs.Counts.{any-ext, any-suc, any-at, any-find, find-any, count-ext, count-below-le, count-rest}
-use Rattle.ties.specs.TieArrays.{inUse, tied, meets, isGroup, groupOf, under, Room, Under, here, over, Marks}
+use Rattle.ties.specs.TieArrays.{inUse, tiedUp, meets, hasSlot, groupOf, under, Room, Under, here, over, Marks}
 use Rattle.ties.proofs.Masks.{in-use-lt}
 use Rattle.ties.proofs.Keeps.{slot-group, group-any}
 use Rattle.ties.proofs.Below.{above-meets, holders-fit}
@@ -58,7 +58,7 @@ no-numbers k = ap (λ (w : ℕ). bit w (k % 64)) (go (decLt (k / 64) 4)) ∙ bit
 module _ (ups slots : List ℕ) (e m : ℕ) (marks : Marks ups slots e m) where
   -- a group of the mask is e, or has a tie into the mask
   marked-under : (q : ℕ) → q < 64 → bit m q ≡ true → under ups m e (getD slots q 0) ≡ true
-  unfolding under meets tied
+  unfolding under meets tiedUp
   marked-under q l on = by (marks .sound q l on)
     where
       by : Under ups slots e q → (eqb (getD slots q 0) e || anyBelow 64 (λ r. bit (getD ups (getD slots q 0) 0) r && bit m r)) ≡ true
@@ -69,7 +69,7 @@ module _ (ups slots : List ℕ) (e m : ℕ) (marks : Marks ups slots e m) where
 
   -- and the other way round
   under-marked : (q : ℕ) → q < 64 → inUse (length ups) slots q ≡ true → under ups m e (getD slots q 0) ≡ true → bit m q ≡ true
-  unfolding under meets tied
+  unfolding under meets tiedUp
   under-marked q l u y =
       marks .complete q l (⊎-elim (λ z. here u (eqb-true (getD slots q 0) e z))
       (λ z.
@@ -78,8 +78,8 @@ module _ (ups slots : List ℕ) (e m : ℕ) (marks : Marks ups slots e m) where
       over u (r .1) (s .0) (marks .sound (r .0) (r .1) (s .1)))
       (or-cases (eqb (getD slots q 0) e) (anyBelow 64 (λ r. bit (getD ups (getD slots q 0) 0) r && bit m r)) y))
 
-  not-under : (k : ℕ) → (k ≡ e → ⊥) → ((q : ℕ) → q < 64 → tied ups k q ≡ true → Under ups slots e q → ⊥) → under ups m e k ≡ false
-  unfolding under meets tied
+  not-under : (k : ℕ) → (k ≡ e → ⊥) → ((q : ℕ) → q < 64 → tiedUp ups k q ≡ true → Under ups slots e q → ⊥) → under ups m e k ≡ false
+  unfolding under meets tiedUp
   not-under k no-e none =
       ap₂ (λ (a b : Bool). a || b) (ne-eqb k e no-e) (⊎-elim
       (λ y.
@@ -155,11 +155,11 @@ module _ (ups own slots : List ℕ) (e m : ℕ) (marks : Marks ups slots e m) (s
   g k = ltb k (length ups) && under ups m e k
 
   -- the groups that are to be dropped are those of the mask
-  by-g : (k : ℕ) → member wanted k ≡ (g k && not (isGroup (length ups) slots k))
+  by-g : (k : ℕ) → member wanted k ≡ (g k && not (hasSlot (length ups) slots k))
   unfolding g
   by-g k =
       w k ∙ ap (λ (x : Bool). x && not (groupOf (length ups) slots m k)) (h k ∙ ap (λ (x : Bool). x || ltb k (length ups) && under ups m e k) (no-numbers k))
-      ∙ masked (ltb k (length ups) && under ups m e k) (not (groupOf (length ups) slots m k)) (not (isGroup (length ups) slots k))
+      ∙ masked (ltb k (length ups) && under ups m e k) (not (groupOf (length ups) slots m k)) (not (hasSlot (length ups) slots k))
       (λ on. ap not (group-any (length ups) slots m k (λ q l u at.
       under-marked ups slots e m marks q l u (ap (under ups m e) at ∙ parts (ltb k (length ups)) (under ups m e k) on .1))))
 
@@ -176,15 +176,15 @@ module _ (ups own slots : List ℕ) (e m : ℕ) (marks : Marks ups slots e m) (s
 
   below-stays : (k : ℕ) → under ups m e k ≡ false → SameAt t t₂ k
   below-stays k off j at =
-      b .others j (λ on l. true≢false (sym on ∙ ap (member wanted) at ∙ by-g k ∙ ap (λ (x : Bool). x && not (isGroup (length ups) slots k)) (g-off k off)))
+      b .others j (λ on l. true≢false (sym on ∙ ap (member wanted) at ∙ by-g k ∙ ap (λ (x : Bool). x && not (hasSlot (length ups) slots k)) (g-off k off)))
       ∙ a .others j (λ q l u off₁ on₁ x. true≢false (sym (marked-under ups slots e m marks q l (not-false (bit m q) (sym (not-done q l) ∙ off₁))) ∙ ap (under ups m e) (sym x ∙ at) ∙ off))
 
   -- a group is settled, another holder is stored
   settled-or-stored : (k : ℕ) → SameAt t t₁ k ⊎ SameAt t₁ t₂ k
   settled-or-stored k = ⊎-elim
-      (λ y. inr (λ j at. b .others j (λ on l. true≢false (sym on ∙ ap (member wanted) at ∙ by-g k ∙ off (g k) (isGroup (length ups) slots k) y))))
-      (λ y. inl (λ j at. a .others j (λ q l u off₁ on₁ x. true≢false (sym (ap (isGroup (length ups) slots) (sym (sym x ∙ at)) ∙ slot-group (length ups) slots q l u) ∙ y))))
-      (true-or-false (isGroup (length ups) slots k))
+      (λ y. inr (λ j at. b .others j (λ on l. true≢false (sym on ∙ ap (member wanted) at ∙ by-g k ∙ off (g k) (hasSlot (length ups) slots k) y))))
+      (λ y. inl (λ j at. a .others j (λ q l u off₁ on₁ x. true≢false (sym (ap (hasSlot (length ups) slots) (sym (sym x ∙ at)) ∙ slot-group (length ups) slots q l u) ∙ y))))
+      (true-or-false (hasSlot (length ups) slots k))
     where
       off : (x y : Bool) → y ≡ true → (x && not y) ≡ false
       off true y e = ap not e

@@ -22,7 +22,7 @@ use Rattle.model.proofs.Standing.{among, holders-fit, room-length, length-room}
 use Rattle.bits.specs.Bits.{member, holds, anyBelow}
 use Rattle.bits.proofs.Bits.{bit-none}
 use Rattle.bits.proofs.Walks.{none-left}
-use Rattle.ties.specs.TieArrays.{tied, isGroup, KeepsTies, Room}
+use Rattle.ties.specs.TieArrays.{tiedUp, hasSlot, KeepsTies, Room}
 use Rattle.ties.proofs.Masks.{in-use-lt}
 use Rattle.bits.proofs.Counts.{any-find, find-any}
 use Rattle.ties.proofs.Keeps.{up-slot, slot-up, group-slot, slot-group}
@@ -64,17 +64,17 @@ module _ (ups own slots : List ℕ) (D : Declarations) (T : Ties) (standing : St
   -- the sentence, over slots
   inherits : (k p : ℕ) → k < length ups
       → any (λ g. effective (holderNumbersOf D) T g p) (Ties.ups (holderNumbersOf D) T k)
-      ≡ anyBelow 64 (λ q. tied ups k q && effective (holderNumbersOf D) T (getD slots q 0) p)
+      ≡ anyBelow 64 (λ q. tiedUp ups k q && effective (holderNumbersOf D) T (getD slots q 0) p)
   inherits k p few =
-      same-truth _ (anyBelow 64 (λ q. tied ups k q && effective (holderNumbersOf D) T (getD slots q 0) p))
+      same-truth _ (anyBelow 64 (λ q. tiedUp ups k q && effective (holderNumbersOf D) T (getD slots q 0) p))
       (λ e.
       let r = any-in (λ g. effective (holderNumbersOf D) T g p) (Ties.ups (holderNumbersOf D) T k) e in
       let s = up-slot kept k (r .0) few (in-filter (up T k) (holderNumbersOf D) (r .1) .1) in
-      find-any 64 (λ q. tied ups k q && effective (holderNumbersOf D) T (getD slots q 0) p) (s .0) (s .1)
+      find-any 64 (λ q. tiedUp ups k q && effective (holderNumbersOf D) T (getD slots q 0) p) (s .0) (s .1)
       (both (s .2) (ap (λ (g : ℕ). effective (holderNumbersOf D) T g p) (s .3) ∙ r .2)))
       (λ e.
-      let r = any-find 64 (λ q. tied ups k q && effective (holderNumbersOf D) T (getD slots q 0) p) e in
-      let s = parts (tied ups k (r .0)) (effective (holderNumbersOf D) T (getD slots (r .0) 0) p) (r .2) in
+      let r = any-find 64 (λ q. tiedUp ups k q && effective (holderNumbersOf D) T (getD slots q 0) p) e in
+      let s = parts (tiedUp ups k (r .0)) (effective (holderNumbersOf D) T (getD slots (r .0) 0) p) (r .2) in
       let u = slot-up kept k (r .0) few (r .1) (s .0) in
       in-any (λ g. effective (holderNumbersOf D) T g p) (filter-in (up T k) (among standing .upper k (getD slots (r .0) 0) u) u) (s .1))
 
@@ -98,25 +98,25 @@ unfolding Right
 right-none n slots f t g l u on = absurd (true≢false (sym on ∙ bit-none g))
 
 -- a set without the groups
-pub no-groups : (n : ℕ) (slots wanted : List ℕ) (g : ℕ → Bool) → ((k : ℕ) → member wanted k ≡ (g k && not (isGroup n slots k))) → NoGroups n slots wanted
+pub no-groups : (n : ℕ) (slots wanted : List ℕ) (g : ℕ → Bool) → ((k : ℕ) → member wanted k ≡ (g k && not (hasSlot n slots k))) → NoGroups n slots wanted
 unfolding NoGroups
-no-groups n slots wanted g e q l u = e (getD slots q 0) ∙ off (g (getD slots q 0)) (isGroup n slots (getD slots q 0)) (slot-group n slots q l u)
+no-groups n slots wanted g e q l u = e (getD slots q 0) ∙ off (g (getD slots q 0)) (hasSlot n slots (getD slots q 0)) (slot-group n slots q l u)
   where
     off : (a b : Bool) → b ≡ true → (a && not b) ≡ false
     off true b h = ap not h
     off false b h = refl
 
 -- each holder that is to be right: a group, or one that is stored
-pub each-right : {ups own slots wanted t₁ t₂ m₁ m₂ : List ℕ} (f : ℕ → ℕ → Bool) (g : ℕ → Bool) → ((k : ℕ) → member wanted k ≡ (g k && not (isGroup (length ups) slots k)))
+pub each-right : {ups own slots wanted t₁ t₂ m₁ m₂ : List ℕ} (f : ℕ → ℕ → Bool) (g : ℕ → Bool) → ((k : ℕ) → member wanted k ≡ (g k && not (hasSlot (length ups) slots k)))
     → Solves ups own slots f → GroupsRight (length ups) slots f t₁ → StoredEach ups own slots wanted t₁ t₂ m₁ m₂ (length ups)
     → (k : ℕ) → k < length ups → g k ≡ true → RightAt f t₂ k
 unfolding GroupsRight RightAt
-each-right {ups} {own} {slots} {wanted} {t₁} {t₂} {m₁} {m₂} f g e s r b k few on = go (isGroup (length ups) slots k) refl
+each-right {ups} {own} {slots} {wanted} {t₁} {t₂} {m₁} {m₂} f g e s r b k few on = go (hasSlot (length ups) slots k) refl
   where
     none : NoGroups (length ups) slots wanted
     none = no-groups (length ups) slots wanted g e
 
-    go : (t : Bool) → isGroup (length ups) slots k ≡ t → (p : ℕ) → p < 256 → holds t₂ k p ≡ f k p
+    go : (t : Bool) → hasSlot (length ups) slots k ≡ t → (p : ℕ) → p < 256 → holds t₂ k p ≡ f k p
     go true q p h =
         let m = group-slot (length ups) slots k q in
         holds-kept t₁ t₂ k p h (λ j x. b .others j (λ y l. true≢false (sym y ∙ ap (member wanted) x ∙ e k ∙ ap₂ (λ (a b : Bool). a && not b) on q)))
@@ -126,7 +126,7 @@ each-right {ups} {own} {slots} {wanted} {t₁} {t₂} {m₁} {m₂} f g e s r b 
 -- a holder with no tie up has its own pairs
 untied-right : (ups own slots t : List ℕ) (f : ℕ → ℕ → Bool) → Solves ups own slots f → (k : ℕ) → k < length ups → getD ups k 0 ≡ 0 → ((j : ℕ) → j / 4 ≡ k → getD t j 0 ≡ getD own j 0)
     → RightAt f t k
-unfolding RightAt tied
+unfolding RightAt tiedUp
 untied-right ups own slots t f s k few none same p h =
     holds-kept own t k p h same ∙ sym (or-false (holds own k p))
     ∙ ap (λ (b : Bool). holds own k p || b) (sym (none-left (getD ups k 0) 64 (λ q. f (getD slots q 0) p) none)) ∙ sym (s .sentence k p few h)
@@ -136,15 +136,15 @@ module _ (ups own slots t t₁ t₂ m m₁ : List ℕ) (d₁ : ℕ) (few : lengt
     (copied : (j : ℕ) → getD t j 0 ≡ getD own j 0)
     (a : Settled ups own slots t t₁ m m₁ 0 d₁ (AllDeep ups slots) (λ g. g < 64)) (b : StoredTied ups own slots t₁ t₂ (length ups)) where
   module _ (f : ℕ → ℕ → Bool) (s : Solves ups own slots f) (r : GroupsRight (length ups) slots f t₁) (k : ℕ) (l : k < length ups) where
-    before-ties : getD ups k 0 ≡ 0 → (g : Bool) → isGroup (length ups) slots k ≡ g → RightAt f t₁ k
+    before-ties : getD ups k 0 ≡ 0 → (g : Bool) → hasSlot (length ups) slots k ≡ g → RightAt f t₁ k
     unfolding GroupsRight
     before-ties none true y = let q = group-slot (length ups) slots k y in subst (RightAt f t₁) (q .3) (r (q .0) (q .1) (q .2))
     before-ties none false y =
         untied-right ups own slots t₁ f s k l none
-        (λ j at. a .others j (λ q low u off on x. true≢false (sym (slot-group (length ups) slots q low u) ∙ ap (isGroup (length ups) slots) (sym x ∙ at) ∙ y)) ∙ copied j)
+        (λ j at. a .others j (λ q low u off on x. true≢false (sym (slot-group (length ups) slots q low u) ∙ ap (hasSlot (length ups) slots) (sym x ∙ at) ∙ y)) ∙ copied j)
 
     each-holder : Dec (getD ups k 0 ≡ 0) → RightAt f t₂ k
-    each-holder (yes e) = b .stays f s r k (before-ties e (isGroup (length ups) slots k) refl)
+    each-holder (yes e) = b .stays f s r k (before-ties e (hasSlot (length ups) slots k) refl)
     each-holder (no n) = b .right f s r k l n
 
   all-right : (D : Declarations) (T : Ties) → Standing (record { declared = D; ties = T }) → KeepsTies ups own slots T → Room D (length ups) → KeepsSets (length ups) t₂ D T

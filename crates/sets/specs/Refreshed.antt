@@ -10,7 +10,7 @@ use Rattle.model.specs.Ties.{Ties}
 use Rattle.model.specs.Table.{table}
 use Rattle.model.specs.Edits.{changes}
 use Rattle.model.specs.Standing.{Standing, DifferAt}
-use Rattle.ties.specs.TieArrays.{tied, Distinct, KeepsTies, Room, Under}
+use Rattle.ties.specs.TieArrays.{tiedUp, Distinct, KeepsTies, Room, Under}
 use Rattle.sets.specs.Settled.{markWords, MarksChanged}
 use Rattle.sets.specs.Filled.{KeepsSets}
 
@@ -24,7 +24,7 @@ pub record EditedAt (ups own slots : List ℕ) (e : ℕ) (D : Declarations) (T U
 -- for any arrays, the words of a holder that is not e, and has no tie up to a group that is e or below it, are as they were
 unfoldable pub Elsewhere : List ℕ → List ℕ → ℕ → List ℕ → List ℕ → Type 0
 Elsewhere ups slots e t t′ =
-    (j : ℕ) → (j / 4 ≡ e → ⊥) → ((q : ℕ) → q < groupLimit → tied ups (j / 4) q ≡ true → Under ups slots e q → ⊥) → getD t′ j 0 ≡ getD t j 0
+    (j : ℕ) → (j / 4 ≡ e → ⊥) → ((q : ℕ) → q < groupLimit → tiedUp ups (j / 4) q ≡ true → Under ups slots e q → ⊥) → getD t′ j 0 ≡ getD t j 0
 
 -- from the table t to t′, and from the marks m to m′: the sets that changed are marked
 pub record Rewritten (ups own slots : List ℕ) (e : ℕ) (t t′ m m′ : List ℕ) : Type 0 where

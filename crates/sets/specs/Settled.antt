@@ -6,7 +6,7 @@ use mathlib.Core.List.{List}
 use lib.ListN.{getD, length}
 use Rattle.model.specs.Limits.{groupLimit, pairLimit, holderNumbers, wordBits}
 use Rattle.bits.specs.Bits.{bit, member, holds, anyBelow}
-use Rattle.ties.specs.TieArrays.{inUse, tied, Distinct}
+use Rattle.ties.specs.TieArrays.{inUse, tiedUp, Distinct}
 
 -- the lengths of the arrays of a call
 pub record Shaped (ups own slots t : List ℕ) : Type 0 where
@@ -25,8 +25,8 @@ pub record Marked (ups marks : List ℕ) : Type 0 where
 
 -- f says of each holder which pairs are effective: its own, and those of the groups one tie up; and a tie leads to a slot in use
 pub record Solves (ups own slots : List ℕ) (f : ℕ → ℕ → Bool) : Type 0 where
-  pub sentence : (k p : ℕ) → k < length ups → p < pairLimit → f k p ≡ (holds own k p || anyBelow groupLimit (λ q. tied ups k q && f (getD slots q 0) p))
-  pub used : (k q : ℕ) → k < length ups → q < groupLimit → tied ups k q ≡ true → inUse (length ups) slots q ≡ true
+  pub sentence : (k p : ℕ) → k < length ups → p < pairLimit → f k p ≡ (holds own k p || anyBelow groupLimit (λ q. tiedUp ups k q && f (getD slots q 0) p))
+  pub used : (k q : ℕ) → k < length ups → q < groupLimit → tiedUp ups k q ≡ true → inUse (length ups) slots q ≡ true
 
 -- holder k has in the table t exactly the pairs that f says
 unfoldable pub RightAt : (ℕ → ℕ → Bool) → List ℕ → ℕ → Type 0
@@ -52,12 +52,12 @@ pub record MarksChanged (m m′ t u : List ℕ) : Type 0 where
 -- each chain of ties up from the group of slot g is shorter than n
 unfoldable pub ShortChains : List ℕ → List ℕ → ℕ → ℕ → Type 0
 ShortChains ups slots zero g = ⊥
-ShortChains ups slots (suc n) g = (q : ℕ) → q < groupLimit → tied ups (getD slots g 0) q ≡ true → ShortChains ups slots n q
+ShortChains ups slots (suc n) g = (q : ℕ) → q < groupLimit → tiedUp ups (getD slots g 0) q ≡ true → ShortChains ups slots n q
 
 -- a chain of ties leads from the group of slot x up to that of slot g
 pub data Chain (ups slots : List ℕ) : ℕ → ℕ → Type 0 where
-  one : {x g : ℕ} → g < groupLimit → tied ups (getD slots x 0) g ≡ true → Chain ups slots x g
-  more : {x m g : ℕ} → Chain ups slots x m → g < groupLimit → tied ups (getD slots m 0) g ≡ true → Chain ups slots x g
+  one : {x g : ℕ} → g < groupLimit → tiedUp ups (getD slots x 0) g ≡ true → Chain ups slots x g
+  more : {x m g : ℕ} → Chain ups slots x m → g < groupLimit → tiedUp ups (getD slots m 0) g ≡ true → Chain ups slots x g
 
 -- the chains up from a group in use are short, and it is above each group of the mask `path`
 unfoldable pub Deep : List ℕ → List ℕ → ℕ → ℕ → ℕ → Type 0

@@ -15,7 +15,7 @@ use Rattle.model.specs.Bytes.{Bytes, inRange}
 use Rattle.model.specs.Gate.{hexDigit, hexPairs}
 use Rattle.model.proofs.WordTables.{none-is-some}
 use Rattle.model.proofs.Options.{parts, bound, condition, choice}
-use Rattle.text.specs.Hex.{digitCode, pairOf, pairCode, leading, Unhexed}
+use Rattle.text.specs.Hex.{digitCode, hexPairOf, pairCode, leading, Unhexed}
 use Rattle.text.proofs.LoopPlaces.{next, done}
 
 -- the ranges of digits
@@ -69,39 +69,39 @@ code-below x = go (hexDigit x) refl
 
 -- pairs
 module _ (x y : ℕ) where
-  pub no-first : digitCode (hexDigit x) ≡ 16 → pairCode (pairOf x y) ≡ 256
+  pub no-first : digitCode (hexDigit x) ≡ 16 → pairCode (hexPairOf x y) ≡ 256
   no-first e = ap (λ (o : Option ℕ). pairCode (o >>= λ h. hexDigit y >>= λ l. some (16 * h + l))) (no-code x e)
 
-  pub no-second : digitCode (hexDigit y) ≡ 16 → pairCode (pairOf x y) ≡ 256
+  pub no-second : digitCode (hexDigit y) ≡ 16 → pairCode (hexPairOf x y) ≡ 256
   no-second e = ap (λ (o : Option ℕ). pairCode (hexDigit x >>= λ h. o >>= λ l. some (16 * h + l))) (no-code y e) ∙ go (hexDigit x)
     where
       go : (o : Option ℕ) → pairCode (o >>= λ h. none >>= λ l. some (16 * h + l)) ≡ 256
       go none = refl
       go (some h) = refl
 
-  pub pair : (h l : ℕ) → digitCode (hexDigit x) ≡ h → digitCode (hexDigit y) ≡ l → (h ≡ 16 → ⊥) → (l ≡ 16 → ⊥) → pairCode (pairOf x y) ≡ 16 * h + l
+  pub pair : (h l : ℕ) → digitCode (hexDigit x) ≡ h → digitCode (hexDigit y) ≡ l → (h ≡ 16 → ⊥) → (l ≡ 16 → ⊥) → pairCode (hexPairOf x y) ≡ 16 * h + l
   pair h l e f m n = rw (some-code x h e m, some-code y l f n)
 
-  pair-below : (b : ℕ) → pairOf x y ≡ some b → b < 256
+  pair-below : (b : ℕ) → hexPairOf x y ≡ some b → b < 256
   pair-below b e = bound {o = hexDigit x} e λ h p q. bound {o = hexDigit y} q λ l r z.
       let k : 16 * h + l ≡ b = Option·some-injective _ _ z in omega (arith, digit-below x h p, digit-below y l r)
 
-  pub pair-code : (b : ℕ) → b ≡ pairCode (pairOf x y) → (b ≡ 256 → ⊥) → (pairOf x y ≡ some b) × (b < 256)
-  pair-code b e n = go (pairOf x y) refl e
+  pub pair-code : (b : ℕ) → b ≡ pairCode (hexPairOf x y) → (b ≡ 256 → ⊥) → (hexPairOf x y ≡ some b) × (b < 256)
+  pair-code b e n = go (hexPairOf x y) refl e
     where
-      go : (o : Option ℕ) → pairOf x y ≡ o → b ≡ pairCode o → (pairOf x y ≡ some b) × (b < 256)
+      go : (o : Option ℕ) → hexPairOf x y ≡ o → b ≡ pairCode o → (hexPairOf x y ≡ some b) × (b < 256)
       go none f g = absurd (n g)
       go (some d) f g = (f ∙ ap {B = Option ℕ} some (sym g), omega (arith, pair-below d f))
 
-  pub no-pair : 256 ≡ pairCode (pairOf x y) → pairOf x y ≡ none
-  no-pair e = go (pairOf x y) refl e
+  pub no-pair : 256 ≡ pairCode (hexPairOf x y) → hexPairOf x y ≡ none
+  no-pair e = go (hexPairOf x y) refl e
     where
-      go : (o : Option ℕ) → pairOf x y ≡ o → 256 ≡ pairCode o → pairOf x y ≡ none
+      go : (o : Option ℕ) → hexPairOf x y ≡ o → 256 ≡ pairCode o → hexPairOf x y ≡ none
       go none f g = f
       go (some d) f g = absurd (omega (arith, pair-below d f))
 
   -- a pair more
-  pairs-step : (r : Bytes) → hexPairs (x ∷ y ∷ r) ≡ (pairOf x y >>= λ b. hexPairs r >>= λ block. some (b ∷ block))
+  pairs-step : (r : Bytes) → hexPairs (x ∷ y ∷ r) ≡ (hexPairOf x y >>= λ b. hexPairs r >>= λ block. some (b ∷ block))
   unfolding hexPairs
   pairs-step r = go (hexDigit x) (hexDigit y)
     where
@@ -111,10 +111,10 @@ module _ (x y : ℕ) where
       go (some h) none = refl
       go (some h) (some l) = refl
 
-  leading-step : (r : Bytes) (b : ℕ) → pairOf x y ≡ some b → leading (x ∷ y ∷ r) ≡ b ∷ leading r
+  leading-step : (r : Bytes) (b : ℕ) → hexPairOf x y ≡ some b → leading (x ∷ y ∷ r) ≡ b ∷ leading r
   leading-step r b e = ap (λ (o : Option ℕ). elim o as (λ _. Bytes) [ some b ↦ b ∷ leading r | none ↦ [] ]) e
 
-  leading-stop : (r : Bytes) → pairOf x y ≡ none → leading (x ∷ y ∷ r) ≡ []
+  leading-stop : (r : Bytes) → hexPairOf x y ≡ none → leading (x ∷ y ∷ r) ≡ []
   leading-stop r e = ap (λ (o : Option ℕ). elim o as (λ _. Bytes) [ some b ↦ b ∷ leading r | none ↦ [] ]) e
 
 -- what is read so far, and what is left
@@ -134,7 +134,7 @@ module _ (s out : Bytes) (i : ℕ) (h : 2 * i + 1 < length s) where
       let e : 2 * i + 1 + 1 ≡ 2 * (i + 1) = omega arith in
       next s (2 * i) (omega arith) ∙ ap (λ (l : Bytes). getD s (2 * i) 0 ∷ l) (next s (2 * i + 1) h ∙ ap (λ (k : ℕ). getD s (2 * i + 1) 0 ∷ drop k s) e)
 
-  pub so-far-more : (b : ℕ) → pairOf (getD s (2 * i) 0) (getD s (2 * i + 1) 0) ≡ some b → i < length out → so-far s out i → so-far s (set out i b) (i + 1)
+  pub so-far-more : (b : ℕ) → hexPairOf (getD s (2 * i) 0) (getD s (2 * i + 1) 0) ≡ some b → i < length out → so-far s out i → so-far s (set out i b) (i + 1)
   so-far-more b p l (u, v) =
       let x = getD s (2 * i) 0 in
       let y = getD s (2 * i + 1) 0 in
@@ -153,7 +153,7 @@ module _ (s out : Bytes) (i : ℕ) (h : 2 * i + 1 < length s) where
       go none = refl
       go (some d) = ap {B = Option Bytes} some (sym (append-snoc (take i out) b d))
 
-  pub stops : pairOf (getD s (2 * i) 0) (getD s (2 * i + 1) 0) ≡ none → so-far s out i → (leading s ≡ take i out) × (hexPairs s ≡ none)
+  pub stops : hexPairOf (getD s (2 * i) 0) (getD s (2 * i + 1) 0) ≡ none → so-far s out i → (leading s ≡ take i out) × (hexPairs s ≡ none)
   stops p (u, v) =
       let x = getD s (2 * i) 0 in
       let y = getD s (2 * i + 1) 0 in
@@ -204,5 +204,5 @@ unfolding hexPairs
 leading-pairs [] b e = Option·some-injective _ _ e
 leading-pairs (x ∷ []) b e = none-is-some e
 leading-pairs (x ∷ y ∷ r) b e =
-    bound {o = pairOf x y} (sym (pairs-step x y r) ∙ e) λ d p q. bound {o = hexPairs r} q λ block f z.
+    bound {o = hexPairOf x y} (sym (pairs-step x y r) ∙ e) λ d p q. bound {o = hexPairs r} q λ block f z.
     leading-step x y r d p ∙ ap (λ (l : Bytes). d ∷ l) (leading-pairs r block f) ∙ Option·some-injective _ _ z

@@ -20,7 +20,7 @@ use Rattle.model.proofs.WordTables.{same-eq, same-refl}
 use Rattle.model.proofs.Options.{parts, both}
 use Rattle.model.proofs.Lists.{all-parts, all-cons, all-by, same-truth, or-cases}
 use Rattle.model.proofs.Names.{name-all}
-use Rattle.text.specs.Packing.{wordBytes, packed, packedOf, wordsOf, threeWords, listOf, solid}
+use Rattle.text.specs.Packing.{wordBytes, packed, packedOf, twoWords, threeWords, listOf, solid}
 use Rattle.text.proofs.LoopPlaces.{next}
 
 -- the number of bytes, on the way from the end of a list to its front
@@ -142,7 +142,7 @@ text-length s e = leb-true (length s) 12 (parts (leb (length s) textBytes) (all 
 
 -- two words: names; three: texts
 words : (s t : Bytes) → packedOf s ≡ packedOf t → packed 2 s ≡ packed 2 t
-words s t e = ap wordsOf e
+words s t e = ap twoWords e
 
 pub name-injective : (s t : Bytes) → isName s ≡ true → isName t ≡ true → packedOf s ≡ packedOf t → s ≡ t
 name-injective s t p q e =
@@ -157,7 +157,7 @@ text-injective s t p q e =
     packed-injective 3 s t (text-solid s p) (text-solid t q) (omega arith) (omega arith) (ap listOf e)
 
 -- as tests of the words
-pub name-same : (s t : Bytes) → isName s ≡ true → isName t ≡ true → same (wordsOf (packedOf s)) (wordsOf (packedOf t)) ≡ same s t
+pub name-same : (s t : Bytes) → isName s ≡ true → isName t ≡ true → same (twoWords (packedOf s)) (twoWords (packedOf t)) ≡ same s t
 name-same s t p q =
     let h = name-length s p in
     let k = name-length t q in

@@ -16,8 +16,8 @@ digitCode none = 16
 digitCode (some n) = n
 
 -- the byte that a pair of digits writes, 256 where it is none
-abbrev pub pairOf : ℕ → ℕ → Option ℕ
-pairOf x y = hexDigit x >>= λ h. hexDigit y >>= λ l. some (16 * h + l)
+abbrev pub hexPairOf : ℕ → ℕ → Option ℕ
+hexPairOf x y = hexDigit x >>= λ h. hexDigit y >>= λ l. some (16 * h + l)
 
 abbrev pub pairCode : Option ℕ → ℕ
 pairCode none = 256
@@ -27,7 +27,7 @@ pairCode (some n) = n
 abbrev pub leading : Bytes → Bytes
 leading [] = []
 leading (x ∷ []) = []
-leading (x ∷ y ∷ rest) = elim (pairOf x y) [ some b ↦ b ∷ leading rest | none ↦ [] ]
+leading (x ∷ y ∷ rest) = elim (hexPairOf x y) [ some b ↦ b ∷ leading rest | none ↦ [] ]
 
 -- what is read from s over the bytes `before`: whether all of s are pairs, and how many of them are written at the front
 pub record Unhexed (s before after : Bytes) (r : Hex) : Type 0 where

@@ -21,8 +21,8 @@ packed (suc n) s = number (take wordBytes s) ∷ packed n (drop wordBytes s)
 abbrev pub packedOf : Bytes → Packed
 packedOf s = record { low = number (take wordBytes s); high = number (take wordBytes (drop wordBytes s)) }
 
-abbrev pub wordsOf : Packed → List ℕ
-wordsOf p = p .low ∷ p .high ∷ []
+abbrev pub twoWords : Packed → List ℕ
+twoWords p = p .low ∷ p .high ∷ []
 
 -- bytes in three words: the numbers of `packed 3`
 abbrev pub threeWords : Bytes → Words

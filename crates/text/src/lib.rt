@@ -13,7 +13,7 @@ ghost use Rattle.text.specs.Parts.{FirstAt, inClass, Quoted};
 ghost use Rattle.text.specs.ReadCodes.{sourceNumber, typeNumber, keyNumber, boolNumber, isDecimal, limited, codedInt};
 ghost use Rattle.text.specs.Packing.{packedOf, threeWords};
 ghost use Rattle.text.specs.Values.{words, value, codedAtom};
-ghost use Rattle.text.specs.Hex.{digitCode, pairOf, pairCode, Unhexed};
+ghost use Rattle.text.specs.Hex.{digitCode, hexPairOf, pairCode, Unhexed};
 use codes::ADMIN;
 use codes::BOOL;
 use codes::CONNECT;
@@ -409,7 +409,7 @@ fn broad(b: u8) -> u16
 
 // The byte that two digits write, 256 where they are no pair.
 fn hex_pair(x: u8, y: u8) -> u16
-    ensures { λ r. ⌜ r ≡ pairCode (pairOf x y) ⌝ }
+    ensures { λ r. ⌜ r ≡ pairCode (hexPairOf x y) ⌝ }
 {
     let h = hex_digit(x);
     let l = hex_digit(y);

@@ -13,7 +13,7 @@ use Rattle.model.proofs.Chains.{is-below}
 use Rattle.model.specs.Standing.{Standing}
 use Rattle.model.proofs.Standing.{among, holder-below}
 use Rattle.bits.specs.Bits.{bit}
-use Rattle.ties.specs.TieArrays.{inUse, tied, meets, KeepsTies, Room, Under, here, over, Marks, LeadsTo}
+use Rattle.ties.specs.TieArrays.{inUse, tiedUp, meets, KeepsTies, Room, Under, here, over, Marks, LeadsTo}
 use Rattle.bits.proofs.Counts.{find-any}
 use Rattle.ties.proofs.Keeps.{up-slot}
 use Rattle.ties.proofs.Climbing.{above-below, below-above}
@@ -23,26 +23,26 @@ module _ {ups own slots : List ℕ} {T : Ties} (kept : KeepsTies ups own slots T
     above-under : {e h : ℕ} → Below T h e → (q : ℕ) → inUse (length ups) slots q ≡ true → getD slots q 0 ≡ h → Under ups slots e q
     above-under (one {h = h} {g = e} t) q u at =
         let r = up-slot kept h e (few h e t) t in
-        over u (r .1) (ap (λ (x : ℕ). tied ups x (r .0)) at ∙ r .2) (here (kept .used h (r .0) (few h e t) (r .1) (r .2)) (r .3))
+        over u (r .1) (ap (λ (x : ℕ). tiedUp ups x (r .0)) at ∙ r .2) (here (kept .used h (r .0) (few h e t) (r .1) (r .2)) (r .3))
     above-under (more {h = h} {m = m} t c) q u at =
         let r = up-slot kept h m (few h m t) t in
-        over u (r .1) (ap (λ (x : ℕ). tied ups x (r .0)) at ∙ r .2) (above-under c (r .0) (kept .used h (r .0) (few h m t) (r .1) (r .2)) (r .3))
+        over u (r .1) (ap (λ (x : ℕ). tiedUp ups x (r .0)) at ∙ r .2) (above-under c (r .0) (kept .used h (r .0) (few h m t) (r .1) (r .2)) (r .3))
 
     -- one tie leads into the mask where e is above
     module _ (e m : ℕ) (marks : Marks ups slots e m) (k : ℕ) where
-      above-slot : Below T k e → (q : ℕ) × (q < 64) × (tied ups k q ≡ true) × Under ups slots e q
+      above-slot : Below T k e → (q : ℕ) × (q < 64) × (tiedUp ups k q ≡ true) × Under ups slots e q
       above-slot c = by c k refl
         where
-          by : {h : ℕ} → Below T h e → (k : ℕ) → k ≡ h → (q : ℕ) × (q < 64) × (tied ups k q ≡ true) × Under ups slots e q
+          by : {h : ℕ} → Below T h e → (k : ℕ) → k ≡ h → (q : ℕ) × (q < 64) × (tiedUp ups k q ≡ true) × Under ups slots e q
           by (one {h = h} t) k at =
               let r = up-slot kept h e (few h e t) t in
-              (r .0, r .1, ap (λ (x : ℕ). tied ups x (r .0)) at ∙ r .2, here (kept .used h (r .0) (few h e t) (r .1) (r .2)) (r .3))
+              (r .0, r .1, ap (λ (x : ℕ). tiedUp ups x (r .0)) at ∙ r .2, here (kept .used h (r .0) (few h e t) (r .1) (r .2)) (r .3))
           by (more {h = h} {m = m} t c) k at =
               let r = up-slot kept h m (few h m t) t in
-              (r .0, r .1, ap (λ (x : ℕ). tied ups x (r .0)) at ∙ r .2, above-under c (r .0) (kept .used h (r .0) (few h m t) (r .1) (r .2)) (r .3))
+              (r .0, r .1, ap (λ (x : ℕ). tiedUp ups x (r .0)) at ∙ r .2, above-under c (r .0) (kept .used h (r .0) (few h m t) (r .1) (r .2)) (r .3))
 
       pub above-meets : Below T k e → meets (getD ups k 0) m ≡ true
-      unfolding meets tied
+      unfolding meets tiedUp
       above-meets c =
           let r = above-slot c in
           find-any 64 (λ q. bit (getD ups k 0) q && bit m q) (r .0) (r .1) (both (r .2) (marks .complete (r .0) (r .1) (r .3)))

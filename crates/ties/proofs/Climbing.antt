@@ -12,11 +12,11 @@ use Rattle.model.proofs.Options.{parts, both}
 use Rattle.model.proofs.Lists.{or-cases, or-left, or-right, count-more, below-in}
 use Rattle.bits.specs.Bits.{bit, countBelow}
 use Rattle.bits.proofs.Bits.{bit-none}
-use Rattle.ties.specs.TieArrays.{tied, KeepsTies, Above, next, far, LeadsTo}
+use Rattle.ties.specs.TieArrays.{tiedUp, KeepsTies, Above, next, far, LeadsTo}
 use Rattle.ties.proofs.Keeps.{tied-lt, up-slot, slot-up}
 
 -- one tie further up
-above-more : {ups slots : List ℕ} {k q r : ℕ} → Above ups slots k q → r < 64 → tied ups (getD slots q 0) r ≡ true → Above ups slots k r
+above-more : {ups slots : List ℕ} {k q r : ℕ} → Above ups slots k q → r < 64 → tiedUp ups (getD slots q 0) r ≡ true → Above ups slots k r
 above-more (next l on) low t = far l on (next low t)
 above-more (far l on c) low t = far l on (above-more c low t)
 
@@ -25,13 +25,13 @@ above-more (far l on c) low t = far l on (above-more c low t)
 pub record Climbed (ups slots : List ℕ) (k e done left : ℕ) : Type 0 where
   pub sound : (q : ℕ) → q < 64 → bit left q ≡ true → Above ups slots k q
   pub apart : (q : ℕ) → q < 64 → bit left q ≡ true → bit done q ≡ false
-  pub first : (q : ℕ) → q < 64 → tied ups k q ≡ true → (bit done q || bit left q) ≡ true
-  pub closed : (q r : ℕ) → q < 64 → r < 64 → bit done q ≡ true → tied ups (getD slots q 0) r ≡ true → (bit done r || bit left r) ≡ true
+  pub first : (q : ℕ) → q < 64 → tiedUp ups k q ≡ true → (bit done q || bit left q) ≡ true
+  pub closed : (q r : ℕ) → q < 64 → r < 64 → bit done q ≡ true → tiedUp ups (getD slots q 0) r ≡ true → (bit done r || bit left r) ≡ true
   pub missed : (q : ℕ) → q < 64 → bit done q ≡ true → getD slots q 0 ≡ e → ⊥
 
 module _ (ups slots : List ℕ) (k e : ℕ) where
   pub climb-start : (left : ℕ) → left ≡ getD ups k 0 → Climbed ups slots k e 0 left
-  unfolding tied
+  unfolding tiedUp
   climb-start left by = record {
     sound = λ q l on. next l (ap (λ (w : ℕ). bit w q) (sym by) ∙ on);
     apart = λ q l on. bit-none q;
@@ -47,7 +47,7 @@ module _ (ups slots : List ℕ) (k e : ℕ) where
       only : (q : ℕ) → (bit done q || bit left q) ≡ true → bit done q ≡ true
       only q on = ⊎-elim (λ y. y) (λ y. absurd (true≢false (sym y ∙ ap (λ (w : ℕ). bit w q) e0 ∙ bit-none q))) (or-cases (bit done q) (bit left q) on)
 
-      reached : (h : ℕ) {q : ℕ} → ((r : ℕ) → r < 64 → tied ups h r ≡ true → bit done r ≡ true) → Above ups slots h q → (q < 64) × (bit done q ≡ true)
+      reached : (h : ℕ) {q : ℕ} → ((r : ℕ) → r < 64 → tiedUp ups h r ≡ true → bit done r ≡ true) → Above ups slots h q → (q < 64) × (bit done q ≡ true)
       reached h {q} all (next l on) = (l, all q l on)
       reached h {q} all (far {r = r} l on c) = reached (getD slots r 0) (λ s low t. only s (w .closed r s l low (all r l on) t)) c
 
@@ -87,7 +87,7 @@ module _ (ups slots : List ℕ) (k e : ℕ) where
         done-or-now j y = sym (with j) ∙ y
 
         pub climb-turn : Climbed ups slots k e done′ left′
-        unfolding tied
+        unfolding tiedUp
         climb-turn = record {
           sound = λ j low y.
               let s = parts (bit left j || bit up j) (not (bit done′ j)) (sym (rest j low) ∙ y) in

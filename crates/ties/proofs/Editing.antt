@@ -22,7 +22,7 @@ use Rattle.bits.specs.Bits
 use Rattle.bits.proofs.Sets.{member-stored, holds-member}
 use Rattle.bits.proofs.Bits.{bit-none}
 use Rattle.bits.proofs.Counts.{any-ext, any-at, any-find, find-any}
-use Rattle.ties.specs.TieArrays.{inUse, tied, Distinct, KeepsTies}
+use Rattle.ties.specs.TieArrays.{inUse, tiedUp, Distinct, KeepsTies}
 use Rattle.ties.specs.TieEdits.{LeadsUp, AddedUp, TakenUp, AddedValue, TakenValue, SlotGiven}
 use Rattle.ties.proofs.Masks.{in-use-lt, eqb-flip}
 
@@ -69,8 +69,8 @@ pair-test k r h p l m = same-truth (eqb (256 * k + r) (256 * h + p)) (eqb k h &&
 -- f is `or`, or `and not`
 module _ (f : Bool → Bool → Bool) (same : (b : Bool) → f b false ≡ b) where
   tied-set : (ups : List ℕ) (h q v : ℕ) → h < length ups → ((j : ℕ) → bit v j ≡ f (bit (getD ups h 0) j) (eqb j q)) → (k r : ℕ)
-      → tied (set ups h v) k r ≡ f (tied ups k r) (eqb k h && eqb r q)
-  unfolding tied
+      → tiedUp (set ups h v) k r ≡ f (tiedUp ups k r) (eqb k h && eqb r q)
+  unfolding tiedUp
   tied-set ups h q v few one k r = go (ℕ-discrete k h)
     where
       go : Dec (k ≡ h) → bit (getD (set ups h v) k 0) r ≡ f (bit (getD ups k 0) r) (eqb k h && eqb r q)
@@ -161,39 +161,39 @@ value-removed t h g (inr e) T k p = ap (λ (t : Tie). removed t T (value k p)) e
 -- ---- the arrays
 
 module _ (ups : List ℕ) (h q : ℕ) (ups′ : List ℕ) (long : length ups′ ≡ length ups) where
-  module _ (bits : (k r : ℕ) → tied ups′ k r ≡ (tied ups k r || eqb k h && eqb r q)) (own slots : List ℕ) (T : Ties) (t : Tie) (kept : KeepsTies ups own slots T)
+  module _ (bits : (k r : ℕ) → tiedUp ups′ k r ≡ (tiedUp ups k r || eqb k h && eqb r q)) (own slots : List ℕ) (T : Ties) (t : Tie) (kept : KeepsTies ups own slots T)
       (low : q < 64) (live : inUse (length ups) slots q ≡ true) (leads : LeadsUp t h (getD slots q 0)) where
-    groups-more : (k g : ℕ) → anyBelow 64 (λ r. tied ups′ k r && eqb (getD slots r 0) g) ≡ (anyBelow 64 (λ r. tied ups k r && eqb (getD slots r 0) g) || eqb k h && eqb g (getD slots q 0))
+    groups-more : (k g : ℕ) → anyBelow 64 (λ r. tiedUp ups′ k r && eqb (getD slots r 0) g) ≡ (anyBelow 64 (λ r. tiedUp ups k r && eqb (getD slots r 0) g) || eqb k h && eqb g (getD slots q 0))
     groups-more k g = same-truth (anyBelow 64 new) (anyBelow 64 old || eqb k h && eqb g (getD slots q 0))
         (λ e.
         let r = any-find 64 new e in
-        let s = parts (tied ups′ k (r .0)) (eqb (getD slots (r .0) 0) g) (r .2) in
+        let s = parts (tiedUp ups′ k (r .0)) (eqb (getD slots (r .0) 0) g) (r .2) in
         ⊎-elim (λ y. or-left (anyBelow 64 old) (eqb k h && eqb g (getD slots q 0)) (find-any 64 old (r .0) (r .1) (both y (s .1))))
         (λ y.
         let z = parts (eqb k h) (eqb (r .0) q) y in
         or-right (anyBelow 64 old) (eqb k h && eqb g (getD slots q 0))
         (both (z .0) (eq-eqb g (getD slots q 0) (sym (eqb-true (getD slots (r .0) 0) g (s .1)) ∙ ap (λ (i : ℕ). getD slots i 0) (eqb-true (r .0) q (z .1))))))
-        (or-cases (tied ups k (r .0)) (eqb k h && eqb (r .0) q) (sym (bits k (r .0)) ∙ s .0)))
+        (or-cases (tiedUp ups k (r .0)) (eqb k h && eqb (r .0) q) (sym (bits k (r .0)) ∙ s .0)))
         (λ e. ⊎-elim
         (λ y.
         let r = any-find 64 old y in
-        let s = parts (tied ups k (r .0)) (eqb (getD slots (r .0) 0) g) (r .2) in
-        find-any 64 new (r .0) (r .1) (both (bits k (r .0) ∙ or-left (tied ups k (r .0)) (eqb k h && eqb (r .0) q) (s .0)) (s .1)))
+        let s = parts (tiedUp ups k (r .0)) (eqb (getD slots (r .0) 0) g) (r .2) in
+        find-any 64 new (r .0) (r .1) (both (bits k (r .0) ∙ or-left (tiedUp ups k (r .0)) (eqb k h && eqb (r .0) q) (s .0)) (s .1)))
         (λ y.
         let z = parts (eqb k h) (eqb g (getD slots q 0)) y in
         find-any 64 new q low
-        (both (bits k q ∙ or-right (tied ups k q) (eqb k h && eqb q q) (both (z .0) (eq-eqb q q refl))) (eq-eqb (getD slots q 0) g (sym (eqb-true g (getD slots q 0) (z .1))))))
+        (both (bits k q ∙ or-right (tiedUp ups k q) (eqb k h && eqb q q) (both (z .0) (eq-eqb q q refl))) (eq-eqb (getD slots q 0) g (sym (eqb-true g (getD slots q 0) (z .1))))))
         (or-cases (anyBelow 64 old) (eqb k h && eqb g (getD slots q 0)) e))
       where
         new : ℕ → Bool
-        new r = tied ups′ k r && eqb (getD slots r 0) g
+        new r = tiedUp ups′ k r && eqb (getD slots r 0) g
 
         old : ℕ → Bool
-        old r = tied ups k r && eqb (getD slots r 0) g
+        old r = tiedUp ups k r && eqb (getD slots r 0) g
 
-    used-more : (k r : ℕ) → k < length ups → r < 64 → tied ups′ k r ≡ true → inUse (length ups) slots r ≡ true
+    used-more : (k r : ℕ) → k < length ups → r < 64 → tiedUp ups′ k r ≡ true → inUse (length ups) slots r ≡ true
     used-more k r few l e = ⊎-elim (kept .used k r few l) (λ y. ap (inUse (length ups) slots) (eqb-true r q (parts (eqb k h) (eqb r q) y .1)) ∙ live)
-        (or-cases (tied ups k r) (eqb k h && eqb r q) (sym (bits k r) ∙ e))
+        (or-cases (tiedUp ups k r) (eqb k h && eqb r q) (sym (bits k r) ∙ e))
 
     pub keeps-more : KeepsTies ups′ own slots (added t T)
     keeps-more = record {
@@ -203,17 +203,17 @@ module _ (ups : List ℕ) (h q : ℕ) (ups′ : List ℕ) (long : length ups′ 
       distinct = subst (λ (n : ℕ). Distinct n slots) (sym long) (kept .distinct);
     }
 
-  module _ (bits : (k r : ℕ) → tied ups′ k r ≡ (tied ups k r && not (eqb k h && eqb r q))) (own slots : List ℕ) (D : Declarations) (T : Ties) (t : Tie)
+  module _ (bits : (k r : ℕ) → tiedUp ups′ k r ≡ (tiedUp ups k r && not (eqb k h && eqb r q))) (own slots : List ℕ) (D : Declarations) (T : Ties) (t : Tie)
       (standing : Standing (record { declared = D; ties = T })) (kept : KeepsTies ups own slots T) (low : q < 64) (live : inUse (length ups) slots q ≡ true) (on : T t ≡ true)
       (leads : LeadsUp t h (getD slots q 0)) where
     -- the slots are distinct: no other one has the group that is left
-    groups-less : (k g : ℕ) → anyBelow 64 (λ r. tied ups′ k r && eqb (getD slots r 0) g) ≡ (anyBelow 64 (λ r. tied ups k r && eqb (getD slots r 0) g) && not (eqb k h && eqb g (getD slots q 0)))
+    groups-less : (k g : ℕ) → anyBelow 64 (λ r. tiedUp ups′ k r && eqb (getD slots r 0) g) ≡ (anyBelow 64 (λ r. tiedUp ups k r && eqb (getD slots r 0) g) && not (eqb k h && eqb g (getD slots q 0)))
     unfolding Distinct
     groups-less k g = same-truth (anyBelow 64 new) (anyBelow 64 old && not (eqb k h && eqb g (getD slots q 0)))
         (λ e.
         let r = any-find 64 new e in
-        let s = parts (tied ups′ k (r .0)) (eqb (getD slots (r .0) 0) g) (r .2) in
-        let y = parts (tied ups k (r .0)) (not (eqb k h && eqb (r .0) q)) (sym (bits k (r .0)) ∙ s .0) in
+        let s = parts (tiedUp ups′ k (r .0)) (eqb (getD slots (r .0) 0) g) (r .2) in
+        let y = parts (tiedUp ups k (r .0)) (not (eqb k h && eqb (r .0) q)) (sym (bits k (r .0)) ∙ s .0) in
         both (find-any 64 old (r .0) (r .1) (both (y .0) (s .1)))
         (not-on (eqb k h && eqb g (getD slots q 0)) (λ x.
         let z = parts (eqb k h) (eqb g (getD slots q 0)) x in
@@ -222,7 +222,7 @@ module _ (ups : List ℕ) (h q : ℕ) (ups′ : List ℕ) (long : length ups′ 
         (λ e.
         let y = parts (anyBelow 64 old) (not (eqb k h && eqb g (getD slots q 0))) e in
         let r = any-find 64 old (y .0) in
-        let s = parts (tied ups k (r .0)) (eqb (getD slots (r .0) 0) g) (r .2) in
+        let s = parts (tiedUp ups k (r .0)) (eqb (getD slots (r .0) 0) g) (r .2) in
         find-any 64 new (r .0) (r .1) (both (bits k (r .0) ∙ both (s .0)
         (not-on (eqb k h && eqb (r .0) q) (λ x.
         let z = parts (eqb k h) (eqb (r .0) q) x in
@@ -230,16 +230,16 @@ module _ (ups : List ℕ) (h q : ℕ) (ups′ : List ℕ) (long : length ups′ 
         (both (z .0) (eq-eqb g (getD slots q 0) (sym (eqb-true (getD slots (r .0) 0) g (s .1)) ∙ ap (λ (i : ℕ). getD slots i 0) (eqb-true (r .0) q (z .1)))))))) (s .1)))
       where
         new : ℕ → Bool
-        new r = tied ups′ k r && eqb (getD slots r 0) g
+        new r = tiedUp ups′ k r && eqb (getD slots r 0) g
 
         old : ℕ → Bool
-        old r = tied ups k r && eqb (getD slots r 0) g
+        old r = tiedUp ups k r && eqb (getD slots r 0) g
 
     pub keeps-less : KeepsTies ups′ own slots (removed t T)
     keeps-less = record {
       pairs = λ k p few l. kept .pairs k p (omega arith) l ∙ sym (value-removed t h (getD slots q 0) leads T k p);
       groups = λ k g few. up-removed D T standing t h (getD slots q 0) on leads k g ∙ ap (λ (b : Bool). b && not (eqb k h && eqb g (getD slots q 0))) (kept .groups k g (omega arith)) ∙ sym (groups-less k g);
-      used = λ k r few l e. ap (λ (n : ℕ). inUse n slots r) long ∙ kept .used k r (omega arith) l (parts (tied ups k r) (not (eqb k h && eqb r q)) (sym (bits k r) ∙ e) .0);
+      used = λ k r few l e. ap (λ (n : ℕ). inUse n slots r) long ∙ kept .used k r (omega arith) l (parts (tiedUp ups k r) (not (eqb k h && eqb r q)) (sym (bits k r) ∙ e) .0);
       distinct = subst (λ (n : ℕ). Distinct n slots) (sym long) (kept .distinct);
     }
 
@@ -282,17 +282,17 @@ module _ (slots : List ℕ) (q v : ℕ) (within : q < length slots) (ups own : L
   other r n = getD-set-other slots q r v 0 n
 
   -- no tie leads to a free slot
-  not-free : (h r : ℕ) → h < length ups → r < 64 → tied ups h r ≡ true → r ≡ q → ⊥
+  not-free : (h r : ℕ) → h < length ups → r < 64 → tiedUp ups h r ≡ true → r ≡ q → ⊥
   not-free h r few l on e = true≢false (sym (kept .used h r few l on) ∙ ap (inUse (length ups) slots) e ∙ free)
 
-  same-group : (h g r : ℕ) → h < length ups → r < 64 → (tied ups h r && eqb (getD slots r 0) g) ≡ (tied ups h r && eqb (getD (set slots q v) r 0) g)
-  same-group h g r few l = go (tied ups h r) refl
+  same-group : (h g r : ℕ) → h < length ups → r < 64 → (tiedUp ups h r && eqb (getD slots r 0) g) ≡ (tiedUp ups h r && eqb (getD (set slots q v) r 0) g)
+  same-group h g r few l = go (tiedUp ups h r) refl
     where
-      go : (b : Bool) → tied ups h r ≡ b → (b && eqb (getD slots r 0) g) ≡ (b && eqb (getD (set slots q v) r 0) g)
+      go : (b : Bool) → tiedUp ups h r ≡ b → (b && eqb (getD slots r 0) g) ≡ (b && eqb (getD (set slots q v) r 0) g)
       go true e = ap (λ (x : ℕ). eqb x g) (sym (other r (not-free h r few l e)))
       go false e = refl
 
-  still-used : (h r : ℕ) → h < length ups → r < 64 → tied ups h r ≡ true → inUse (length ups) (set slots q v) r ≡ true
+  still-used : (h r : ℕ) → h < length ups → r < 64 → tiedUp ups h r ≡ true → inUse (length ups) (set slots q v) r ≡ true
   unfolding inUse
   still-used h r few l on = ap (λ (x : ℕ). ltb 0 x && ltb x (length ups)) (other r (not-free h r few l on)) ∙ kept .used h r few l on
 
@@ -313,14 +313,14 @@ module _ (slots : List ℕ) (q v : ℕ) (within : q < length slots) (ups own : L
   pub keeps-slot : KeepsTies ups own (set slots q v) T
   keeps-slot = record {
     pairs = kept .pairs;
-    groups = λ h g few. kept .groups h g few ∙ any-ext 64 (λ r. tied ups h r && eqb (getD slots r 0) g) (λ r. tied ups h r && eqb (getD (set slots q v) r 0) g) (λ r l. same-group h g r few l);
+    groups = λ h g few. kept .groups h g few ∙ any-ext 64 (λ r. tiedUp ups h r && eqb (getD slots r 0) g) (λ r. tiedUp ups h r && eqb (getD (set slots q v) r 0) g) (λ r l. same-group h g r few l);
     used = still-used;
     distinct = still-distinct;
   }
 
 -- arrays of zeros keep no ties
 pub keeps-none : (ups own slots : List ℕ) → ((k : ℕ) → getD ups k 0 ≡ 0) → ((j : ℕ) → getD own j 0 ≡ 0) → ((q : ℕ) → getD slots q 0 ≡ 0) → KeepsTies ups own slots noTies
-unfolding tied holds Distinct
+unfolding tiedUp holds Distinct
 keeps-none ups own slots no-ups no-own no-slots = record {
   pairs = λ h p few l. ap (λ (w : ℕ). bit w (p % 64)) (no-own (4 * h + p / 64)) ∙ bit-none (p % 64);
   groups = λ h g few. sym (any-at 64 (λ q. bit (getD ups h 0) q && eqb (getD slots q 0) g) (λ q l. ap (λ (b : Bool). b && eqb (getD slots q 0) g) (none h q)));

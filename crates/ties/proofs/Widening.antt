@@ -14,7 +14,7 @@ use Rattle.model.proofs.Lists.{same-truth, true-or-false, or-cases, or-left, or
 use Rattle.bits.specs.Bits.{bit, anyBelow, countBelow}
 use Rattle.bits.proofs.Bits.{bit-none, bit-high, bit-ext}
 use Rattle.bits.proofs.Counts.{any-none, any-find, find-any}
-use Rattle.ties.specs.TieArrays.{inUse, HasNumbered, tied, meets, isGroup, under, Under, here, over, AllUnder, Marks, Widened}
+use Rattle.ties.specs.TieArrays.{inUse, HasNumbered, tiedUp, meets, hasSlot, under, Under, here, over, AllUnder, Marks, Widened}
 use Rattle.ties.proofs.Masks.{in-use-lt}
 use Rattle.ties.proofs.Keeps.{slot-group}
 
@@ -82,7 +82,7 @@ module _ (ups slots : List ℕ) (e : ℕ) where
   none-sound q l on = absurd (true≢false (sym on ∙ bit-none q))
 
   joins-sound : (m : ℕ) → AllUnder ups slots e m → (q : ℕ) → (inUse (length ups) slots q && under ups m e (getD slots q 0)) ≡ true → Under ups slots e q
-  unfolding under meets tied
+  unfolding under meets tiedUp
   joins-sound m sound q on =
       let k : ℕ = getD slots q 0 in
       let s = parts (inUse (length ups) slots q) (under ups m e k) on in
@@ -161,7 +161,7 @@ module _ (ups slots : List ℕ) (e : ℕ) where
 
   -- a mask that does not grow has them all
   closed-complete : (m : ℕ) → Widened ups slots e m m → {q : ℕ} → Under ups slots e q → q < 64 → bit m q ≡ true
-  unfolding under meets tied
+  unfolding under meets tiedUp
   closed-complete m w {q} (here u at) l = w .takes q l u (or-left (eqb (getD slots q 0) e) (meets (getD ups (getD slots q 0) 0) m) (eq-eqb (getD slots q 0) e at))
   closed-complete m w {q} (over {r = r} u low on c) l =
       w .takes q l u (or-right (eqb (getD slots q 0) e) (meets (getD ups (getD slots q 0) 0) m)
@@ -171,9 +171,9 @@ module _ (ups slots : List ℕ) (e : ℕ) where
   marks m next same sound w = record { sound = sound; complete = λ q l c. closed-complete m (subst (Widened ups slots e m) same w) c l }
 
   -- no group is below a user or an object
-  under-group : {q : ℕ} → Under ups slots e q → q < 64 → isGroup (length ups) slots e ≡ true
-  under-group {q} (here u at) l = ap (isGroup (length ups) slots) (sym at) ∙ slot-group (length ups) slots q l u
+  under-group : {q : ℕ} → Under ups slots e q → q < 64 → hasSlot (length ups) slots e ≡ true
+  under-group {q} (here u at) l = ap (hasSlot (length ups) slots) (sym at) ∙ slot-group (length ups) slots q l u
   under-group (over u low on c) l = under-group c low
 
-  pub none-below : isGroup (length ups) slots e ≡ false → Marks ups slots e 0
+  pub none-below : hasSlot (length ups) slots e ≡ false → Marks ups slots e 0
   none-below none = record { sound = none-sound; complete = λ q l c. absurd (true≢false (sym (under-group c l) ∙ none)) }

@@ -26,16 +26,16 @@ pub record Numbered (slots : List ℕ) (m q r : ℕ) : Type 0 where
   pub taken : 0 < getD slots q 0 → bit r q ≡ true
 
 -- holder h has a tie up to the group of slot q
-unfoldable pub tied : List ℕ → ℕ → ℕ → Bool
-tied ups h q = bit (getD ups h 0) q
+unfoldable pub tiedUp : List ℕ → ℕ → ℕ → Bool
+tiedUp ups h q = bit (getD ups h 0) q
 
 -- two masks have a slot in common
 unfoldable pub meets : ℕ → ℕ → Bool
 meets a b = anyBelow groupLimit (λ q. bit a q && bit b q)
 
 -- holder k is the group of some slot
-unfoldable pub isGroup : ℕ → List ℕ → ℕ → Bool
-isGroup n slots k = anyBelow groupLimit (λ q. inUse n slots q && eqb (getD slots q 0) k)
+unfoldable pub hasSlot : ℕ → List ℕ → ℕ → Bool
+hasSlot n slots k = anyBelow groupLimit (λ q. inUse n slots q && eqb (getD slots q 0) k)
 
 -- holder k is the group of some slot of the mask m
 unfoldable pub groupOf : ℕ → List ℕ → ℕ → ℕ → Bool
@@ -48,8 +48,8 @@ Distinct n slots = (q r : ℕ) → q < groupLimit → r < groupLimit → inUse n
 -- the arrays keep the ties T
 pub record KeepsTies (ups own slots : List ℕ) (T : Ties) : Type 0 where
   pub pairs : (h p : ℕ) → h < length ups → p < pairLimit → holds own h p ≡ T (value h p)
-  pub groups : (h g : ℕ) → h < length ups → up T h g ≡ anyBelow groupLimit (λ q. tied ups h q && eqb (getD slots q 0) g)
-  pub used : (h q : ℕ) → h < length ups → q < groupLimit → tied ups h q ≡ true → inUse (length ups) slots q ≡ true
+  pub groups : (h g : ℕ) → h < length ups → up T h g ≡ anyBelow groupLimit (λ q. tiedUp ups h q && eqb (getD slots q 0) g)
+  pub used : (h q : ℕ) → h < length ups → q < groupLimit → tiedUp ups h q ≡ true → inUse (length ups) slots q ≡ true
   pub distinct : Distinct (length ups) slots
 
 -- arrays for n holders have room for those of D
@@ -59,7 +59,7 @@ Room D n = (k : ℕ) → isHolder D k ≡ true → k < n
 -- the group of slot q is holder e, or a chain of ties leads from it up to e
 pub data Under (ups slots : List ℕ) (e : ℕ) : ℕ → Type 0 where
   here : {q : ℕ} → inUse (length ups) slots q ≡ true → getD slots q 0 ≡ e → Under ups slots e q
-  over : {q r : ℕ} → inUse (length ups) slots q ≡ true → r < groupLimit → tied ups (getD slots q 0) r ≡ true → Under ups slots e r → Under ups slots e q
+  over : {q r : ℕ} → inUse (length ups) slots q ≡ true → r < groupLimit → tiedUp ups (getD slots q 0) r ≡ true → Under ups slots e r → Under ups slots e q
 
 -- the slots of the mask m are all of such groups
 abbrev pub AllUnder : List ℕ → List ℕ → ℕ → ℕ → Type 0
@@ -72,8 +72,8 @@ pub record Marks (ups slots : List ℕ) (e m : ℕ) : Type 0 where
 
 -- a chain of ties leads from holder k up to the group of slot q
 pub data Above (ups slots : List ℕ) : ℕ → ℕ → Type 0 where
-  next : {k q : ℕ} → q < groupLimit → tied ups k q ≡ true → Above ups slots k q
-  far : {k r q : ℕ} → r < groupLimit → tied ups k r ≡ true → Above ups slots (getD slots r 0) q → Above ups slots k q
+  next : {k q : ℕ} → q < groupLimit → tiedUp ups k q ≡ true → Above ups slots k q
+  far : {k r q : ℕ} → r < groupLimit → tiedUp ups k r ≡ true → Above ups slots (getD slots r 0) q → Above ups slots k q
 
 -- r tells whether a chain of ties leads from holder k up to holder e
 pub record LeadsTo (ups slots : List ℕ) (k e : ℕ) (r : Bool) : Type 0 where

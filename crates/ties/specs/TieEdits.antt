@@ -12,7 +12,7 @@ use Rattle.model.specs.Declarations.{Declarations}
 use Rattle.model.specs.Ties.{Tie, Ties, parent, member, value, added, removed}
 use Rattle.model.specs.Standing.{Standing}
 use Rattle.bits.specs.Bits.{holds}
-use Rattle.ties.specs.TieArrays.{inUse, tied, KeepsTies}
+use Rattle.ties.specs.TieArrays.{inUse, tiedUp, KeepsTies}
 
 -- t is a parent or member tie from h up to g
 abbrev pub LeadsUp : Tie → ℕ → ℕ → Type 0
@@ -20,13 +20,13 @@ LeadsUp t h g = (t ≡ parent h g) ⊎ (t ≡ member h g)
 
 -- holder h gets a tie up to the group of slot q
 pub record AddedUp (ups : List ℕ) (h q : ℕ) (ups′ : List ℕ) : Type 0 where
-  pub bits : (k r : ℕ) → tied ups′ k r ≡ (tied ups k r || eqb k h && eqb r q)
+  pub bits : (k r : ℕ) → tiedUp ups′ k r ≡ (tiedUp ups k r || eqb k h && eqb r q)
   pub keeps : (own slots : List ℕ) (T : Ties) (t : Tie) → KeepsTies ups own slots T → inUse (length ups) slots q ≡ true → LeadsUp t h (getD slots q 0)
       → KeepsTies ups′ own slots (added t T)
 
 -- holder h loses it
 pub record TakenUp (ups : List ℕ) (h q : ℕ) (ups′ : List ℕ) : Type 0 where
-  pub bits : (k r : ℕ) → tied ups′ k r ≡ (tied ups k r && not (eqb k h && eqb r q))
+  pub bits : (k r : ℕ) → tiedUp ups′ k r ≡ (tiedUp ups k r && not (eqb k h && eqb r q))
   pub keeps : (own slots : List ℕ) (D : Declarations) (T : Ties) (t : Tie) → Standing (record { declared = D; ties = T }) → KeepsTies ups own slots T
       → inUse (length ups) slots q ≡ true → T t ≡ true → LeadsUp t h (getD slots q 0) → KeepsTies ups′ own slots (removed t T)
 

@@ -6,7 +6,7 @@ ghost use lib.Dec.{eqb, ltb};
 ghost use lib.ListN.{length, getD};
 ghost use Rattle.model.specs.Limits.{groupLimit, pairLimit};
 ghost use Rattle.bits.specs.Bits.{bit, member, anyBelow};
-ghost use Rattle.ties.specs.TieArrays.{inUse, meets, isGroup, groupOf, under, HasNumbered, Numbered, Marks, Widened, LeadsTo, ClosesCircle};
+ghost use Rattle.ties.specs.TieArrays.{inUse, meets, hasSlot, groupOf, under, HasNumbered, Numbered, Marks, Widened, LeadsTo, ClosesCircle};
 ghost use Rattle.ties.specs.TieEdits.{AddedUp, TakenUp, AddedValue, TakenValue, SlotGiven};
 
 fn wide(s: u64) -> usize
@@ -49,7 +49,7 @@ fn any_slot(slots: &[u64], k: usize) -> bool
 // Whether holder k is a group, among n holders.
 pub fn is_group(slots: &[u64], k: usize, n: usize) -> bool
     requires { ⌜ length (now slots) ≡ groupLimit ⌝ }
-    ensures { λ r. ⌜ r ≡ isGroup n (now (slots .entry)) k ⌝ }
+    ensures { λ r. ⌜ r ≡ hasSlot n (now (slots .entry)) k ⌝ }
 {
     if k == 0 {
         return false;

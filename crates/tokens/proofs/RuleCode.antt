@@ -19,7 +19,7 @@ use Rattle.codes.specs.Codes.{endCode, kindOf, truthCode, operatorCode, markCod
 use Rattle.codes.proofs.TokenKinds.{kind-range, by-kind, same-kind, int-kind, str-kind, name-kind, mark-kind, truth-kind, operator-kind}
 use Rattle.rows.specs.Rows.{numberOr}
 use Rattle.tokens.specs.declared.Encoded.{Encoded}
-use Rattle.tokens.specs.RuleCode.{unknownNumber, lowBytes, carried, encodeToken, ruleCode, Coded, size, CodeOf}
+use Rattle.tokens.specs.RuleCode.{unknownNumber, lowBytes, carriedBytes, encodeToken, ruleCode, Coded, size, CodeOf}
 
 -- the bytes of a number, read again
 pub low-number : (k n : ℕ) → n < 256 ^ k → number (lowBytes k n) ≡ n
@@ -31,7 +31,7 @@ low-number (suc k) n h =
     omega arith
 
 -- a token's kind and what it carries are its bytes
-pub size-carried : (D : Declarations) (t : Token) → size t ≡ suc (length (carried D t))
+pub size-carried : (D : Declarations) (t : Token) → size t ≡ suc (length (carriedBytes D t))
 size-carried D (name s n) = refl
 size-carried D (int n) = refl
 size-carried D (str s) = omega arith
@@ -40,10 +40,10 @@ size-carried D (operator o) = refl
 size-carried D (mark m) = refl
 
 -- the code of some tokens, by the first of them
-pub code-cons : (D : Declarations) (t : Token) (ts : List Token) (rest : Bytes) → ruleCode D (t ∷ ts) ++ rest ≡ kindOf t ∷ (carried D t ++ (ruleCode D ts ++ rest))
+pub code-cons : (D : Declarations) (t : Token) (ts : List Token) (rest : Bytes) → ruleCode D (t ∷ ts) ++ rest ≡ kindOf t ∷ (carriedBytes D t ++ (ruleCode D ts ++ rest))
 code-cons D t ts rest =
     ap (λ (l : Bytes). kindOf t ∷ l)
-    (ap (λ (l : Bytes). l ++ rest) (append-assoc (carried D t) (each (encodeToken D) ts) (endCode ∷ [])) ∙ append-assoc (carried D t) (ruleCode D ts) rest)
+    (ap (λ (l : Bytes). l ++ rest) (append-assoc (carriedBytes D t) (each (encodeToken D) ts) (endCode ∷ [])) ∙ append-assoc (carriedBytes D t) (ruleCode D ts) rest)
 
 -- where the tokens end
 pub record Ended (code : Bytes) (at : ℕ) : Type 0 where
@@ -54,7 +54,7 @@ pub record Ended (code : Bytes) (at : ℕ) : Type 0 where
 pub record Front (D : Declarations) (code : Bytes) (at : ℕ) (t : Token) (ts : List Token) : Type 0 where
   pub within : at + size t < length code
   pub kind : getD code at 0 ≡ kindOf t
-  pub carries : take (length (carried D t)) (drop (at + 1) code) ≡ carried D t
+  pub carries : take (length (carriedBytes D t)) (drop (at + 1) code) ≡ carriedBytes D t
   pub next : Coded D code (at + size t) ts
 
 -- what stands from a place on
@@ -77,19 +77,19 @@ coded-end {D} {code} {at} c =
 
 pub coded-front : {D : Declarations} {code : Bytes} {at : ℕ} {t : Token} {ts : List Token} → Coded D code at (t ∷ ts) → Front D code at t ts
 coded-front {D} {code} {at} {t} {ts} c =
-    let l : Bytes = carried D t ++ (ruleCode D ts ++ c .rest) in
+    let l : Bytes = carriedBytes D t ++ (ruleCode D ts ++ c .rest) in
     let e : drop at code ≡ kindOf t ∷ l = c .from ∙ code-cons D t ts (c .rest) in
     let w = place-within code at (kindOf t) l e in
     let b : drop (at + 1) code ≡ l = place-behind code at (kindOf t) l e in
-    let s : at + 1 + length (carried D t) ≡ at + size t = omega (arith, size-carried D t) in
+    let s : at + 1 + length (carriedBytes D t) ≡ at + size t = omega (arith, size-carried D t) in
     record {
-      within = omega (arith, size-carried D t, length-append (carried D t) (ruleCode D ts ++ c .rest), length-append (ruleCode D ts) (c .rest), length-append (each (encodeToken D) ts) (endCode ∷ []));
+      within = omega (arith, size-carried D t, length-append (carriedBytes D t) (ruleCode D ts ++ c .rest), length-append (ruleCode D ts) (c .rest), length-append (each (encodeToken D) ts) (endCode ∷ []));
       kind = place-byte code at (kindOf t) l e;
-      carries = ap (take (length (carried D t))) b ∙ take-at (carried D t) (ruleCode D ts ++ c .rest) (length (carried D t)) refl;
+      carries = ap (take (length (carriedBytes D t))) b ∙ take-at (carriedBytes D t) (ruleCode D ts ++ c .rest) (length (carriedBytes D t)) refl;
       next = record {
         rest = c .rest;
-        from = ap (λ (k : ℕ). drop k code) (sym s) ∙ sym (drop-drop (length (carried D t)) (at + 1) code) ∙ ap (drop (length (carried D t))) b
-            ∙ drop-at (carried D t) (ruleCode D ts ++ c .rest) (length (carried D t)) refl;
+        from = ap (λ (k : ℕ). drop k code) (sym s) ∙ sym (drop-drop (length (carriedBytes D t)) (at + 1) code) ∙ ap (drop (length (carriedBytes D t))) b
+            ∙ drop-at (carriedBytes D t) (ruleCode D ts ++ c .rest) (length (carriedBytes D t)) refl;
       };
     }
 

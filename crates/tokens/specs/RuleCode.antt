@@ -24,16 +24,16 @@ lowBytes zero n = []
 lowBytes (suc k) n = n % 256 ∷ lowBytes k (n / 256)
 
 -- what stands behind the kind of a token: the number of its attribute, an int's four bytes, the length and the bytes of a str
-abbrev pub carried : Declarations → Token → Bytes
-carried D (name s n) = numberOr unknownNumber (attributeNumber D s n) ∷ []
-carried D (int n) = lowBytes 4 n
-carried D (str s) = length s ∷ s
-carried D (truth t) = []
-carried D (operator o) = []
-carried D (mark m) = []
+abbrev pub carriedBytes : Declarations → Token → Bytes
+carriedBytes D (name s n) = numberOr unknownNumber (attributeNumber D s n) ∷ []
+carriedBytes D (int n) = lowBytes 4 n
+carriedBytes D (str s) = length s ∷ s
+carriedBytes D (truth t) = []
+carriedBytes D (operator o) = []
+carriedBytes D (mark m) = []
 
 abbrev pub encodeToken : Declarations → Token → Bytes
-encodeToken D t = kindOf t ∷ carried D t
+encodeToken D t = kindOf t ∷ carriedBytes D t
 
 abbrev pub ruleCode : Declarations → List Token → Bytes
 ruleCode D ts = each (encodeToken D) ts ++ (endCode ∷ [])

@@ -22,8 +22,8 @@ use Rattle.truth.specs.Truths.{truthOf}
 use Rattle.text.specs.declared.Words.{Words}
 use Rattle.text.specs.Values.{words, sameWords, atomWords}
 use Rattle.values.specs.declared.Operand.{Operand}
-use Rattle.values.specs.Operands.{Lent, valuesOf, Stands}
-use Rattle.values.specs.Compared.{amongValues, someFound, greatestOf, leastOf, isBelow, orNext, soughtFrom, amongOf, asked, foundOf, ofPresent}
+use Rattle.values.specs.Operands.{Lent, operandValues, Stands}
+use Rattle.values.specs.Compared.{amongValues, someFound, greatestOf, leastOf, leastBelowGreatest, orNext, soughtFrom, amongOf, asked, foundOf, ofPresent}
 use Rattle.values.specs.Compared.{toldBy, orEqual, orderOf, likeValues, compareValues, loneOf, Compared, Lone}
 use Rattle.values.proofs.Orders.{below-so, not-above-so}
 use Rattle.values.proofs.ComparedAtoms.{all-in, int-small, Typed, among-atoms, common-atoms, subset-atoms, before-atoms, after-atoms}
@@ -293,61 +293,61 @@ no-number n f = go (decLt n 16)
         (f Operator.unequal)) (f Operator.SUBSET)) (f Operator.less)) (f Operator.atMost)) (f Operator.greater)) (f Operator.atLeast))
 
 module _ (L : Lent) (n : ℕ) (left right : Operand) (r : Truth) where
-  compared : truthOf r ≡ compareValues n (left .kind) (right .kind) (valuesOf L left) (valuesOf L right) → Compared L n left right r
+  compared : truthOf r ≡ compareValues n (left .kind) (right .kind) (operandValues L left) (operandValues L right) → Compared L n left right r
   unfolding compareValues
   compared e =
       record {
         by-operator = λ o l m f s t.
-            e ∙ ap (λ (i : ℕ). compareValues i (left .kind) (right .kind) (valuesOf L left) (valuesOf L right)) f
+            e ∙ ap (λ (i : ℕ). compareValues i (left .kind) (right .kind) (operandValues L left) (operandValues L right)) f
             ∙ ap₂ (compareValues (operatorCode o) (left .kind) (right .kind)) (s .coded) (t .coded)
             ∙ compare-atoms o (left .kind) (right .kind) l m (stands-typed L left s) (stands-typed L right t);
         by-none = λ f. e ∙ none f;
       }
     where
-      none : ((o : Operator) → n ≡ operatorCode o → ⊥) → compareValues n (left .kind) (right .kind) (valuesOf L left) (valuesOf L right) ≡ model.UNDEF
+      none : ((o : Operator) → n ≡ operatorCode o → ⊥) → compareValues n (left .kind) (right .kind) (operandValues L left) (operandValues L right) ≡ model.UNDEF
       none f =
-          empty n (left .kind) (right .kind) (valuesOf L left) (valuesOf L right)
-          (ap (ofPresent (valuesOf L left) (valuesOf L right)) (like-none n (left .kind) (valuesOf L left) (valuesOf L right) (no-number n f))
-          ∙ never (valuesOf L left) (valuesOf L right))
+          empty n (left .kind) (right .kind) (operandValues L left) (operandValues L right)
+          (ap (ofPresent (operandValues L left) (operandValues L right)) (like-none n (left .kind) (operandValues L left) (operandValues L right) (no-number n f))
+          ∙ never (operandValues L left) (operandValues L right))
 
 -- the ways of a comparison: what was found out of two operands, and the answer
 module _ (L : Lent) (n : ℕ) (left right : Operand) where
   pub types-differ : (left .kind ≡ right .kind → ⊥) → Compared L n left right Undef
-  types-differ h = compared L n left right Undef (sym (unlike n (left .kind) (right .kind) (valuesOf L left) (valuesOf L right) h))
+  types-differ h = compared L n left right Undef (sym (unlike n (left .kind) (right .kind) (operandValues L left) (operandValues L right) h))
 
   module _ (same : left .kind ≡ right .kind) where
-    like : (r : Truth) → truthOf r ≡ ofPresent (valuesOf L left) (valuesOf L right) (likeValues n (left .kind) (valuesOf L left) (valuesOf L right))
+    like : (r : Truth) → truthOf r ≡ ofPresent (operandValues L left) (operandValues L right) (likeValues n (left .kind) (operandValues L left) (operandValues L right))
         → Compared L n left right r
-    like r e = compared L n left right r (e ∙ sym (alike n (left .kind) (right .kind) (valuesOf L left) (valuesOf L right) same))
+    like r e = compared L n left right r (e ∙ sym (alike n (left .kind) (right .kind) (operandValues L left) (operandValues L right) same))
 
-    module _ (wanted : Bool) (found r : Truth) (e : truthOf found ≡ foundOf wanted (valuesOf L left) (valuesOf L right)) (f : truthOf r ≡ toldBy n (truthOf found)) where
-      by-found : likeValues n (left .kind) (valuesOf L left) (valuesOf L right) ≡ toldBy n (truth (someFound wanted (valuesOf L left) (valuesOf L right)))
+    module _ (wanted : Bool) (found r : Truth) (e : truthOf found ≡ foundOf wanted (operandValues L left) (operandValues L right)) (f : truthOf r ≡ toldBy n (truthOf found)) where
+      by-found : likeValues n (left .kind) (operandValues L left) (operandValues L right) ≡ toldBy n (truth (someFound wanted (operandValues L left) (operandValues L right)))
           → Compared L n left right r
       by-found d =
           like r
-          (f ∙ ap (toldBy n) (e ∙ found-so wanted (valuesOf L left) (valuesOf L right))
-          ∙ told-inside n (valuesOf L left) (valuesOf L right) (truth (someFound wanted (valuesOf L left) (valuesOf L right)))
-          ∙ ap (ofPresent (valuesOf L left) (valuesOf L right)) (sym d))
+          (f ∙ ap (toldBy n) (e ∙ found-so wanted (operandValues L left) (operandValues L right))
+          ∙ told-inside n (operandValues L left) (operandValues L right) (truth (someFound wanted (operandValues L left) (operandValues L right)))
+          ∙ ap (ofPresent (operandValues L left) (operandValues L right)) (sym d))
 
-      for-wanted : {w : Bool} → wanted ≡ w → toldBy n (truth (someFound w (valuesOf L left) (valuesOf L right))) ≡ toldBy n (truth (someFound wanted (valuesOf L left) (valuesOf L right)))
-      for-wanted g = ap (λ (w : Bool). toldBy n (truth (someFound w (valuesOf L left) (valuesOf L right)))) (sym g)
+      for-wanted : {w : Bool} → wanted ≡ w → toldBy n (truth (someFound w (operandValues L left) (operandValues L right))) ≡ toldBy n (truth (someFound wanted (operandValues L left) (operandValues L right)))
+      for-wanted g = ap (λ (w : Bool). toldBy n (truth (someFound w (operandValues L left) (operandValues L right)))) (sym g)
 
       pub by-equality : 16 ≤ n → n < 19 → wanted ≡ true → Compared L n left right r
-      by-equality h m g = by-found (like-equality n (left .kind) (valuesOf L left) (valuesOf L right) h (omega arith) ∙ for-wanted g)
+      by-equality h m g = by-found (like-equality n (left .kind) (operandValues L left) (operandValues L right) h (omega arith) ∙ for-wanted g)
 
       pub by-subset : n ≡ 19 → wanted ≡ false → Compared L n left right r
-      by-subset h g = by-found (like-subset n (left .kind) (valuesOf L left) (valuesOf L right) (omega arith) (omega arith) ∙ for-wanted g)
+      by-subset h g = by-found (like-subset n (left .kind) (operandValues L left) (operandValues L right) (omega arith) (omega arith) ∙ for-wanted g)
 
     pub by-order : 20 ≤ n → n ≤ 23 → (r : Truth)
-        → truthOf r ≡ (if eqb (left .kind) 1 then ofPresent (valuesOf L left) (valuesOf L right) (truth (orderOf n (valuesOf L left) (valuesOf L right))) else model.UNDEF)
+        → truthOf r ≡ (if eqb (left .kind) 1 then ofPresent (operandValues L left) (operandValues L right) (truth (orderOf n (operandValues L left) (operandValues L right))) else model.UNDEF)
         → Compared L n left right r
     by-order h m r e =
         like r
-        (e ∙ test-inside (eqb (left .kind) 1) (valuesOf L left) (valuesOf L right) (truth (orderOf n (valuesOf L left) (valuesOf L right)))
-        ∙ ap (ofPresent (valuesOf L left) (valuesOf L right)) (sym (like-order n (left .kind) (valuesOf L left) (valuesOf L right) h m)))
+        (e ∙ test-inside (eqb (left .kind) 1) (operandValues L left) (operandValues L right) (truth (orderOf n (operandValues L left) (operandValues L right)))
+        ∙ ap (ofPresent (operandValues L left) (operandValues L right)) (sym (like-order n (left .kind) (operandValues L left) (operandValues L right) h m)))
 
     pub by-nothing : (n < 16) ⊎ (23 < n) → Compared L n left right Undef
-    by-nothing h = like Undef (sym (ap (ofPresent (valuesOf L left) (valuesOf L right)) (like-none n (left .kind) (valuesOf L left) (valuesOf L right) h) ∙ never (valuesOf L left) (valuesOf L right)))
+    by-nothing h = like Undef (sym (ap (ofPresent (operandValues L left) (operandValues L right)) (like-none n (left .kind) (operandValues L left) (operandValues L right) h) ∙ never (operandValues L left) (operandValues L right)))
 
 -- a lone attribute
 lone-atoms : (k : ℕ) (l : List Atom) → Typed k l → loneOf k (map atomWords l) ≡ loneValue l
@@ -360,7 +360,7 @@ lone-atoms k (bool b ∷ l) t =
     rw e (ap truth (among-atoms 3 (bool true) (bool b ∷ l) refl refl (subst (λ (n : ℕ). Typed n (bool b ∷ l)) e t)))
 
 module _ (L : Lent) (o : Operand) (r : Truth) where
-  alone : truthOf r ≡ loneOf (o .kind) (valuesOf L o) → Lone L o r
+  alone : truthOf r ≡ loneOf (o .kind) (operandValues L o) → Lone L o r
   alone e = record { lone-value = λ l s. e ∙ ap (loneOf (o .kind)) (s .coded) ∙ lone-atoms (o .kind) l (stands-typed L o s) }
 
 -- the ways through a lone attribute's tests
@@ -369,39 +369,39 @@ module _ (L : Lent) (o : Operand) where
   unfolding loneOf
   not-bool h = alone L o Undef (sym (rw (ne-eqb (o .kind) 3 h)))
 
-  pub some-alone : o .kind ≡ 3 → (w : Words) → w ≡ words 1 0 0 → (r : Truth) → truthOf r ≡ amongOf (valuesOf L o) w → Lone L o r
+  pub some-alone : o .kind ≡ 3 → (w : Words) → w ≡ words 1 0 0 → (r : Truth) → truthOf r ≡ amongOf (operandValues L o) w → Lone L o r
   unfolding loneOf
   some-alone e w ew r er =
-      alone L o r (er ∙ ap (amongOf (valuesOf L o)) ew ∙ among-so (valuesOf L o) (words 1 0 0) ∙ sym (rw (eq-eqb (o .kind) 3 e)))
+      alone L o r (er ∙ ap (amongOf (operandValues L o)) ew ∙ among-so (operandValues L o) (words 1 0 0) ∙ sym (rw (eq-eqb (o .kind) 3 e)))
 
 -- an order: of the least and the greatest
 module _ (equal : Bool) (low high : List Words) where
-  pub at-most : equal ≡ true → leb (leastOf low) (greatestOf high) ≡ isBelow equal low high
-  unfolding isBelow
+  pub at-most : equal ≡ true → leb (leastOf low) (greatestOf high) ≡ leastBelowGreatest equal low high
+  unfolding leastBelowGreatest
   at-most e = sym (rw e)
 
-  pub strictly : equal ≡ false → ltb (leastOf low) (greatestOf high) ≡ isBelow equal low high
-  unfolding isBelow
+  pub strictly : equal ≡ false → ltb (leastOf low) (greatestOf high) ≡ leastBelowGreatest equal low high
+  unfolding leastBelowGreatest
   strictly e = sym (rw e)
 
 -- an order: of its two sides
 module _ (L : Lent) (n : ℕ) (left right : Operand) (low high : Operand) (el : low ≡ (if leb n 21 then left else right)) (eh : high ≡ (if leb n 21 then right else left)) where
-  sides : ofPresent (valuesOf L low) (valuesOf L high) (truth (isBelow (orEqual n) (valuesOf L low) (valuesOf L high)))
-      ≡ ofPresent (valuesOf L left) (valuesOf L right) (truth (orderOf n (valuesOf L left) (valuesOf L right)))
+  sides : ofPresent (operandValues L low) (operandValues L high) (truth (leastBelowGreatest (orEqual n) (operandValues L low) (operandValues L high)))
+      ≡ ofPresent (operandValues L left) (operandValues L right) (truth (orderOf n (operandValues L left) (operandValues L right)))
   unfolding orderOf ofPresent
   sides = ap₂ said el eh ∙ go (leb n 21)
     where
       said : Operand → Operand → model.Truth
-      said a b = ofPresent (valuesOf L a) (valuesOf L b) (truth (isBelow (orEqual n) (valuesOf L a) (valuesOf L b)))
+      said a b = ofPresent (operandValues L a) (operandValues L b) (truth (leastBelowGreatest (orEqual n) (operandValues L a) (operandValues L b)))
 
       go : (t : Bool) → said (if t then left else right) (if t then right else left)
-          ≡ ofPresent (valuesOf L left) (valuesOf L right) (truth (if t then isBelow (orEqual n) (valuesOf L left) (valuesOf L right) else isBelow (orEqual n) (valuesOf L right) (valuesOf L left)))
+          ≡ ofPresent (operandValues L left) (operandValues L right) (truth (if t then leastBelowGreatest (orEqual n) (operandValues L left) (operandValues L right) else leastBelowGreatest (orEqual n) (operandValues L right) (operandValues L left)))
       go true = refl
-      go false = turned (valuesOf L left) (valuesOf L right) (truth (isBelow (orEqual n) (valuesOf L right) (valuesOf L left)))
+      go false = turned (operandValues L left) (operandValues L right) (truth (leastBelowGreatest (orEqual n) (operandValues L right) (operandValues L left)))
 
   pub by-sides : left .kind ≡ 1 → (equal : Bool) → equal ≡ orEqual n → (r : Truth)
-      → truthOf r ≡ ofPresent (valuesOf L low) (valuesOf L high) (truth (isBelow equal (valuesOf L low) (valuesOf L high)))
-      → truthOf r ≡ (if eqb (left .kind) 1 then ofPresent (valuesOf L left) (valuesOf L right) (truth (orderOf n (valuesOf L left) (valuesOf L right))) else model.UNDEF)
+      → truthOf r ≡ ofPresent (operandValues L low) (operandValues L high) (truth (leastBelowGreatest equal (operandValues L low) (operandValues L high)))
+      → truthOf r ≡ (if eqb (left .kind) 1 then ofPresent (operandValues L left) (operandValues L right) (truth (orderOf n (operandValues L left) (operandValues L right))) else model.UNDEF)
   by-sides e equal f r g =
-      g ∙ ap (λ (b : Bool). ofPresent (valuesOf L low) (valuesOf L high) (truth (isBelow b (valuesOf L low) (valuesOf L high)))) f ∙ sides
+      g ∙ ap (λ (b : Bool). ofPresent (operandValues L low) (operandValues L high) (truth (leastBelowGreatest b (operandValues L low) (operandValues L high)))) f ∙ sides
       ∙ sym (rw (eq-eqb (left .kind) 1 e))

@@ -12,7 +12,7 @@ use Rattle.model.specs.Notation.{any, if_then_else_}
 use Rattle.model.specs.Limits.{largestInt}
 use Rattle.model.proofs.Lists.{_∈_, any-in, in-any, same-truth}
 use Rattle.text.specs.declared.Words.{Words}
-use Rattle.values.specs.Compared.{further, extremeFrom, greatestOf, leastOf, isBelow}
+use Rattle.values.specs.Compared.{further, extremeFrom, greatestOf, leastOf, leastBelowGreatest}
 
 -- one step: the greatest or the least of what was seen and one value more
 further-cases : (greatest : Bool) (a b : ℕ) → (further greatest a b ≡ a) ⊎ (further greatest a b ≡ b)
@@ -124,13 +124,13 @@ module _ (before : ℕ → ℕ → Bool) (wider : (a b x y : ℕ) → x ≤ a �
 
 -- the two orders
 pub below-so : (v : Words) (low : List Words) (w : Words) (high : List Words) → v .first ≤ largestInt
-    → isBelow false (v ∷ low) (w ∷ high) ≡ someBefore (λ a b. ltb a b) (v ∷ low) (w ∷ high)
-unfolding isBelow
+    → leastBelowGreatest false (v ∷ low) (w ∷ high) ≡ someBefore (λ a b. ltb a b) (v ∷ low) (w ∷ high)
+unfolding leastBelowGreatest
 below-so v low w high s =
     ordered-ends (λ a b. ltb a b) (λ a b x y p q e. let h = ltb-true a b e in lt-ltb x y (omega arith)) v low w high s
 
 pub not-above-so : (v : Words) (low : List Words) (w : Words) (high : List Words) → v .first ≤ largestInt
-    → isBelow true (v ∷ low) (w ∷ high) ≡ someBefore (λ a b. leb a b) (v ∷ low) (w ∷ high)
-unfolding isBelow
+    → leastBelowGreatest true (v ∷ low) (w ∷ high) ≡ someBefore (λ a b. leb a b) (v ∷ low) (w ∷ high)
+unfolding leastBelowGreatest
 not-above-so v low w high s =
     ordered-ends (λ a b. leb a b) (λ a b x y p q e. let h = leb-true a b e in le-leb x y (omega arith)) v low w high s

@@ -48,8 +48,8 @@ abbrev pub leastOf : List Words → ℕ
 leastOf values = extremeFrom false (worst false) values
 
 -- the least of some values is below the greatest of others, or with `equal` not above it
-unfoldable pub isBelow : Bool → List Words → List Words → Bool
-isBelow equal low high = if equal then leb (leastOf low) (greatestOf high) else ltb (leastOf low) (greatestOf high)
+unfoldable pub leastBelowGreatest : Bool → List Words → List Words → Bool
+leastBelowGreatest equal low high = if equal then leb (leastOf low) (greatestOf high) else ltb (leastOf low) (greatestOf high)
 
 -- ---- searches: UNDEF where there is no value
 
@@ -99,7 +99,7 @@ abbrev pub orEqual : ℕ → Bool
 orEqual n = eqb n 21 || eqb n 23
 
 unfoldable pub orderOf : ℕ → List Words → List Words → Bool
-orderOf n left right = if leb n 21 then isBelow (orEqual n) left right else isBelow (orEqual n) right left
+orderOf n left right = if leb n 21 then leastBelowGreatest (orEqual n) left right else leastBelowGreatest (orEqual n) right left
 
 -- the operator of a number, on present values of one type: `=`, IN and `!=` ask for a common value, SUBSET for a left value that is not among the
 -- right; UNDEF where the number is no operator's

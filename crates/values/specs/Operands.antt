@@ -104,8 +104,8 @@ valuesFrom L o i =
 unfoldable pub firstOf : Operand → ℕ
 firstOf o = if leb (o .place) 1 then 0 else o .start
 
-abbrev pub valuesOf : Lent → Operand → List Words
-valuesOf L o = valuesFrom L o (firstOf o)
+abbrev pub operandValues : Lent → Operand → List Words
+operandValues L o = valuesFrom L o (firstOf o)
 
 -- r is the first of the values from i on, with the position behind it
 pub record Finds (from : ℕ → List Words) (i : ℕ) (r : Found) : Type 0 where
@@ -114,7 +114,7 @@ pub record Finds (from : ℕ → List Words) (i : ℕ) (r : Found) : Type 0 wher
 
 -- an operand stands for these atoms
 pub record Stands (L : Lent) (o : Operand) (atoms : List Atom) : Type 0 where
-  pub coded : valuesOf L o ≡ map atomWords atoms
+  pub coded : operandValues L o ≡ map atomWords atoms
   pub typed : all (λ a. eqb (typeCode (typeOf a)) (o .kind)) atoms ≡ true
   pub written : all isAtom atoms ≡ true
 

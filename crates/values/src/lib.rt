@@ -11,8 +11,8 @@ ghost use Rattle.model.specs.Truth.{truth, UNDEF};
 ghost use Rattle.truth.specs.Truths.{truthOf};
 ghost use Rattle.text.specs.Values.{words, sameWords};
 ghost use Rattle.values.specs.Operands.{lent, First, wordsFrom, entryWords, entriesFrom, intAt, strAt, constantsFrom, valuesFrom, firstOf};
-ghost use Rattle.values.specs.Operands.{valuesOf, Finds, nothing, operand, noValues, rowType, attributeOperand};
-ghost use Rattle.values.specs.Compared.{further, worst, extremeFrom, isBelow, isFalse, atEnd, amongOf, asked, foundOf, ofPresent};
+ghost use Rattle.values.specs.Operands.{operandValues, Finds, nothing, operand, noValues, rowType, attributeOperand};
+ghost use Rattle.values.specs.Compared.{further, worst, extremeFrom, leastBelowGreatest, isFalse, atEnd, amongOf, asked, foundOf, ofPresent};
 ghost use Rattle.values.specs.Compared.{toldBy, orEqual, orderOf, Compared, Lone};
 use codes::AT_LEAST;
 use codes::AT_MOST;
@@ -290,7 +290,7 @@ fn among(
     operand: Operand,
 ) -> Truth
     requires { ⌜ length (now pairs) ≡ 1024 ⌝ }
-    ensures { λ r. ⌜ truthOf r ≡ amongOf (valuesOf (lent (now (code .entry)) (now (pairs .entry)) (now (session .entry)) (now (entries .entry))) operand) wanted ⌝ }
+    ensures { λ r. ⌜ truthOf r ≡ amongOf (operandValues (lent (now (code .entry)) (now (pairs .entry)) (now (session .entry)) (now (entries .entry))) operand) wanted ⌝ }
 {
     let mut some = false;
     let mut i = first(operand);
@@ -338,7 +338,7 @@ fn some_found(
     wanted: bool,
 ) -> Truth
     requires { ⌜ length (now pairs) ≡ 1024 ⌝ }
-    ensures { λ r. ⌜ truthOf r ≡ foundOf wanted (valuesOf (lent (now (code .entry)) (now (pairs .entry)) (now (session .entry)) (now (entries .entry))) left) (valuesOf (lent (now (code .entry)) (now (pairs .entry)) (now (session .entry)) (now (entries .entry))) right) ⌝ }
+    ensures { λ r. ⌜ truthOf r ≡ foundOf wanted (operandValues (lent (now (code .entry)) (now (pairs .entry)) (now (session .entry)) (now (entries .entry))) left) (operandValues (lent (now (code .entry)) (now (pairs .entry)) (now (session .entry)) (now (entries .entry))) right) ⌝ }
 {
     let mut some = false;
     let mut i = first(left);
@@ -389,7 +389,7 @@ fn extreme(
     greatest: bool,
 ) -> Bound
     requires { ⌜ length (now pairs) ≡ 1024 ⌝ }
-    ensures { λ r. ⌜ (r .here ≡ not (isEmpty (valuesOf (lent (now (code .entry)) (now (pairs .entry)) (now (session .entry)) (now (entries .entry))) operand))) × (r .number ≡ extremeFrom greatest (worst greatest) (valuesOf (lent (now (code .entry)) (now (pairs .entry)) (now (session .entry)) (now (entries .entry))) operand)) ⌝ }
+    ensures { λ r. ⌜ (r .here ≡ not (isEmpty (operandValues (lent (now (code .entry)) (now (pairs .entry)) (now (session .entry)) (now (entries .entry))) operand))) × (r .number ≡ extremeFrom greatest (worst greatest) (operandValues (lent (now (code .entry)) (now (pairs .entry)) (now (session .entry)) (now (entries .entry))) operand)) ⌝ }
 {
     let mut some = false;
     let mut best = start_of(greatest);
@@ -420,7 +420,7 @@ fn below(
     equal: bool,
 ) -> Truth
     requires { ⌜ length (now pairs) ≡ 1024 ⌝ }
-    ensures { λ r. ⌜ truthOf r ≡ ofPresent (valuesOf (lent (now (code .entry)) (now (pairs .entry)) (now (session .entry)) (now (entries .entry))) low) (valuesOf (lent (now (code .entry)) (now (pairs .entry)) (now (session .entry)) (now (entries .entry))) high) (truth (isBelow equal (valuesOf (lent (now (code .entry)) (now (pairs .entry)) (now (session .entry)) (now (entries .entry))) low) (valuesOf (lent (now (code .entry)) (now (pairs .entry)) (now (session .entry)) (now (entries .entry))) high))) ⌝ }
+    ensures { λ r. ⌜ truthOf r ≡ ofPresent (operandValues (lent (now (code .entry)) (now (pairs .entry)) (now (session .entry)) (now (entries .entry))) low) (operandValues (lent (now (code .entry)) (now (pairs .entry)) (now (session .entry)) (now (entries .entry))) high) (truth (leastBelowGreatest equal (operandValues (lent (now (code .entry)) (now (pairs .entry)) (now (session .entry)) (now (entries .entry))) low) (operandValues (lent (now (code .entry)) (now (pairs .entry)) (now (session .entry)) (now (entries .entry))) high))) ⌝ }
 {
     let least = extreme(code, pairs, session, entries, low, false);
     if !least.here {
@@ -463,7 +463,7 @@ fn order(
     right: Operand,
 ) -> Truth
     requires { ⌜ length (now pairs) ≡ 1024 ⌝ }
-    ensures { λ r. ⌜ truthOf r ≡ (if eqb (left .kind) 1 then ofPresent (valuesOf (lent (now (code .entry)) (now (pairs .entry)) (now (session .entry)) (now (entries .entry))) left) (valuesOf (lent (now (code .entry)) (now (pairs .entry)) (now (session .entry)) (now (entries .entry))) right) (truth (orderOf operator (valuesOf (lent (now (code .entry)) (now (pairs .entry)) (now (session .entry)) (now (entries .entry))) left) (valuesOf (lent (now (code .entry)) (now (pairs .entry)) (now (session .entry)) (now (entries .entry))) right))) else UNDEF) ⌝ }
+    ensures { λ r. ⌜ truthOf r ≡ (if eqb (left .kind) 1 then ofPresent (operandValues (lent (now (code .entry)) (now (pairs .entry)) (now (session .entry)) (now (entries .entry))) left) (operandValues (lent (now (code .entry)) (now (pairs .entry)) (now (session .entry)) (now (entries .entry))) right) (truth (orderOf operator (operandValues (lent (now (code .entry)) (now (pairs .entry)) (now (session .entry)) (now (entries .entry))) left) (operandValues (lent (now (code .entry)) (now (pairs .entry)) (now (session .entry)) (now (entries .entry))) right))) else UNDEF) ⌝ }
 {
     if left.kind != INT {
         return Truth::Undef;

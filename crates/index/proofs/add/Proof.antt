@@ -2,7 +2,7 @@
 use mathlib.Core.Path.{_≡_, ap, _∙_}
 use native.Mathlib.Omega.{arith}
 use lib.ListN.{length, length-set}
-use Rattle.index.specs.Index.{rowsIn, added}
+use Rattle.index.specs.Index.{rowsIn, rowAdded}
 use Rattle.index.proofs.Adding.{adds, added-length, new-row}
 use borrow.Author.Needs.{needs}
 use Rattle.index.proofs.add.Statement.{statement}
@@ -58,7 +58,7 @@ wrote : (c : tie.After-slice-known3) →
     let start = c .before .before .before .before .before .before .before .before in
     let s = start .args .section .now in
     c .before .before .put-row .last .0
-    ≡ added s (rowsIn (length s)) (start .args .number) (start .args .a, start .args .b, start .args .c, start .args .d)
+    ≡ rowAdded s (rowsIn (length s)) (start .args .number) (start .args .a, start .args .b, start .args .c, start .args .d)
 wrote c =
     adds _ _ _ _ _ (c .before .before .before .before .before .hash .ensures .0) (c .before .before .before .before .before .before .rows-in .ensures)
     (c .before .before .put-row .ensures)

@@ -14,7 +14,7 @@ use Rattle.bits.specs.Bits.{bit, countBelow}
 use Rattle.bits.proofs.Bits.{bit-none}
 use Rattle.bits.proofs.Walks.{fewer-left}
 use Rattle.model.proofs.Options.{parts}
-use Rattle.ties.specs.TieArrays.{inUse, tied}
+use Rattle.ties.specs.TieArrays.{inUse, tiedUp}
 use Rattle.sets.specs.Settled.{Settled, Deep, Spared}
 use Rattle.sets.proofs.Laws.{settled-none, settled-less, spared-none, spared-more, spared-own, group-new, not-open, not-high, deep-step, turn, settled-own}
 use Rattle.sets.proofs.settle.Reads as settle
@@ -70,8 +70,8 @@ settle-Inv-loop table₀ marks₀ own ups slots group path done height k mask be
 abbrev settle-μ-loop : settle-lts.MeasureT-loop
 settle-μ-loop table₀ marks₀ own ups slots group path done height k mask below seen₀ left₀ table marks seen left = countBelow 64 (bit left)
 
-tied-by : (ups : List ℕ) (k q mask : ℕ) → mask ≡ getD ups k 0 → bit mask q ≡ true → tied ups k q ≡ true
-unfolding tied
+tied-by : (ups : List ℕ) (k q mask : ℕ) → mask ≡ getD ups k 0 → bit mask q ≡ true → tiedUp ups k q ≡ true
+unfolding tiedUp
 tied-by ups k q mask e on = ap (λ (m : ℕ). bit m q) (sym e) ∙ on
 
 settle-has-requires : (t : ℕ) → settle-lts.Need-has-requires (claims t) (settle-at t) settle.Post settle-Inv-loop settle-μ-loop
@@ -172,7 +172,7 @@ settle-loop-again t c =
     let live : inUse (length ups) slots group ≡ true = sym (c .before .before .before .before .before .before .before .before .before .before .before .before .before .before .before .in-use .ensures) ∙ not-false (c .before .before .before .before .before .before .before .before .before .before .before .before .before .before .before .in-use .result) (c .before .before .before .before .before .before .before .before .before .before .before .before .before .before .if4 .left) in
     let below = c .before .before .before .before .before .before .before .before .before .before .before .with in
     let rest = c .without .ensures in
-    let on : tied ups (getD slots group 0) q ≡ true = tied-by ups (getD slots group 0) q (c .before .before .before .before .before .before .before .before .before .before .before .before .ties-up .result) mask (inv .2 q (held .1)) in
+    let on : tiedUp ups (getD slots group 0) q ≡ true = tied-by ups (getD slots group 0) q (c .before .before .before .before .before .before .before .before .before .before .before .before .ties-up .result) mask (inv .2 q (held .1)) in
     let called = c .before .before .before .before .before .settle in (
       called .kept .0 ∙ inv .0,
       called .kept .1 .0 ∙ inv .1,

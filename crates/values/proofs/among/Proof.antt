@@ -9,14 +9,14 @@ use Rattle.model.specs.Truth as model
 use Rattle.model.specs.Truth.{truth}
 use Rattle.text.specs.declared.Words.{Words}
 use Rattle.text.specs.Values.{sameWords}
-use Rattle.values.specs.Operands.{lent, valuesFrom, valuesOf}
+use Rattle.values.specs.Operands.{lent, valuesFrom, operandValues}
 use Rattle.values.specs.Compared.{isFalse, soughtFrom, amongOf}
 use Rattle.values.proofs.ValueWalks.{fewer, sought-none, sought-here, sought-on}
 use Rattle.values.proofs.among.Statement.{statement}
 use Rattle.values.proofs.among.Tie as tie
 
 abbrev Inv-loop : tie.InvT-loop
-Inv-loop code pairs session entries wanted operand some₀ i₀ some i = soughtFrom (λ (v : Words). truth (sameWords wanted v)) some (valuesFrom (lent code pairs session entries) operand i) ≡ amongOf (valuesOf (lent code pairs session entries) operand) wanted
+Inv-loop code pairs session entries wanted operand some₀ i₀ some i = soughtFrom (λ (v : Words). truth (sameWords wanted v)) some (valuesFrom (lent code pairs session entries) operand i) ≡ amongOf (operandValues (lent code pairs session entries) operand) wanted
 
 abbrev μ-loop : tie.MeasureT-loop
 μ-loop code pairs session entries wanted operand some₀ i₀ some i = length (valuesFrom (lent code pairs session entries) operand i)

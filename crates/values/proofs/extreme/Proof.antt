@@ -6,14 +6,14 @@ use mathlib.Core.Bool.{not, _||_}
 use borrow.Author.Needs.{needs}
 use lib.ListN.{length}
 use Rattle.model.specs.Notation.{isEmpty}
-use Rattle.values.specs.Operands.{lent, valuesFrom, valuesOf}
+use Rattle.values.specs.Operands.{lent, valuesFrom, operandValues}
 use Rattle.values.specs.Compared.{extremeFrom, worst}
 use Rattle.values.proofs.ValueWalks.{fewer, some-none, some-more, best-none, best-on}
 use Rattle.values.proofs.extreme.Statement.{statement}
 use Rattle.values.proofs.extreme.Tie as tie
 
 abbrev Inv-loop : tie.InvT-loop
-Inv-loop code pairs session entries operand greatest some₀ best₀ i₀ some best i = ((some || not (isEmpty (valuesFrom (lent code pairs session entries) operand i))) ≡ not (isEmpty (valuesOf (lent code pairs session entries) operand))) × (extremeFrom greatest best (valuesFrom (lent code pairs session entries) operand i) ≡ extremeFrom greatest (worst greatest) (valuesOf (lent code pairs session entries) operand))
+Inv-loop code pairs session entries operand greatest some₀ best₀ i₀ some best i = ((some || not (isEmpty (valuesFrom (lent code pairs session entries) operand i))) ≡ not (isEmpty (operandValues (lent code pairs session entries) operand))) × (extremeFrom greatest best (valuesFrom (lent code pairs session entries) operand i) ≡ extremeFrom greatest (worst greatest) (operandValues (lent code pairs session entries) operand))
 
 abbrev μ-loop : tie.MeasureT-loop
 μ-loop code pairs session entries operand greatest some₀ best₀ i₀ some best i = length (valuesFrom (lent code pairs session entries) operand i)

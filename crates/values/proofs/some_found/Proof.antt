@@ -6,14 +6,14 @@ use mathlib.Core.Bool.{false}
 use borrow.Author.Needs.{needs}
 use lib.ListN.{length}
 use Rattle.text.specs.declared.Words.{Words}
-use Rattle.values.specs.Operands.{lent, valuesFrom, valuesOf}
+use Rattle.values.specs.Operands.{lent, valuesFrom, operandValues}
 use Rattle.values.specs.Compared.{isFalse, asked, soughtFrom, amongOf, foundOf}
 use Rattle.values.proofs.ValueWalks.{fewer, sought-none, sought-here, sought-on}
 use Rattle.values.proofs.some_found.Statement.{statement}
 use Rattle.values.proofs.some_found.Tie as tie
 
 abbrev Inv-loop : tie.InvT-loop
-Inv-loop code pairs session entries left right wanted some₀ i₀ some i = soughtFrom (λ (w : Words). asked wanted (amongOf (valuesOf (lent code pairs session entries) right) w)) some (valuesFrom (lent code pairs session entries) left i) ≡ foundOf wanted (valuesOf (lent code pairs session entries) left) (valuesOf (lent code pairs session entries) right)
+Inv-loop code pairs session entries left right wanted some₀ i₀ some i = soughtFrom (λ (w : Words). asked wanted (amongOf (operandValues (lent code pairs session entries) right) w)) some (valuesFrom (lent code pairs session entries) left i) ≡ foundOf wanted (operandValues (lent code pairs session entries) left) (operandValues (lent code pairs session entries) right)
 
 abbrev μ-loop : tie.MeasureT-loop
 μ-loop code pairs session entries left right wanted some₀ i₀ some i = length (valuesFrom (lent code pairs session entries) left i)
@@ -25,7 +25,7 @@ loop-holds : tie.Need-loop-holds Inv-loop μ-loop
 unfolding foundOf
 loop-holds c =
     let a = c .before .before .before .before .args in
-    ap (λ (i : ℕ). soughtFrom (λ (w : Words). asked (a .wanted) (amongOf (valuesOf (lent (a .code .now) (a .pairs .now) (a .session .now) (a .entries .now)) (a .right)) w)) false ((valuesFrom (lent (a .code .now) (a .pairs .now) (a .session .now) (a .entries .now)) (a .left)) i)) (c .first .ensures)
+    ap (λ (i : ℕ). soughtFrom (λ (w : Words). asked (a .wanted) (amongOf (operandValues (lent (a .code .now) (a .pairs .now) (a .session .now) (a .entries .now)) (a .right)) w)) false ((valuesFrom (lent (a .code .now) (a .pairs .now) (a .session .now) (a .entries .now)) (a .left)) i)) (c .first .ensures)
 
 value-from-requires : tie.Need-value-from-requires Inv-loop μ-loop
 value-from-requires c κs = search needs
@@ -36,7 +36,7 @@ at-end-requires c κs = search needs
 returns : tie.Need-returns Inv-loop μ-loop
 returns c =
     let a = c .before .before .before .before .before .before .before .before .before .args in
-    c .at-end .ensures ∙ sym (sought-none (valuesFrom (lent (a .code .now) (a .pairs .now) (a .session .now) (a .entries .now)) (a .left)) (c .before .before .before .before .loop .i) (c .before .before .before .value-from .result) (c .before .before .before .value-from .ensures) (λ (w : Words). asked (a .wanted) (amongOf (valuesOf (lent (a .code .now) (a .pairs .now) (a .session .now) (a .entries .now)) (a .right)) w)) (c .before .before .before .before .loop .some) (not-true _ (c .before .if1 .taken))) ∙ c .before .before .before .before .loop .inv
+    c .at-end .ensures ∙ sym (sought-none (valuesFrom (lent (a .code .now) (a .pairs .now) (a .session .now) (a .entries .now)) (a .left)) (c .before .before .before .before .loop .i) (c .before .before .before .value-from .result) (c .before .before .before .value-from .ensures) (λ (w : Words). asked (a .wanted) (amongOf (operandValues (lent (a .code .now) (a .pairs .now) (a .session .now) (a .entries .now)) (a .right)) w)) (c .before .before .before .before .loop .some) (not-true _ (c .before .if1 .taken))) ∙ c .before .before .before .before .loop .inv
 
 among-requires : tie.Need-among-requires Inv-loop μ-loop
 among-requires c κs = search needs
@@ -50,7 +50,7 @@ is-false-requires c κs = search needs
 returns-2 : tie.Need-returns-2 Inv-loop μ-loop
 returns-2 c =
     let a = c .before .before .before .before .before .before .before .before .before .before .before .before .before .args in
-    (c .before .before .asked .ensures ∙ ap (asked (a .wanted)) (c .before .before .before .among .ensures)) ∙ sym (sought-here (valuesFrom (lent (a .code .now) (a .pairs .now) (a .session .now) (a .entries .now)) (a .left)) (c .before .before .before .before .before .before .before .before .loop .i) (c .before .before .before .before .before .before .before .value-from .result) (c .before .before .before .before .before .before .before .value-from .ensures) (λ (w : Words). asked (a .wanted) (amongOf (valuesOf (lent (a .code .now) (a .pairs .now) (a .session .now) (a .entries .now)) (a .right)) w)) (c .before .before .before .before .before .before .before .before .loop .some) (not-false _ (c .before .before .before .before .before .if1 .left)) (ap isFalse (sym (c .before .before .asked .ensures ∙ ap (asked (a .wanted)) (c .before .before .before .among .ensures))) ∙ sym (c .before .is-false .ensures) ∙ not-true _ (c .if2 .taken))) ∙ c .before .before .before .before .before .before .before .before .loop .inv
+    (c .before .before .asked .ensures ∙ ap (asked (a .wanted)) (c .before .before .before .among .ensures)) ∙ sym (sought-here (valuesFrom (lent (a .code .now) (a .pairs .now) (a .session .now) (a .entries .now)) (a .left)) (c .before .before .before .before .before .before .before .before .loop .i) (c .before .before .before .before .before .before .before .value-from .result) (c .before .before .before .before .before .before .before .value-from .ensures) (λ (w : Words). asked (a .wanted) (amongOf (operandValues (lent (a .code .now) (a .pairs .now) (a .session .now) (a .entries .now)) (a .right)) w)) (c .before .before .before .before .before .before .before .before .loop .some) (not-false _ (c .before .before .before .before .before .if1 .left)) (ap isFalse (sym (c .before .before .asked .ensures ∙ ap (asked (a .wanted)) (c .before .before .before .among .ensures))) ∙ sym (c .before .is-false .ensures) ∙ not-true _ (c .if2 .taken))) ∙ c .before .before .before .before .before .before .before .before .loop .inv
 
 loop-less : tie.Need-loop-less Inv-loop μ-loop
 loop-less c =
@@ -60,7 +60,7 @@ loop-less c =
 loop-again : tie.Need-loop-again Inv-loop μ-loop
 loop-again c =
     let a = c .before .before .before .before .before .before .before .before .before .before .before .before .before .args in
-    sym (sought-on (valuesFrom (lent (a .code .now) (a .pairs .now) (a .session .now) (a .entries .now)) (a .left)) (c .before .before .before .before .before .before .before .before .loop .i) (c .before .before .before .before .before .before .before .value-from .result) (c .before .before .before .before .before .before .before .value-from .ensures) (λ (w : Words). asked (a .wanted) (amongOf (valuesOf (lent (a .code .now) (a .pairs .now) (a .session .now) (a .entries .now)) (a .right)) w)) (c .before .before .before .before .before .before .before .before .loop .some) (not-false _ (c .before .before .before .before .before .if1 .left)) (ap isFalse (sym (c .before .before .asked .ensures ∙ ap (asked (a .wanted)) (c .before .before .before .among .ensures))) ∙ sym (c .before .is-false .ensures) ∙ not-false _ (c .if2 .left))) ∙ c .before .before .before .before .before .before .before .before .loop .inv
+    sym (sought-on (valuesFrom (lent (a .code .now) (a .pairs .now) (a .session .now) (a .entries .now)) (a .left)) (c .before .before .before .before .before .before .before .before .loop .i) (c .before .before .before .before .before .before .before .value-from .result) (c .before .before .before .before .before .before .before .value-from .ensures) (λ (w : Words). asked (a .wanted) (amongOf (operandValues (lent (a .code .now) (a .pairs .now) (a .session .now) (a .entries .now)) (a .right)) w)) (c .before .before .before .before .before .before .before .before .loop .some) (not-false _ (c .before .before .before .before .before .if1 .left)) (ap isFalse (sym (c .before .before .asked .ensures ∙ ap (asked (a .wanted)) (c .before .before .before .among .ensures))) ∙ sym (c .before .is-false .ensures) ∙ not-false _ (c .if2 .left))) ∙ c .before .before .before .before .before .before .before .before .loop .inv
 
 pub some-found-spec : {M : Type 1} → statement M
 some-found-spec =

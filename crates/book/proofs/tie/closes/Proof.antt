@@ -7,7 +7,7 @@ use Rattle.model.specs.Refusals.{tieCloses}
 use Rattle.model.proofs.Standing.{holders-fit, length-room}
 use Rattle.ties.specs.TieArrays.{ClosesCircle}
 use Rattle.book.specs.Sections as section
-use Rattle.book.specs.Sections.{part}
+use Rattle.book.specs.Sections.{sectionWords}
 use Rattle.book.proofs.TieSections.{part-size}
 use Rattle.book.proofs.TieEditing.{parent-tie, no-circle}
 use borrow.Author.Needs.{needs}
@@ -46,8 +46,8 @@ returns-2 c S code standing held =
     let start = c .before .before .before .before .before .before in
     let t = start .args .t in
     let size = part-size section.ups (start .args .book .now) (start .pre) (omega arith) in
-    c .closes-circle .ensures (S .declared) (S .ties) (part section.own (start .args .book .now)) standing (held .ties)
-    (length-room (S .declared) (length (part section.ups (start .args .book .now))) (omega (arith, size, holders-fit standing)))
+    c .closes-circle .ensures (S .declared) (S .ties) (sectionWords section.own (start .args .book .now)) standing (held .ties)
+    (length-room (S .declared) (length (sectionWords section.ups (start .args .book .now))) (omega (arith, size, holders-fit standing)))
     ∙ ap (tieCloses (holderNumbersOf (S .declared)) (S .ties)) (sym (parent-tie (t .kind) (t .lower) (t .upper) (c .before .before .before .if1 .left)))
 
 pub closes-spec : {M : Type 1} → statement M

@@ -7,7 +7,7 @@ use native.Mathlib.Omega.{arith}
 use Rattle.model.specs.Limits.{groupLimit, holderNumbers}
 use Rattle.ties.specs.TieArrays.{inUse}
 use Rattle.book.specs.Sections as section
-use Rattle.book.specs.Sections.{part}
+use Rattle.book.specs.Sections.{sectionWords}
 use Rattle.book.proofs.TieFitting.{sorted-few, seat-slot}
 use Rattle.book.proofs.TieEditing.{word-at}
 use borrow.Author.Needs.{needs}
@@ -36,7 +36,7 @@ returns-2 c S code standing held s e i =
     let q = seat-slot standing held (start .args .g) s e i in
     let same : q .0 ≡ c .slot .result =
     sym (c .slot .ensures (q .0) (sym (word-at section.seats book (start .args .g) (sorted-few standing (start .args .g) e)) ∙ q .1) (q .2)) in
-    subst (λ (r : ℕ). (r < groupLimit) × (inUse holderNumbers (part section.slots book) r ≡ true) × (getD (part section.slots book) r 0 ≡ start .args .g)) same
+    subst (λ (r : ℕ). (r < groupLimit) × (inUse holderNumbers (sectionWords section.slots book) r ≡ true) × (getD (sectionWords section.slots book) r 0 ≡ start .args .g)) same
     (q .2, q .3, q .4)
 
 pub slot-of-spec : {M : Type 1} → statement M
