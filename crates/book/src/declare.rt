@@ -32,7 +32,7 @@ use text::Words;
 const GROUPS: usize = 64;
 
 // The sort of holder 0, and its name in a word.
-const ADMIN_SORT: u8 = 1;
+pub const ADMIN_SORT: u8 = 1;
 
 const ADMIN_NAME: u64 = 474215179361;
 

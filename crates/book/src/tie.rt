@@ -16,33 +16,29 @@ use crate::SORTS_AT;
 use crate::UPS_AT;
 use crate::find::HOLDERS;
 use crate::find::PAIRS;
+use codes::ADMIN;
+use codes::KEY_PARENT;
+use codes::KEY_VALUE;
+use codes::OBJECT;
+use codes::USER;
 use text::Packed;
 use text::Value;
 
 // How many slots there are: the number of none of them.
 const SLOT_NUMBERS: usize = 64;
 
-// The keys of ties, the codes of sorts and of sources, and the refusals.
-const PARENT: u8 = 8;
+// The codes of sorts in words of the book: a holder's sort has the number of the key that declares it, and admin, which none declares, its own.
+const ADMIN_SORT: u64 = crate::declare::ADMIN_SORT as u64;
 
-const VALUE: u8 = 10;
+const UGROUP_SORT: u64 = codes::KEY_UGROUP as u64;
 
-const ADMIN: u64 = 1;
+const OGROUP_SORT: u64 = codes::KEY_OGROUP as u64;
 
-const UGROUP: u64 = 4;
+const USER_SORT: u64 = codes::KEY_USER as u64;
 
-const OGROUP: u64 = 5;
+const OBJECT_SORT: u64 = codes::KEY_OBJECT as u64;
 
-const USER: u64 = 6;
-
-const OBJECT: u64 = 7;
-
-const USERS: u8 = 1;
-
-const OBJECTS: u8 = 2;
-
-const ADMINS: u8 = 3;
-
+// The refusals.
 const UNDECLARED: u8 = 8;
 
 const WRONG_SORT: u8 = 9;
@@ -71,20 +67,20 @@ fn refused(number: u8) -> Tie
 fn above(key: u8, sort: u64) -> u64
     ensures { λ r. ⌜ SortAbove key sort r ⌝ }
 {
-    if key == PARENT {
-        if sort == UGROUP {
-            return UGROUP;
+    if key == KEY_PARENT {
+        if sort == UGROUP_SORT {
+            return UGROUP_SORT;
         }
-        if sort == OGROUP {
-            return OGROUP;
+        if sort == OGROUP_SORT {
+            return OGROUP_SORT;
         }
         return 0;
     }
-    if sort == USER {
-        return UGROUP;
+    if sort == USER_SORT {
+        return UGROUP_SORT;
     }
-    if sort == OBJECT {
-        return OGROUP;
+    if sort == OBJECT_SORT {
+        return OGROUP_SORT;
     }
     0
 }
@@ -118,16 +114,16 @@ pub fn two(book: &[u64], key: u8, lower: Packed, upper: Packed) -> Tie
 fn source_for(sort: u64) -> u8
     ensures { λ r. ⌜ SourceOfSort sort r ⌝ }
 {
-    if sort == ADMIN {
-        return ADMINS;
+    if sort == ADMIN_SORT {
+        return ADMIN;
     }
-    if sort == UGROUP {
-        return USERS;
+    if sort == UGROUP_SORT {
+        return USER;
     }
-    if sort == USER {
-        return USERS;
+    if sort == USER_SORT {
+        return USER;
     }
-    OBJECTS
+    OBJECT
 }
 
 // The number of the pair of an attribute, by its source and name, and an atom; the number of pairs there can be where there is none.
@@ -166,7 +162,7 @@ pub fn value(book: &[u64], holder: Packed, name: Packed, atom: Value) -> Tie
     }
     Tie {
         number: 0,
-        kind: VALUE,
+        kind: KEY_VALUE,
         lower: h,
         upper: p,
     }
@@ -230,7 +226,7 @@ pub fn stands(book: &[u64], t: Tie) -> bool
     requires { ⌜ length (now book) ≡ bookWords ⌝ }
     ensures { λ r. ⌜ TieStands (now (book .entry)) (tieBy (t .kind) (t .lower) (t .upper)) r ⌝ }
 {
-    if t.kind == VALUE {
+    if t.kind == KEY_VALUE {
         return stands_value(book, t.lower, t.upper);
     }
     stands_up(book, t.lower, t.upper)
@@ -241,7 +237,7 @@ pub fn closes(book: &[u64], t: Tie) -> bool
     requires { ⌜ length (now book) ≡ bookWords ⌝ }
     ensures { λ r. ⌜ TieCloses (now (book .entry)) (tieBy (t .kind) (t .lower) (t .upper)) r ⌝ }
 {
-    if t.kind != PARENT {
+    if t.kind != KEY_PARENT {
         return false;
     }
     ties::closes_circle(
@@ -315,7 +311,7 @@ pub fn put(book: &mut [u64], t: Tie)
     requires { ⌜ length (now book) ≡ bookWords ⌝ }
     ensures { λ _. ⌜ TiePut (tieBy (t .kind) (t .lower) (t .upper)) (now (book .entry)) (now (book .exit)) ⌝ }
 {
-    if t.kind == VALUE {
+    if t.kind == KEY_VALUE {
         put_value(book, t.lower, t.upper);
     } else {
         put_up(book, t.lower, t.upper);
@@ -327,7 +323,7 @@ pub fn take(book: &mut [u64], t: Tie)
     requires { ⌜ length (now book) ≡ bookWords ⌝ }
     ensures { λ _. ⌜ TieTaken (tieBy (t .kind) (t .lower) (t .upper)) (now (book .entry)) (now (book .exit)) ⌝ }
 {
-    if t.kind == VALUE {
+    if t.kind == KEY_VALUE {
         take_value(book, t.lower, t.upper);
     } else {
         take_up(book, t.lower, t.upper);
