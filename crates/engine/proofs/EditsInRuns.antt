@@ -1,5 +1,5 @@
--- What an edit does in a run: "No edit changes the set of a holder that is neither the edited one nor below it; a refused edit changes none; the reported
--- count is exact". Assumes nothing.
+-- What an edit does in a run: it changes the words of no holder that is neither the edited one nor below it, where it is refused those of none, and its
+-- count is that of the holders whose words changed. Assumes nothing.
 use Prim.Native.Nat.{ℕ, _<_}
 use mathlib.Core.Path.{_≡_, refl, sym, ap, subst, _∙_}
 use mathlib.Core.Bool.{Bool, true, false, not}
@@ -82,7 +82,7 @@ module _ {calls : List Call} {S : State} {before after : Memory} {line : Bytes} 
   given : Gives (outcome S (before .words) (Call.edit line)) (ledger.edited number changed) (after .words) (after .book) (after .code)
   given = does-gives together does
 
-  -- "No edit changes the set of a holder that is neither the edited one nor below it"
+  -- no holder that is neither the edited one nor below it
   pub elsewhere-stays : (k : ℕ) → k < holderNumbers
       → ((t : Tie) → editedTie S line ≡ some t → (k ≡ edited t → ⊥) × (Below (S .ties) k (edited t) → ⊥)) → setIn (after .words) k ≡ setIn (before .words) k
   unfolding effectiveSet
@@ -93,7 +93,7 @@ module _ {calls : List Call} {S : State} {before after : Memory} {line : Bytes} 
       ∙ stored-same (S .declared) (model.edit S line .state .declared) (S .ties) (model.edit S line .state .ties) k (edit-declared S line) (λ p. edit-elsewhere S line k p far)
       ∙ sym (set-in-table (S .declared) (S .ties) k h))
 
-  -- "a refused edit changes none"
+  -- "a refused edit changes nothing"
   pub refused-stays : (number ≡ 0 → ⊥) → after .words ≡ before .words
   refused-stays refused =
       sym (given .table)
@@ -103,7 +103,7 @@ module _ {calls : List Call} {S : State} {before after : Memory} {line : Bytes} 
       ap (λ (T : State). table (T .declared) (T .ties)) (refused-edit S line (λ z. refused (sym n ∙ z)) .0))
       (given .answered)
 
-  -- "the reported count is exact": the holders whose four words differ
+  -- the count is that of the holders whose four words differ
   pub count-in-run : changed ≡ count (setChanged (before .words) (after .words)) (below holderNumbers)
   count-in-run =
       by-table S (before .words) line (together .kept) (λ a w u. a ≡ ledger.edited number changed → changed ≡ count (setChanged w u) (below holderNumbers))

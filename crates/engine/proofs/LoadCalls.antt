@@ -24,7 +24,7 @@ use Rattle.book.specs.Held.{Holds}
 use Rattle.book.specs.LineSteps.{LoadedAs}
 use Rattle.book.proofs.TieSections.{part-size}
 use Rattle.engine.specs.Calls.{Gives, Loads}
-use Rattle.engine.specs.LoadSteps.{TableFilled}
+use Rattle.engine.specs.LoadSteps.{TableFilled, Cleared}
 
 module _ (file : Bytes) (words : List ℕ) where
   -- the outcome by whether the table is wrong
@@ -45,10 +45,10 @@ module _ (file : Bytes) (words : List ℕ) where
   unfolding wrongTable
   right-is long = ap not (eq-eqb (length words) tableWords long)
 
-  pub without-table : {book : List ℕ} {code : Bytes} → (length words ≡ tableWords → ⊥) → Holds book code empty → Loads file words 1 0 words book code
+  pub without-table : {book words′ : List ℕ} {code : Bytes} → (length words ≡ tableWords → ⊥) → Holds book code empty → Cleared words words′ → Loads file words 1 0 words′ book code
   unfolding outcomeBy
-  without-table {book} {code} n held =
-      subst (λ (o : Outcome). Gives o (loaded 1 0) words book code) (by-table true (wrong-is n)) (record { answered = refl; table = refl; holds = held })
+  without-table {book} {words′} {code} n held cleared =
+      subst (λ (o : Outcome). Gives o (loaded 1 0) words′ book code) (by-table true (wrong-is n)) (record { answered = refl; table = sym (cleared .kept n); holds = held })
 
   module _ (long : length words ≡ tableWords) {book : List ℕ} {code : Bytes} (number line : ℕ) (words′ : List ℕ) where
     by-load : number ≡ model.load file .number → line ≡ model.load file .line → table (model.load file .state .declared) (model.load file .state .ties) ≡ words′
@@ -60,8 +60,8 @@ module _ (file : Bytes) (words : List ℕ) where
 
     -- "Book empty, table all 0"
     pub refused-file : number ≡ model.load file .number → line ≡ model.load file .line → (number ≡ 0 → ⊥)
-        → length words′ ≡ length words → ((i : ℕ) → getD words′ i 0 ≡ 0) → Holds book code empty → Loads file words number line words′ book code
-    refused-file n l off same zero held =
+        → length words′ ≡ length words → Holds book code empty → Cleared words words′ → Loads file words number line words′ book code
+    refused-file n l off same held cleared =
         let nothing : model.load file .state ≡ empty =
         ap (λ (r : model.Loaded). r .state) (refused-load file (load-refused file (λ z. off (n ∙ z)))) in
         by-load n l
@@ -70,7 +70,7 @@ module _ (file : Bytes) (words : List ℕ) where
         zeros : replicate {A = ℕ} tableWords 0 ≡ words′
         zeros =
             ext-getD 0 (replicate {A = ℕ} tableWords 0) words′ (length-replicate {A = ℕ} tableWords 0 ∙ sym (same ∙ long))
-            (λ i h. getD-replicate {A = ℕ} tableWords i 0 0 (omega (arith, h, length-replicate {A = ℕ} tableWords 0)) ∙ sym (zero i))
+            (λ i h. getD-replicate {A = ℕ} tableWords i 0 0 (omega (arith, h, length-replicate {A = ℕ} tableWords 0)) ∙ sym (cleared .zeros long i))
 
     pub accepted-file : LoadedAs (model.load file) book code number line → number ≡ 0 → length book ≡ bookWords → TableFilled book words′ → Loads file words number line words′ book code
     accepted-file answer z size filled =

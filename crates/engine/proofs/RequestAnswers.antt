@@ -8,6 +8,7 @@ use mathlib.Core.Option.{Option, none, some}
 use lib.Dec.{eqb}
 use lib.ListN.{length, getD, take, drop, replicate}
 use Rattle.model.specs.Notation.{if_then_else_, _is_, isNone}
+use Rattle.model.specs.Limits.{tableWords}
 use Rattle.model.specs.Bytes.{Bytes}
 use Rattle.model.specs.State.{State}
 use Rattle.model.specs.Block.{Block, isBlock, readBlock, valueAt}
@@ -26,7 +27,7 @@ use Rattle.book.specs.Sections.{sectionWords}
 use Rattle.book.specs.Held.{Holds}
 use Rattle.engine.specs.declared.Decision.{Decision}
 use Rattle.engine.specs.Requests.{pairRows, WrongNumber, RequestOf}
-use Rattle.engine.specs.Decisions.{decisionOf, Decided, Answered}
+use Rattle.engine.specs.Decisions.{decisionOf, Decided, Answered, Decides}
 use Rattle.engine.proofs.Blocks.{headed, not-read, is-read, head-of}
 use Rattle.engine.proofs.Books.{numbers-of, request-of}
 
@@ -150,3 +151,8 @@ module _ {S : State} {book : List ℕ} {code : Bytes} (standing : Standing S) (h
 
 pub stands-long : (S : State) {t : List ℕ} → t ≡ table (S .declared) (S .ties) → length t ≡ 1024
 stands-long S e = ap length e ∙ table-length (S .declared) (S .ties)
+
+-- ---- the promise: where the decision is the model's, so are its number and values
+pub promised : {block : Bytes} {book : List ℕ} {code : Bytes} {words : List ℕ} {r : Decision} → ((length words ≡ tableWords → ⊥) → decisionOf r ≡ model.refused 1)
+    → ((S : State) → Standing S → Holds book code S → words ≡ table (S .declared) (S .ties) → decisionOf r ≡ model.decide S block) → Decides block book code words r
+promised other decision = record { other-table = other; decision = decision; numbers = λ S standing holds e. ap model.numberAndValues (decision S standing holds e) }

@@ -3,7 +3,7 @@
 use Prim.Native.Nat.{ℕ}
 use mathlib.Core.Path.{_≡_, refl, sym, ap, ap₂, subst, _∙_}
 use mathlib.Core.Bool.{Bool, true, false}
-use mathlib.Core.List.{List, [], _∷_}
+use mathlib.Core.List.{List, [], _∷_, _++_}
 use lib.ListN.{length}
 use Rattle.model.specs.Notation.{if_then_else_, map}
 use Rattle.model.specs.Bytes.{Bytes}
@@ -16,21 +16,7 @@ use Rattle.model.proofs.Standing.{empty-standing}
 use Rattle.model.proofs.Ledger.{step-standing, request-keeps}
 use Rattle.book.specs.Held.{Holds}
 use Rattle.engine.specs.Calls.{Gives, Together}
-use Rattle.engine.specs.Runs.{Memory, Does, loads, edits, decides, CallSeen, Run, end, next, Leads, from-load, from-there}
-
--- what is compared after a call: "the answer with all it carries …, and all 1,024 words"
-pub record AfterCall : Type 0 where
-  pub answer : Answer
-  pub words : List ℕ
-
-abbrev pub compared : Answer → List ℕ → AfterCall
-compared a w = record { answer = a; words = w }
-
-abbrev pub seen : CallSeen → AfterCall
-seen s = compared (s .answer) (s .left .words)
-
-abbrev pub posted : Outcome → AfterCall
-posted o = compared (o .answer) (o .words)
+use Rattle.engine.specs.Runs.{Memory, Does, loads, edits, decides, CallSeen, AfterCall, compared, seen, posted, Run, end, next, endState, endWords, Leads, from-load, from-there}
 
 -- a load reads no state
 load-anew : (S : State) (words : List ℕ) (file : Bytes) → outcome S words (Call.load file) ≡ outcome empty words (Call.load file)
@@ -107,8 +93,9 @@ run-posts S lent (c ∷ calls) results together (next {after = after} {rest = re
     one-more S c (lent .words) calls (map seen rest) g
     (run-posts (outcome S (lent .words) c .state) after calls rest (together-after S (lent .words) c (together .standing) g) run)
 
--- "For every list of loads, edits and requests that begins with a load, in any order, refused ones among them, whatever the table held at first: each
--- answer and every stored set after it equal those of the ledger"
+-- Demand 3, "one claim about the list as a whole and not one for each call": for every list of loads, edits and requests that begins with a load, in any
+-- order, refused ones among them, whatever was lent at first, on a table of any length and content: each answer and all words of the table after it are
+-- those of the ledger
 pub runs-are-the-ledger : (lent : Memory) (file : Bytes) (calls : List Call) (results : List CallSeen) → Run lent (Call.load file ∷ calls) results
     → map seen results ≡ map posted (ledger (lent .words) file calls)
 unfolding ledger
@@ -122,3 +109,27 @@ leads-together (from-load {file = file} {before = before} (loads g)) = together-
 leads-together (from-there {S = S} {c = c} {before = before} run does) =
     let t = leads-together run in
     together-after S (before .words) c (t .standing) (does-gives t does)
+
+-- one call more at the end of a list
+end-more : (S : State) (words : List ℕ) (calls : List Call) (c : Call)
+    → (endState S (ledgerFrom S words (calls ++ c ∷ [])) ≡ outcome (endState S (ledgerFrom S words calls)) (endWords words (ledgerFrom S words calls)) c .state)
+    × (endWords words (ledgerFrom S words (calls ++ c ∷ [])) ≡ outcome (endState S (ledgerFrom S words calls)) (endWords words (ledgerFrom S words calls)) c .words)
+end-more S words [] c = (refl, refl)
+end-more S words (d ∷ calls) c = end-more (outcome S words d .state) (outcome S words d .words) calls c
+
+ends : {calls : List Call} {S : State} {lent : Memory} → Leads calls S lent
+    → (words : List ℕ) × (endState empty (ledgerFrom empty words calls) ≡ S) × (endWords words (ledgerFrom empty words calls) ≡ lent .words)
+ends (from-load {before = before} (loads g)) = (before .words, refl, g .table)
+ends (from-there {calls = calls} {c = c} run does) =
+    let e = ends run in
+    let more = end-more empty (e .0) calls c in (
+      e .0,
+      more .0 ∙ ap₂ (λ (T : State) (w : List ℕ). outcome T w c .state) (e .1) (e .2),
+      more .1 ∙ ap₂ (λ (T : State) (w : List ℕ). outcome T w c .words) (e .1) (e .2) ∙ does-gives (leads-together run) does .table,
+    )
+
+-- where a list of calls leads is where the ledger of its calls ends, on the table that was lent at first
+pub leads-where-the-ledger-ends : {file : Bytes} {calls : List Call} {S : State} {lent : Memory} → Leads (Call.load file ∷ calls) S lent
+    → (words : List ℕ) × (endState empty (ledger words file calls) ≡ S)
+unfolding ledger
+leads-where-the-ledger-ends run = let e = ends run in (e .0, e .1)

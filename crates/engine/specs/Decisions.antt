@@ -40,8 +40,9 @@ Answered counts operations code attributes pairs table block entries r =
     (S : State) (b : Block) → RequestOf S b counts operations code attributes pairs table block entries
     → decisionOf r ≡ (if notHeld S b then model.refused 17 else model.decided (model.verdicts S b))
 
--- r is what a request is answered: by the host's number on a table of another length, and as the document says on a book and a table that stand
--- for a state. Nothing is written
+-- r is what a request is answered: 1 on a table of another length, and as the document says on a book and a table that stand for a state, by its case
+-- and by this paper's number and values. Nothing is written
 pub record Decides (block : Bytes) (book : List ℕ) (code : Bytes) (words : List ℕ) (r : Decision) : Type 0 where
   pub other-table : (length words ≡ tableWords → ⊥) → decisionOf r ≡ model.refused 1
   pub decision : (S : State) → Standing S → Holds book code S → words ≡ table (S .declared) (S .ties) → decisionOf r ≡ model.decide S block
+  pub numbers : (S : State) → Standing S → Holds book code S → words ≡ table (S .declared) (S .ties) → numberAndValuesOf r ≡ model.numberAndValues (model.decide S block)

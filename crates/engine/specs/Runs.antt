@@ -6,7 +6,7 @@ use mathlib.Core.List.{List, [], _∷_, _++_}
 use Rattle.model.specs.Bytes.{Bytes}
 use Rattle.model.specs.State.{State, empty}
 use Rattle.model.specs.Decision.{Decision}
-use Rattle.model.specs.Ledger.{Call, load, edit, request, Answer, loaded, edited, decided, outcome}
+use Rattle.model.specs.Ledger.{Call, load, edit, request, Answer, loaded, edited, decided, Outcome, outcome}
 use Rattle.engine.specs.Calls.{Together, Loads, Edits}
 
 -- what is lent to a call: the book's words, its rules' bytes, and the table
@@ -33,11 +33,35 @@ pub record CallSeen : Type 0 where
   pub answer : Answer
   pub left : Memory
 
+-- what is compared after a call: "the answer with all it carries …, and all 1,024 words"
+pub record AfterCall : Type 0 where
+  pub answer : Answer
+  pub words : List ℕ
+
+abbrev pub compared : Answer → List ℕ → AfterCall
+compared a w = record { answer = a; words = w }
+
+-- as a host sees it, and as the ledger has it
+abbrev pub seen : CallSeen → AfterCall
+seen s = compared (s .answer) (s .left .words)
+
+abbrev pub posted : Outcome → AfterCall
+posted o = compared (o .answer) (o .words)
+
 -- calls one after another
 pub data Run : Memory → List Call → List CallSeen → Type 0 where
   end : {lent : Memory} → Run lent [] []
   next : {before after : Memory} {c : Call} {calls : List Call} {a : Answer} {rest : List CallSeen} → Does c before a after → Run after calls rest
       → Run before (c ∷ calls) (record { answer = a; left = after } ∷ rest)
+
+-- the state and the table with which a list of the ledger's outcomes ends
+abbrev pub endState : State → List Outcome → State
+endState S [] = S
+endState S (o ∷ rest) = endState (o .state) rest
+
+abbrev pub endWords : List ℕ → List Outcome → List ℕ
+endWords words [] = words
+endWords words (o ∷ rest) = endWords (o .words) rest
 
 -- where a list of calls that begins with a load has led: the ledger's state, and what is lent to the next call
 pub data Leads : List Call → State → Memory → Type 0 where

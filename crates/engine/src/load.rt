@@ -6,7 +6,7 @@ ghost use Rattle.model.specs.State.{empty};
 ghost use Rattle.book.specs.Sections.{bookWords, ruleBytes};
 ghost use Rattle.book.specs.Held.{Holds};
 ghost use Rattle.engine.specs.Calls.{Loads};
-ghost use Rattle.engine.specs.LoadSteps.{TableFilled};
+ghost use Rattle.engine.specs.LoadSteps.{TableFilled, Cleared};
 use crate::TABLE_WORDS;
 use book::BOOK_WORDS;
 use book::OWN_AT;
@@ -29,12 +29,16 @@ fn fill(words: &[u64], table: &mut [u64])
     );
 }
 
-// Empties the book; the bytes of rules may stay, since none is counted.
-fn empty(words: &mut [u64], code: &[u8])
+// What a refused load leaves: the empty book, whose bytes of rules may stay, since none is counted, and a table of zeros. A table of another length
+// keeps its words.
+fn refuse(words: &mut [u64], code: &[u8], table: &mut [u64])
     requires { ⌜ (length (now words) ≡ bookWords) × (length (now code) ≡ ruleBytes) ⌝ }
-    ensures { λ _. ⌜ Holds (now (words .exit)) (now (code .entry)) empty ⌝ }
+    ensures { λ _. ⌜ Holds (now (words .exit)) (now (code .entry)) empty × Cleared (now (table .entry)) (now (table .exit)) ⌝ }
 {
     book::declare::clear(words);
+    if table.len() == TABLE_WORDS {
+        book::declare::zero(table);
+    }
 }
 
 // Loads a file. "Book empty, table all 0" after a refusal; on a table of another length the book is emptied, and the table keeps its words.
@@ -47,13 +51,12 @@ pub fn load(
     ensures { λ r. ⌜ Loads (now (file .entry)) (now (table .entry)) (r .number) (r .line) (now (table .exit)) (now (book .exit)) (now (rules .exit)) ⌝ }
 {
     if table.len() != TABLE_WORDS {
-        empty(book, rules);
+        refuse(book, rules, table);
         return Loaded { number: 1, line: 0 };
     }
     let answer = book::file::read(book, rules, file);
     if answer.number != 0 {
-        empty(book, rules);
-        book::declare::zero(table);
+        refuse(book, rules, table);
         return answer;
     }
     fill(book, table);
