@@ -139,7 +139,7 @@ added-differs t T u n = ap (λ (b : Bool). b || T u) (other-tie t u n)
 removed-differs : (t : Tie) (T : Ties) → DifferAt (edited t) T (removed t T)
 removed-differs t T u n = ap (λ (b : Bool). not b && T u) (other-tie t u n)
 
--- "No edit changes the set of a holder that is neither the edited one nor below it"
+-- an edit changes the set of no holder that is neither the edited one nor below it
 pub edit-elsewhere : (S : State) (line : Bytes) (k p : ℕ)
     → ((t : Tie) → editedTie S line ≡ some t → (k ≡ edited t → ⊥) × (Below (S .ties) k (edited t) → ⊥))
     → effective (holderNumbersOf (S .declared)) (Edits.edit S line .state .ties) k p ≡ effective (holderNumbersOf (S .declared)) (S .ties) k p

@@ -30,7 +30,7 @@ pub record Holder : Type 0 where
   pub sort : Sort
   pub name : Bytes
 
--- "`rule=OP,POLICY`", the policy "by its tokens"
+-- "`rule=OP,POLICY`", "the rules, by their tokens"
 pub record Rule : Type 0 where
   pub operation : Bytes
   pub tokens : List Token

@@ -8,7 +8,7 @@ fileBytes = 32768
 abbrev pub lineBytes : ℕ
 lineBytes = 255
 
--- "attr: At most 32", "op: at most 8", "atom: At most 256", "rule: at most 32"
+-- attr: "At most 32", op: "at most 8", atom: "At most 256", rule: "at most 32"
 abbrev pub attributeLimit : ℕ
 attributeLimit = 32
 
@@ -51,7 +51,7 @@ wordBits = 64
 abbrev pub setWords : ℕ
 setWords = 4
 
--- "At most 16 terms", "parentheses at most 8 deep", "set of 1 to 8 atoms"
+-- "At most 16 terms", "parentheses at most 8 deep", "set `{a, b}` of 1 to 8 atoms"
 abbrev pub termLimit : ℕ
 termLimit = 16
 
@@ -61,7 +61,7 @@ depthLimit = 8
 abbrev pub setLimit : ℕ
 setLimit = 8
 
--- "n, 0 to 8. Then n entries of five bytes. Length exactly 10 + 5n", "activation mask: bit k for attribute k" in bytes 4-7
+-- "8: n, 0 to 8", "Then n entries of five bytes", "Length exactly 10 + 5n", "4-7: activation mask, low byte first, bit k for attribute k"
 abbrev pub entryLimit : ℕ
 entryLimit = 8
 

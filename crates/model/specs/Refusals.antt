@@ -175,7 +175,7 @@ otherKey line = framed line is λ (key, fields). not (isTieKey key)
 unfoldable pub notStanding : State → Line → Bool
 notStanding S l = not (stands S l)
 
--- the tests of an edit; "13 comes after 4, before the rest", "A `-` line never gets 10 or 12"
+-- the tests of an edit; 13 "comes after 4, before the rest", "A `-` line never gets 10 or 12"
 abbrev pub editTests : State → Bytes → List Test
 editTests S edit =
     let line = signedLine edit in

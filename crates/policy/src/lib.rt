@@ -573,7 +573,7 @@ fn whole(code: &[u8], r: Reading) -> Reading
     }
 }
 
-// "More than 16 terms, depth over 8 or a set over 8."
+// 7: "more than 16 terms, depth over 8 or a set over 8".
 fn is_large(x: Part) -> bool
     ensures { λ r. ⌜ r ≡ (ltb 16 (x .terms) || ltb 8 (x .depth) || ltb 8 (x .largest)) ⌝ }
 {

@@ -143,7 +143,7 @@ fn entry_number(entries: &[u8], k: usize, i: usize) -> usize
     n
 }
 
-// "a 32-bit value ... (bool 0 or 1)", by its type.
+// "a 32-bit value, low byte first (bool 0 or 1)", by its type.
 fn entry_words(kind: u8, v: u64) -> Words
     ensures { λ r. ⌜ r ≡ entryWords kind v ⌝ }
 {
