@@ -1,6 +1,7 @@
 /* Measures the stack that the calls take: each call runs on a thread whose stack was filled with a pattern, and the lowest byte that lost it tells how
    deep the call went, counted from the frame that made the call. `stack SESSION.in...` takes the largest input and then each session, whose answers
-   have to be those of SESSION.out. Prints the most of each call; status 1 for a wrong answer, as a call that was refused early would measure little. */
+   have to be those of SESSION.out. Prints the most of each call; status 1 for a wrong answer, as a call that was refused early would measure little.
+   Last comes a request on rules that no load leaves. */
 #define _GNU_SOURCE
 #include "zhulmekov.h"
 
@@ -75,12 +76,13 @@ static void put(const char *format, ...) {
     lines++;
 }
 
-/* 16 terms, 8 deep, the truth of `last` in the end: every part before it leaves the truth open. One kind has two operators waiting at each depth. */
-static void put_rule(int two, int last) {
+/* 16 terms, 8 deep, the truth of `last` in the end: every part before it leaves the truth open. One kind has an AND waiting for each term but the last,
+   when that is read: this takes the most, since an OR that waits takes less. */
+static void put_rule(int waiting, int last) {
     char policy[256] = "";
-    for (int depth = 0; depth < 8; depth++) strcat(policy, !two ? "user.a=7 OR NOT(" : depth == 0 ? "1=2 OR NOT(" : "1=2 OR 1=1 AND NOT(");
+    for (int depth = 0; depth < 8; depth++) strcat(policy, !waiting ? "user.a=7 OR NOT(" : depth == 0 ? "1=1 AND NOT(" : "1=1 AND 1=1 AND NOT(");
     strcat(policy, last ? "{1,2,3,4,5,6,7,8}SUBSET{1,2,3,4,5,6,7,8}" : "{1,2,3,4,5,6,7,9}SUBSET{1,2,3,4,5,6,7,8}");
-    for (int more = 0; !two && more < 7; more++) strcat(policy, " AND 1=1");
+    for (int more = 0; !waiting && more < 7; more++) strcat(policy, " AND 1=1");
     put("rule=p,%s))))))))\n", policy);
 }
 
@@ -150,6 +152,16 @@ static void deepest(void) {
     expect("pass with parentheses", measured(PASS, input, length, block, sizeof block), 6, 0);
 }
 
+/* Rules that no load leaves: every byte is 5, the code of a left parenthesis, so that each byte of a rule is one depth more. No bytes nest deeper. */
+static void stray(void) {
+    static const char file[] = "rights=1\nop=p\nuser=u\nobject=o\nrule=p,TRUE\n";
+    static const uint8_t block[10] = {1, 1, 2};
+    expect("load before other rules", measured(LOAD, (const uint8_t *)file, sizeof file - 1, block, 0), 0, 5);
+    memset(rules, 5, sizeof rules);
+    expect("decide on other rules", measured(DECIDE, block, sizeof block, block, 0), ZHUL_UNDEFINED, 0);
+    printf("%s on rules that no load leaves %zu\n", names[DECIDE], job.depth);
+}
+
 static int digit(uint8_t c) { return c >= '0' && c <= '9' ? c - '0' : c >= 'a' && c <= 'f' ? c - 'a' + 10 : -1; }
 
 static long unhex(const uint8_t *s, size_t n) {
@@ -216,5 +228,6 @@ int main(int argc, char **argv) {
     deepest();
     for (int i = 1; i < argc; i++) session(argv[i]);
     for (int call = 0; call < CALLS; call++) printf("%s %zu (the largest files that are accepted: %zu)\n", names[call], most[call], accepted[call]);
+    stray();
     return 0;
 }
