@@ -19,10 +19,9 @@ use Rattle.model.proofs.Chains.{acyclic-depth}
 use Rattle.model.proofs.Effective.{effective-equation}
 use Rattle.model.specs.Standing.{Standing}
 use Rattle.model.proofs.Standing.{among, holders-fit, room-length, length-room}
-use Rattle.bits.specs.Bits.{member, holds, anyBelow}
-use Rattle.bits.proofs.Bits.{bit-none}
+use Rattle.bits.specs.Bits.{bit, member, holds, anyBelow}
 use Rattle.bits.proofs.Walks.{none-left}
-use Rattle.ties.specs.TieArrays.{tiedUp, hasSlot, KeepsTies, Room}
+use Rattle.ties.specs.TieArrays.{inUse, tiedUp, hasSlot, KeepsTies, Room}
 use Rattle.ties.proofs.Masks.{in-use-lt}
 use Rattle.bits.proofs.Counts.{any-find, find-any}
 use Rattle.ties.proofs.Keeps.{up-slot, slot-up, group-slot, slot-group}
@@ -93,9 +92,10 @@ pub groups-right : {ups own slots t t₁ m m₁ : List ℕ} {d d₁ : ℕ} (f : 
 unfolding Right GroupsRight
 groups-right f a s r deep g l u = a .right f s r deep g l u (a .marked deep g l u l)
 
-pub right-none : (n : ℕ) (slots : List ℕ) (f : ℕ → ℕ → Bool) (t : List ℕ) → Right n slots f t 0
+-- a mask that has no slot in use
+pub right-free : (n : ℕ) (slots : List ℕ) (f : ℕ → ℕ → Bool) (t : List ℕ) (d : ℕ) → ((g : ℕ) → g < 64 → inUse n slots g ≡ true → bit d g ≡ false) → Right n slots f t d
 unfolding Right
-right-none n slots f t g l u on = absurd (true≢false (sym on ∙ bit-none g))
+right-free n slots f t d free g l u on = absurd (true≢false (sym on ∙ free g l u))
 
 -- a set without the groups
 pub no-groups : (n : ℕ) (slots wanted : List ℕ) (g : ℕ → Bool) → ((k : ℕ) → member wanted k ≡ (g k && not (hasSlot n slots k))) → NoGroups n slots wanted
@@ -132,9 +132,9 @@ untied-right ups own slots t f s k few none same p h =
     ∙ ap (λ (b : Bool). holds own k p || b) (sym (none-left (getD ups k 0) 64 (λ q. f (getD slots q 0) p) none)) ∙ sym (s .sentence k p few h)
 
 -- own pairs, then the groups, and then the holders that have a tie
-module _ (ups own slots t t₁ t₂ m m₁ : List ℕ) (d₁ : ℕ) (few : length ups ≤ 256) (tall : length t₂ ≡ 4 * length ups) (fit : (j : ℕ) → getD t₂ j 0 < 2 ^ 64)
+module _ (ups own slots t t₁ t₂ m m₁ : List ℕ) (d d₁ : ℕ) (free : (g : ℕ) → g < 64 → inUse (length ups) slots g ≡ true → bit d g ≡ false) (few : length ups ≤ 256) (tall : length t₂ ≡ 4 * length ups) (fit : (j : ℕ) → getD t₂ j 0 < 2 ^ 64)
     (copied : (j : ℕ) → getD t j 0 ≡ getD own j 0)
-    (a : Settled ups own slots t t₁ m m₁ 0 d₁ (AllDeep ups slots) (λ g. g < 64)) (b : StoredTied ups own slots t₁ t₂ (length ups)) where
+    (a : Settled ups own slots t t₁ m m₁ d d₁ (AllDeep ups slots) (λ g. g < 64)) (b : StoredTied ups own slots t₁ t₂ (length ups)) where
   module _ (f : ℕ → ℕ → Bool) (s : Solves ups own slots f) (r : GroupsRight (length ups) slots f t₁) (k : ℕ) (l : k < length ups) where
     before-ties : getD ups k 0 ≡ 0 → (g : Bool) → hasSlot (length ups) slots k ≡ g → RightAt f t₁ k
     unfolding GroupsRight
@@ -151,7 +151,7 @@ module _ (ups own slots t t₁ t₂ m m₁ : List ℕ) (d₁ : ℕ) (few : lengt
   unfolding KeepsSets RightAt
   all-right D T standing kept room k p h l =
       let s = effective-solves ups own slots D T standing kept in
-      let r = groups-right (effectiveSet D T) a s (right-none (length ups) slots (effectiveSet D T) t) (all-deep ups own slots D T standing kept room) in
+      let r = groups-right (effectiveSet D T) a s (right-free (length ups) slots (effectiveSet D T) t d free) (all-deep ups own slots D T standing kept room) in
       each-holder (effectiveSet D T) s r k h (ℕ-discrete (getD ups k 0) 0) p l
 
   pub filled : Filled ups own slots t₂

@@ -218,14 +218,15 @@ fn store_tied(table: &mut [u64], own: &[u64], ups: &[u64], slots: &[u64])
 }
 
 // Fills the table: every holder's set, a group's after those above it. Who has no tie up has its own pairs, and most numbers have no holder at all:
-// these are copied in one go.
+// these are copied in one go. Slots without a number count as settled.
 pub fn fill(table: &mut [u64], own: &[u64], ups: &[u64], slots: &[u64])
     requires { ⌜ Shaped (now ups) (now own) (now slots) (now table) × (length (now ups) ≤ 64 * markWords) ⌝ }
     ensures { λ _. ⌜ Filled (now (ups .entry)) (now (own .entry)) (now (slots .entry)) (now (table .exit)) ⌝ }
 {
     copy_own(table, own);
     let mut marks = [0u64; MARK_WORDS];
-    settle_groups(table, &mut marks, own, ups, slots, 0);
+    let free = !ties::numbered(slots);
+    settle_groups(table, &mut marks, own, ups, slots, free);
     store_tied(table, own, ups, slots);
 }
 

@@ -136,7 +136,7 @@ fn with_numbered(mask: u64, slots: &[u64], q: usize) -> u64
 }
 
 // The slots that have a number: no other is in use, and most areas have few groups.
-fn numbered(slots: &[u64]) -> u64
+pub fn numbered(slots: &[u64]) -> u64
     requires { ⌜ length (now slots) ≡ groupLimit ⌝ }
     ensures { λ r. ⌜ HasNumbered (now (slots .entry)) groupLimit r ⌝ }
 {
