@@ -14,7 +14,7 @@ use Rattle.model.specs.Limits.{attributeLimit, pairLimit, holderNumbers}
 use Rattle.model.specs.Bytes.{Bytes}
 use Rattle.model.specs.Names.{isName}
 use Rattle.model.specs.Attributes.{Source, AtomType, fromBlock, sameType}
-use Rattle.model.specs.Declarations.{Declarations, Attribute, Pair, isNamed, attributeNumber, operationNumber, holderNumbersOf, groups}
+use Rattle.model.specs.Declarations.{Declarations, Attribute, Pair, sameSourceAndName, attributeNumber, operationNumber, holderNumbersOf, groups}
 use Rattle.model.specs.Lines.{attr}
 use Rattle.model.specs.State.{State, after, withAttribute}
 use Rattle.model.specs.Standing.{WellDeclared, Standing}
@@ -99,7 +99,7 @@ module _ (book : List ℕ) (k source kind low high : ℕ) (few : k < attributeLi
 module _ (D : Declarations) (a : Attribute) where
   stay : AttributesStay D (withAttribute a D)
   unfolding attributeNumber
-  stay s n k e = place-append (λ b. isNamed (b .source) (b .name) s n) (D .attributes) (a ∷ []) e
+  stay s n k e = place-append (λ b. sameSourceAndName (b .source) (b .name) s n) (D .attributes) (a ∷ []) e
 
   -- pairs are those of the attributes that they were
   module _ (well : WellDeclared D) where
@@ -241,7 +241,7 @@ module _ (book : List ℕ) (source kind low high : ℕ) where
           ap (λ (o : Option ℕ). not (isNone o))
           (number-nowhere attributeLimit (attributeNumber (S .declared) s n) k
           (λ j f.
-          let x = place-few (λ (a : Attribute). isNamed (a .source) (a .name) s n) (S .declared .attributes) j f in
+          let x = place-few (λ (a : Attribute). sameSourceAndName (a .source) (a .name) s n) (S .declared .attributes) j f in
           let y = standing .declarations .attributes .few in
           omega arith)
           (found .number (S .declared) (standing .declarations) (held .attributes) s n name from words) free)

@@ -16,7 +16,7 @@ use Rattle.model.specs.Limits.{operationLimit, pairLimit, holderNumbers}
 use Rattle.model.specs.Bytes.{Bytes, same}
 use Rattle.model.specs.Names.{isName}
 use Rattle.model.specs.Atoms.{sameAtom}
-use Rattle.model.specs.Declarations.{Declarations, Attribute, Pair, Holder, isNamed, attributeNumber, operationNumber, pairNumber, holderNumber}
+use Rattle.model.specs.Declarations.{Declarations, Attribute, Pair, Holder, sameSourceAndName, attributeNumber, operationNumber, pairNumber, holderNumber}
 use Rattle.model.specs.Standing.{WellDeclared}
 use Rattle.model.proofs.WordTables.{same-eq, same-refl}
 use Rattle.model.proofs.Options.{parts, both}
@@ -112,11 +112,11 @@ module _ (section : List ℕ) (k : ℕ) (words : Words) (r : ℕ) (finds : Finds
       w = (k + 1, words .first, words .second, words .third)
 
       alike : Pair → Bool
-      alike q = isNamed (q .source) (q .name) s n && sameAtom (q .atom) a
+      alike q = sameSourceAndName (q .source) (q .name) s n && sameAtom (q .atom) a
 
       known : (q : Pair) → alike q ≡ true → (q .source ≡ s) × (q .name ≡ n) × (q .atom ≡ a)
       known q e =
-          let (p, t) = parts (isNamed (q .source) (q .name) s n) (sameAtom (q .atom) a) e in
+          let (p, t) = parts (sameSourceAndName (q .source) (q .name) s n) (sameAtom (q .atom) a) e in
           let (x, y) = named-eq (q .source) (q .name) s n p in
           (x, y, same-atom-eq (q .atom) a t)
 

@@ -14,7 +14,7 @@ use Rattle.model.specs.Bytes.{Bytes}
 use Rattle.model.specs.Names.{isName}
 use Rattle.model.specs.Attributes.{Source, AtomType, fromBlock, sameType}
 use Rattle.model.specs.Atoms.{Atom, typeOf, isAtom, sameAtom}
-use Rattle.model.specs.Declarations.{Attribute, Pair, isNamed, attributeNumber, attributeOf, pairNumber}
+use Rattle.model.specs.Declarations.{Attribute, Pair, sameSourceAndName, attributeNumber, attributeOf, pairNumber}
 use Rattle.model.specs.Lines.{atom}
 use Rattle.model.specs.State.{State, after}
 use Rattle.model.specs.Standing.{Standing}
@@ -58,7 +58,7 @@ module _ (book : List ℕ) (source low high : ℕ) (value : Value) (k : ℕ) (fo
             (ap (λ (o : Option ℕ). isNone o)
             (number-nowhere attributeLimit (attributeNumber (S .declared) s n) k
             (λ j f.
-            let x = place-few (λ (b : Attribute). isNamed (b .source) (b .name) s n) (S .declared .attributes) j f in
+            let x = place-few (λ (b : Attribute). sameSourceAndName (b .source) (b .name) s n) (S .declared .attributes) j f in
             let y = standing .declarations .attributes .few in
             omega arith)
             e (omega arith))),
@@ -80,7 +80,7 @@ module _ (book : List ℕ) (source low high : ℕ) (value : Value) (k : ℕ) (fo
     declared code S standing held s n name from words =
         let e = found .number (S .declared) (standing .declarations) (held .attributes) s n name from words in
         let f = number-is attributeLimit (attributeNumber (S .declared) s n) k e (λ z. omega arith) in
-        let (b, g, t) = place-nth (λ (b : Attribute). isNamed (b .source) (b .name) s n) (S .declared .attributes) k f in
+        let (b, g, t) = place-nth (λ (b : Attribute). sameSourceAndName (b .source) (b .name) s n) (S .declared .attributes) k f in
         record {
           attribute = b;
           number-is = f;
@@ -146,7 +146,7 @@ module _ (book : List ℕ) (source low high : ℕ) (value : Value) (k : ℕ) (fo
               ap (λ (o : Option ℕ). not (isNone o))
               (number-nowhere pairLimit (pairNumber (S .declared) s n a) p
               (λ j f.
-              let x = place-few (λ (q : Pair). isNamed (q .source) (q .name) s n && sameAtom (q .atom) a) (S .declared .pairs) j f in
+              let x = place-few (λ (q : Pair). sameSourceAndName (q .source) (q .name) s n && sameAtom (q .atom) a) (S .declared .pairs) j f in
               let y = standing .declarations .pairs .few in
               omega arith)
               (numbered S s n a code standing held d written atom-is) free)

@@ -13,7 +13,7 @@ use Rattle.model.specs.Names.{isName}
 use Rattle.model.specs.Attributes.{Source}
 use Rattle.model.specs.Atoms.{Atom, typeOf, sameAtom}
 use Rattle.model.specs.Lines.{Line}
-use Rattle.model.specs.Declarations.{Declarations, Attribute, Sort, isSort, isNamed, sortOf, sourceFor, attributeNumber, pairNumber, holderNumber}
+use Rattle.model.specs.Declarations.{Declarations, Attribute, Sort, isSort, sameSourceAndName, sortOf, sourceFor, attributeNumber, pairNumber, holderNumber}
 use Rattle.model.specs.Ties.{Tie}
 use Rattle.model.specs.State.{State, tieOf}
 use Rattle.model.specs.Refusals.{_if_, first, fits}
@@ -76,13 +76,13 @@ module _ {S : State} (standing : Standing S) where
   pub attribute-few : (s : Source) (n : Bytes) (k : ℕ) → attributeNumber (S .declared) s n ≡ some k → k < attributeLimit
   unfolding attributeNumber
   attribute-few s n k e =
-      let r = place-nth (λ a. isNamed (a .source) (a .name) s n) (S .declared .attributes) k e in
+      let r = place-nth (λ a. sameSourceAndName (a .source) (a .name) s n) (S .declared .attributes) k e in
       omega (arith, nth-lt (S .declared .attributes) k (r .1), standing .declarations .attributes .few)
 
   pub pair-few : (s : Source) (n : Bytes) (a : Atom) (p : ℕ) → pairNumber (S .declared) s n a ≡ some p → p < pairLimit
   unfolding pairNumber
   pair-few s n a p e =
-      let r = place-nth (λ q. isNamed (q .source) (q .name) s n && sameAtom (q .atom) a) (S .declared .pairs) p e in
+      let r = place-nth (λ q. sameSourceAndName (q .source) (q .name) s n && sameAtom (q .atom) a) (S .declared .pairs) p e in
       omega (arith, nth-lt (S .declared .pairs) p (r .1), standing .declarations .pairs .few)
 
 -- what is found in a book that holds the state
@@ -173,9 +173,9 @@ pair-attribute : {S : State} → Standing S → (s : Source) (n : Bytes) (a : At
     → (k : ℕ) × (b : Attribute) × (attributeNumber (S .declared) s n ≡ some k) × (nth (S .declared .attributes) k ≡ some b) × (typeOf a ≡ b .type)
 unfolding pairNumber
 pair-attribute {S} standing s n a p e =
-    let r = place-nth (λ q. isNamed (q .source) (q .name) s n && sameAtom (q .atom) a) (S .declared .pairs) p e in
+    let r = place-nth (λ q. sameSourceAndName (q .source) (q .name) s n && sameAtom (q .atom) a) (S .declared .pairs) p e in
     let q = r .0 in
-    let both = parts (isNamed (q .source) (q .name) s n) (sameAtom (q .atom) a) (r .2) in
+    let both = parts (sameSourceAndName (q .source) (q .name) s n) (sameAtom (q .atom) a) (r .2) in
     let named = named-eq (q .source) (q .name) s n (both .0) in
     let d = pair-declared (standing .declarations) p q (r .1) in (
       d .number,
@@ -190,7 +190,7 @@ no-attribute {S} standing s n a gone = no-result (pairNumber (S .declared) s n a
 
 pub attribute-at : (D : Declarations) (s : Source) (n : Bytes) (k : ℕ) → attributeNumber D s n ≡ some k → (b : Attribute) × (nth (D .attributes) k ≡ some b)
 unfolding attributeNumber
-attribute-at D s n k e = let r = place-nth (λ a. isNamed (a .source) (a .name) s n) (D .attributes) k e in (r .0, r .1)
+attribute-at D s n k e = let r = place-nth (λ a. sameSourceAndName (a .source) (a .name) s n) (D .attributes) k e in (r .0, r .1)
 
 module _ {S : State} {book : List ℕ} {code : Bytes} (standing : Standing S) (held : Holds book code S) (s : Source) (n : Bytes) (a : Atom) (k : ℕ) (b : Attribute)
     (number : attributeNumber (S .declared) s n ≡ some k) (at : nth (S .declared .attributes) k ≡ some b) where

@@ -8,7 +8,7 @@ use native.Mathlib.Omega.{arith}
 use lib.Dec.{eqb}
 use borrow.Author.Tests.{not-false}
 use Rattle.model.specs.Notation.{if_then_else_}
-use Rattle.model.specs.Ties.{Tie, Ties, edited}
+use Rattle.model.specs.Ties.{Tie, Ties, editedHolder}
 use Rattle.model.specs.State.{State}
 use Rattle.model.specs.Edits.{editedTies}
 use Rattle.model.specs.Standing.{Standing, TieFits, DifferAt}
@@ -22,18 +22,18 @@ use Rattle.book.specs.TieSteps.{tieBy}
 use Rattle.book.proofs.TieSections.{part-size}
 use Rattle.engine.specs.EditSteps.{signTests, TieChanged, TableKept, Applied}
 
--- the edited holder is the lower one
-pub edited-lower : (key h u : ℕ) → edited (tieBy key h u) ≡ h
+-- the editedHolder holder is the lower one
+pub edited-lower : (key h u : ℕ) → editedHolder (tieBy key h u) ≡ h
 unfolding tieBy
 edited-lower key h u = go (eqb key 10) (eqb key 8)
   where
-    go : (a b : Bool) → edited (if a then Tie.value h u else if b then Tie.parent h u else Tie.member h u) ≡ h
+    go : (a b : Bool) → editedHolder (if a then Tie.value h u else if b then Tie.parent h u else Tie.member h u) ≡ h
     go true b = refl
     go false true = refl
     go false false = refl
 
 -- its ties alone differ
-edited-differs : (plus : Bool) (t : Tie) (T : Ties) → DifferAt (edited t) T (editedTies plus (some t) T)
+edited-differs : (plus : Bool) (t : Tie) (T : Ties) → DifferAt (editedHolder t) T (editedTies plus (some t) T)
 edited-differs true t T u n = ap (λ (b : Bool). b || T u) (other-tie t u n)
 edited-differs false t T u n = ap (λ (b : Bool). not b && T u) (other-tie t u n)
 
@@ -48,7 +48,7 @@ module _ (S : State) (t : Tie) where
   edited-standing standing true fits h = added-standing standing t fits (h .1 .0)
   edited-standing standing false fits h = removed-standing standing t
 
-module _ (plus : Bool) (t : Tie) (book book′ words words′ : List ℕ) (e count : ℕ) (holder : edited t ≡ e)
+module _ (plus : Bool) (t : Tie) (book book′ words words′ : List ℕ) (e count : ℕ) (holder : editedHolder t ≡ e)
     (changed : TieChanged plus t book book′) (kept : TableKept book′ e words words′ count) where
   pub applied : Applied plus t book book′ words words′ count
   applied S code standing held was fits passed =

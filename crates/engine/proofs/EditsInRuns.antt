@@ -1,4 +1,4 @@
--- What an edit does in a run: it changes the words of no holder that is neither the edited one nor below it, where it is refused those of none, and its
+-- What an edit does in a run: it changes the words of no holder that is neither the editedHolder one nor below it, where it is refused those of none, and its
 -- count is that of the holders whose words changed. Assumes nothing.
 use Prim.Native.Nat.{ℕ, _<_}
 use mathlib.Core.Path.{_≡_, refl, sym, ap, subst, _∙_}
@@ -12,7 +12,7 @@ use Rattle.model.specs.Notation.{if_then_else_, count, below}
 use Rattle.model.specs.Limits.{holderNumbers, setWords}
 use Rattle.model.specs.Bytes.{Bytes}
 use Rattle.model.specs.Declarations.{Declarations, isHolder}
-use Rattle.model.specs.Ties.{Tie, Ties, edited, Below}
+use Rattle.model.specs.Ties.{Tie, Ties, editedHolder, Below}
 use Rattle.model.specs.Table.{effectiveSet, storedSet, table}
 use Rattle.model.specs.State.{State}
 use Rattle.model.specs.Refusals.{wrongTable, editRefusal}
@@ -82,9 +82,9 @@ module _ {calls : List Call} {S : State} {before after : Memory} {line : Bytes} 
   given : Gives (outcome S (before .words) (Call.edit line)) (ledger.edited number changed) (after .words) (after .book) (after .code)
   given = does-gives together does
 
-  -- no holder that is neither the edited one nor below it
+  -- no holder that is neither the editedHolder one nor below it
   pub elsewhere-stays : (k : ℕ) → k < holderNumbers
-      → ((t : Tie) → editedTie S line ≡ some t → (k ≡ edited t → ⊥) × (Below (S .ties) k (edited t) → ⊥)) → setIn (after .words) k ≡ setIn (before .words) k
+      → ((t : Tie) → editedTie S line ≡ some t → (k ≡ editedHolder t → ⊥) × (Below (S .ties) k (editedHolder t) → ⊥)) → setIn (after .words) k ≡ setIn (before .words) k
   unfolding effectiveSet
   elsewhere-stays k h far =
       ap (λ (w : List ℕ). setIn w k) (sym (given .table))

@@ -76,10 +76,10 @@ module _ {S : State} {b : Block} {counts operations : List ℕ} {code : Bytes} {
       ∙ sym unheld
 
   abbrev Answer : model.Decision → Type 0
-  Answer d = d ≡ (if notHeld S b then model.refused 17 else model.decided (verdicts S b))
+  Answer d = d ≡ (if notHeld S b then model.refused 17 else model.decisionBy (verdicts S b))
 
   pub not-held : r ≡ true → Answer (model.refused 17)
-  not-held on = sym (ap (λ (t : Bool). if t then model.refused 17 else model.decided (verdicts S b)) (held-so ∙ on))
+  not-held on = sym (ap (λ (t : Bool). if t then model.refused 17 else model.decisionBy (verdicts S b)) (held-so ∙ on))
 
   rules-so : (rules : ℕ) → (getD counts 5 0 ≤ 32 → rules ≡ getD counts 5 0) → length (S .declared .rules) ≡ rules
   rules-so rules e =
@@ -92,7 +92,7 @@ module _ {S : State} {b : Block} {counts operations : List ℕ} {code : Bytes} {
       g S b
       (record { operation-is = head-of block b (of .read) .operation ∙ sym f; rule-rows = of .rule-rows; session-of = session-of })
       (rules-so rules w)
-      ∙ sym (ap (λ (t : Bool). if t then model.refused 17 else model.decided (verdicts S b)) (held-so ∙ off))
+      ∙ sym (ap (λ (t : Bool). if t then model.refused 17 else model.decisionBy (verdicts S b)) (held-so ∙ off))
 
 -- ---- a request
 
@@ -114,16 +114,16 @@ module _ (S : State) (block : Bytes) where
     abbrev byTests : Bool → Bool → model.Decision
     byTests wrong unheld =
         let n = first (15 if false ∷ 16 if wrong ∷ 17 if unheld ∷ []) in
-        if eqb n 0 then model.decided (verdicts S b) else model.refused n
+        if eqb n 0 then model.decisionBy (verdicts S b) else model.refused n
 
     pub wrong : true ≡ wrongNumber (S .declared) b → model.refused 16 ≡ model.decide S block
     wrong e = sym (decide-by (some b) read ∙ ap (λ (t : Bool). byTests t (notHeld S b)) (sym e))
 
     pub right : false ≡ wrongNumber (S .declared) b
-        → (if notHeld S b then model.refused 17 else model.decided (verdicts S b)) ≡ model.decide S block
+        → (if notHeld S b then model.refused 17 else model.decisionBy (verdicts S b)) ≡ model.decide S block
     right e = go (notHeld S b) ∙ sym (decide-by (some b) read ∙ ap (λ (t : Bool). byTests t (notHeld S b)) (sym e))
       where
-        go : (t : Bool) → (if t then model.refused 17 else model.decided (verdicts S b)) ≡ byTests false t
+        go : (t : Bool) → (if t then model.refused 17 else model.decisionBy (verdicts S b)) ≡ byTests false t
         go true = refl
         go false = refl
 

@@ -15,7 +15,7 @@ use Rattle.model.specs.State.{State}
 use Rattle.model.specs.Block.{Block}
 use Rattle.model.specs.Meaning.{meaningOf}
 use Rattle.model.specs.Session.{readBy}
-use Rattle.model.specs.Decision.{permit, deny, undefined, verdicts, isTrue, isUndef, decided}
+use Rattle.model.specs.Decision.{permit, deny, undefined, verdicts, isTrue, isUndef, decisionBy}
 use Rattle.model.proofs.WordTables.{false-is-true, same-eq, same-refl}
 use Rattle.model.proofs.Options.{is-some}
 use Rattle.model.proofs.Lists.{place-nth, nth-lt, lt-nth}
@@ -170,7 +170,7 @@ module _ (S : State) (b : Block) where
       go j h (no l) = let d : j ≡ k = omega arith in ap (λ (i : ℕ). isTrue (ruleValue S b i)) d ∙ ap isTrue (sym e) ∙ untrue
 
   -- the first that is TRUE
-  pub permits : (k : ℕ) (u : Bool) (t : Truth) → NoneTrue S b k u → t ≡ ruleValue S b k → isTrue t ≡ true → permit k ≡ decided (verdicts S b)
+  pub permits : (k : ℕ) (u : Bool) (t : Truth) → NoneTrue S b k u → t ≡ ruleValue S b k → isTrue t ≡ true → permit k ≡ decisionBy (verdicts S b)
   permits k u t before e yes-true =
       sym (decided-permit (verdicts S b) (verdicts-rise S b) k .1 (
         verdict-exact S b k TRUE .1 (value-verdict S b k TRUE true-not-false (sym e ∙ true-is t yes-true)),
@@ -185,7 +185,7 @@ module _ (S : State) (b : Block) where
     no-true : (j : ℕ) → Verdict S b j TRUE → ⊥
     no-true j v = let l = verdict-lt S b j TRUE v in true≢false (sym (ap isTrue (verdict-value S b j TRUE v)) ∙ all-seen .none-true j (omega arith))
 
-    pub undefines : u ≡ true → undefined ≡ decided (verdicts S b)
+    pub undefines : u ≡ true → undefined ≡ decisionBy (verdicts S b)
     undefines e =
         let (j, l, q) = any-find n (λ j. isUndef (ruleValue S b j)) (sym (all-seen .some-undef) ∙ e) in
         sym (decided-undefined (verdicts S b) .1 (
@@ -193,7 +193,7 @@ module _ (S : State) (b : Block) where
           (j, verdict-exact S b j UNDEF .1 (value-verdict S b j UNDEF undef-not-false (undef-is (ruleValue S b j) q))),
         ))
 
-    pub denies : u ≡ false → deny ≡ decided (verdicts S b)
+    pub denies : u ≡ false → deny ≡ decisionBy (verdicts S b)
     denies e =
         sym (decided-deny (verdicts S b) .1
         ((λ i m. no-true i (verdict-exact S b i TRUE .0 m)), λ i m. no-undef i (verdict-exact S b i UNDEF .0 m)))

@@ -19,7 +19,7 @@ use Rattle.model.specs.Meaning.{meaningOf}
 use Rattle.model.specs.Block.{Block, readBlock}
 use Rattle.model.specs.Session.{readBy}
 use Rattle.model.specs.Refusals.{badBlock, requestTests, requestRefusal}
-use Rattle.model.specs.Decision.{Decision, permit, deny, undefined, refused, verdicts, isTrue, isUndef, withoutPermit, decided, judged, decide}
+use Rattle.model.specs.Decision.{Decision, permit, deny, undefined, refused, verdicts, isTrue, isUndef, withoutPermit, decisionBy, judged, decide}
 use Rattle.model.proofs.WordTables.{false-is-true, same-eq, same-refl}
 use Rattle.model.proofs.Options.{is-some}
 use Rattle.model.proofs.Lists.{_∈_, any-in, in-any, in-filter, filter-in, in-map, map-in, in-numbered, numbered-in}
@@ -82,19 +82,19 @@ module _ (vs : List (ℕ × Truth)) where
   in-true j m = filter-in (λ v. isTrue (v .1)) m refl
 
   -- the first that is TRUE, if there is one, permits
-  first-permits : (v : ℕ × Truth) (rest : List (ℕ × Truth)) → trues ≡ v ∷ rest → decided vs ≡ permit (v .0)
-  unfolding decided
-  first-permits v rest e = rw (e, decided)
+  first-permits : (v : ℕ × Truth) (rest : List (ℕ × Truth)) → trues ≡ v ∷ rest → decisionBy vs ≡ permit (v .0)
+  unfolding decisionBy
+  first-permits v rest e = rw (e, decisionBy)
 
-  none-permits : trues ≡ [] → decided vs ≡ withoutPermit vs
-  unfolding decided
-  none-permits e = rw (e, decided)
+  none-permits : trues ≡ [] → decisionBy vs ≡ withoutPermit vs
+  unfolding decisionBy
+  none-permits e = rw (e, decisionBy)
 
   decided-cases : (P : Decision → Type 0)
       → (NoneIs TRUE vs → SomeIs UNDEF vs → P undefined)
       → (NoneIs TRUE vs → NoneIs UNDEF vs → P deny)
       → ((v : ℕ × Truth) (rest : List (ℕ × Truth)) → trues ≡ v ∷ rest → P (permit (v .0)))
-      → P (decided vs)
+      → P (decisionBy vs)
   decided-cases P on-undef on-deny on-permit = go trues refl
     where
       without : NoneIs TRUE vs → (b : Bool) → any (λ v. isUndef (v .1)) vs ≡ b → P (if b then undefined else deny)
@@ -103,7 +103,7 @@ module _ (vs : List (ℕ × Truth)) where
           on-undef n (r .0 .0, subst (λ (t : Truth). (r .0 .0, t) ∈ vs) (is-undef (r .0 .1) (r .2)) (r .1))
       without n false e = on-deny n (λ j m. false-is-true (sym e ∙ in-any (λ v. isUndef (v .1)) m refl))
 
-      go : (l : List (ℕ × Truth)) → trues ≡ l → P (decided vs)
+      go : (l : List (ℕ × Truth)) → trues ≡ l → P (decisionBy vs)
       go [] e =
           subst P (sym (none-permits e))
           (without (λ j m. elim (subst (λ (l : List (ℕ × Truth)). (j, TRUE) ∈ l) e (in-true j m)) [ ]) (any (λ v. isUndef (v .1)) vs) refl)
@@ -125,7 +125,7 @@ module _ (vs : List (ℕ × Truth)) where
         go (there n) = omega (arith, sorted .0 (j, TRUE) n)
 
     -- "Permit, with the lowest TRUE rule number"
-    pub decided-permit : (k : ℕ) → (decided vs ≡ permit k) ↔ (((k, TRUE) ∈ vs) × ((j : ℕ) → (j, TRUE) ∈ vs → k ≤ j))
+    pub decided-permit : (k : ℕ) → (decisionBy vs ≡ permit k) ↔ (((k, TRUE) ∈ vs) × ((j : ℕ) → (j, TRUE) ∈ vs → k ≤ j))
     decided-permit k = (
       decided-cases (λ d. d ≡ permit k → ((k, TRUE) ∈ vs) × ((j : ℕ) → (j, TRUE) ∈ vs → k ≤ j)) (λ n s e. apart cc) (λ n m e. apart cc)
           (λ v rest e q.
@@ -136,20 +136,20 @@ module _ (vs : List (ℕ × Truth)) where
     )
 
   -- "else undefined if some is UNDEF"
-  pub decided-undefined : (decided vs ≡ undefined) ↔ (NoneIs TRUE vs × SomeIs UNDEF vs)
+  pub decided-undefined : (decisionBy vs ≡ undefined) ↔ (NoneIs TRUE vs × SomeIs UNDEF vs)
   decided-undefined = (
     decided-cases (λ d. d ≡ undefined → NoneIs TRUE vs × SomeIs UNDEF vs) (λ n s e. (n, s)) (λ n m e. apart cc) (λ v rest e q. apart cc),
     λ h. decided-cases (λ d. d ≡ undefined) (λ n s. refl) (λ n m. absurd (m (h .1 .0) (h .1 .1))) (λ v rest e. absurd (h .0 (v .0) (first-true v rest e))),
   )
 
   -- "else deny"
-  pub decided-deny : (decided vs ≡ deny) ↔ (NoneIs TRUE vs × NoneIs UNDEF vs)
+  pub decided-deny : (decisionBy vs ≡ deny) ↔ (NoneIs TRUE vs × NoneIs UNDEF vs)
   decided-deny = (
     decided-cases (λ d. d ≡ deny → NoneIs TRUE vs × NoneIs UNDEF vs) (λ n s e. apart cc) (λ n m e. (n, m)) (λ v rest e q. apart cc),
     λ h. decided-cases (λ d. d ≡ deny) (λ n s. absurd (h .1 (s .0) (s .1))) (λ n m. refl) (λ v rest e. absurd (h .0 (v .0) (first-true v rest e))),
   )
 
-  never-refused : (n : ℕ) → decided vs ≡ refused n → ⊥
+  never-refused : (n : ℕ) → decisionBy vs ≡ refused n → ⊥
   never-refused n = decided-cases (λ d. d ≡ refused n → ⊥) (λ m s e. apart cc) (λ m s e. apart cc) (λ v rest e q. apart cc)
 
 -- ---- the rules of a request
@@ -211,7 +211,7 @@ module _ (S : State) (block : Bytes) where
   -- a request is refused, or its block is read and its rules are evaluated
   decide-cases : (P : Decision → Type 0)
       → ((n : ℕ) → requestRefusal S block ≡ n → (n ≡ 0 → ⊥) → P (refused n))
-      → ((b : Block) → Accepted S block b → P (decided (verdicts S b)))
+      → ((b : Block) → Accepted S block b → P (decisionBy (verdicts S b)))
       → P (decide S block)
   unfolding decide requestRefusal badBlock
   decide-cases P on-refused on-block = go (eqb (requestRefusal S block) 0) refl
@@ -225,16 +225,16 @@ module _ (S : State) (block : Bytes) where
       go true e = read (eqb-true (requestRefusal S block) 0 e) (readBlock block) refl
       go false e = on-refused (requestRefusal S block) refl (eqb-false (requestRefusal S block) 0 e)
 
-  decide-accepted : (b : Block) → Accepted S block b → decide S block ≡ decided (verdicts S b)
+  decide-accepted : (b : Block) → Accepted S block b → decide S block ≡ decisionBy (verdicts S b)
   decide-accepted b a =
-      decide-cases (λ d. d ≡ decided (verdicts S b)) (λ n e z. absurd (z (sym e ∙ a .not-refused)))
-      (λ c q. ap (λ (x : Block). decided (verdicts S x)) (Option·some-injective c b (sym (q .block-is) ∙ a .block-is)))
+      decide-cases (λ d. d ≡ decisionBy (verdicts S b)) (λ n e z. absurd (z (sym e ∙ a .not-refused)))
+      (λ c q. ap (λ (x : Block). decisionBy (verdicts S x)) (Option·some-injective c b (sym (q .block-is) ∙ a .block-is)))
 
   -- what is answered is a refusal, or comes of the rules
   decide-judged : (d : Decision) → ((n : ℕ) → refused n ≡ d → ⊥) → decide S block ≡ d
-      → (b : Block) × Accepted S block b × (decided (verdicts S b) ≡ d)
+      → (b : Block) × Accepted S block b × (decisionBy (verdicts S b) ≡ d)
   decide-judged d other =
-      decide-cases (λ x. x ≡ d → (b : Block) × Accepted S block b × (decided (verdicts S b) ≡ d)) (λ n e z q. absurd (other n q)) (λ b a q. (b, a, q))
+      decide-cases (λ x. x ≡ d → (b : Block) × Accepted S block b × (decisionBy (verdicts S b) ≡ d)) (λ n e z q. absurd (other n q)) (λ b a q. (b, a, q))
 
   -- "Permit, with the lowest TRUE rule number"
   pub permit-exact : (k : ℕ)

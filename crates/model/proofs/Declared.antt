@@ -18,7 +18,7 @@ use Rattle.model.specs.Atoms.{Atom, typeOf, isAtom, sameAtom, boolWord}
 use Rattle.model.specs.Tokens.{Token, isToken, asName}
 use Rattle.model.specs.Grammar.{readPolicy, tooLarge}
 use Rattle.model.specs.Lines.{Line, attr, op, atom, holder, parent, member, value, rule, isLine}
-use Rattle.model.specs.Declarations.{Declarations, Attribute, Pair, Holder, Rule, Sort, isNamed, attributeNumber, attributeOf, operationNumber, pairNumber, holderNumber, holderOf, holderNumbersOf, groups, isSort, isGroup, nothingDeclared}
+use Rattle.model.specs.Declarations.{Declarations, Attribute, Pair, Holder, Rule, Sort, sameSourceAndName, attributeNumber, attributeOf, operationNumber, pairNumber, holderNumber, holderOf, holderNumbersOf, groups, isSort, isGroup, nothingDeclared}
 use Rattle.model.specs.State.{State, declare, withAttribute, withOperation, withPair, withHolder, withRule}
 use Rattle.model.specs.Refusals.{unknownName, overLimits, undeclared, wrongSort, repeated, full}
 use Rattle.model.specs.Standing.{PairStands, PairsStand, HoldersStand, RuleStands, RulesStand, WellDeclared}
@@ -32,15 +32,15 @@ use Rattle.model.proofs.Growing.{nth-last, each-more, unique-more, plac
 pub same-sym : (s t : Bytes) → same s t ≡ true → same t s ≡ true
 same-sym s t e = rw (same-eq s t e) (same-refl t)
 
-pub named-eq : (s : Source) (n : Bytes) (t : Source) (m : Bytes) → isNamed s n t m ≡ true → (s ≡ t) × (n ≡ m)
+pub named-eq : (s : Source) (n : Bytes) (t : Source) (m : Bytes) → sameSourceAndName s n t m ≡ true → (s ≡ t) × (n ≡ m)
 named-eq s n t m e =
     let (p, q) = parts (sameSource s t) (same n m) e in
     (same-word sourceWord sources reads-source s t p, same-eq n m q)
 
-pub eq-named : (s : Source) (n : Bytes) (t : Source) (m : Bytes) → s ≡ t → n ≡ m → isNamed s n t m ≡ true
+pub eq-named : (s : Source) (n : Bytes) (t : Source) (m : Bytes) → s ≡ t → n ≡ m → sameSourceAndName s n t m ≡ true
 eq-named s n t m p q = rw (p, q) (both (same-refl (sourceWord t)) (same-refl m))
 
-named-sym : (s : Source) (n : Bytes) (t : Source) (m : Bytes) → isNamed s n t m ≡ true → isNamed t m s n ≡ true
+named-sym : (s : Source) (n : Bytes) (t : Source) (m : Bytes) → sameSourceAndName s n t m ≡ true → sameSourceAndName t m s n ≡ true
 named-sym s n t m e = let (p, q) = named-eq s n t m e in eq-named t m s n (sym p) (sym q)
 
 pub same-atom-eq : (a b : Atom) → sameAtom a b ≡ true → a ≡ b
@@ -60,11 +60,11 @@ same-atom-refl (Atom.str s) = same-refl s
 same-atom-refl (Atom.bool b) = same-refl (boolWord b)
 
 abbrev alikePairs : Pair → Pair → Bool
-alikePairs p q = isNamed (p .source) (p .name) (q .source) (q .name) && sameAtom (p .atom) (q .atom)
+alikePairs p q = sameSourceAndName (p .source) (p .name) (q .source) (q .name) && sameAtom (p .atom) (q .atom)
 
 pairs-sym : (p q : Pair) → alikePairs p q ≡ true → alikePairs q p ≡ true
 pairs-sym p q e =
-    let (named, same) = parts (isNamed (p .source) (p .name) (q .source) (q .name)) (sameAtom (p .atom) (q .atom)) e in
+    let (named, same) = parts (sameSourceAndName (p .source) (p .name) (q .source) (q .name)) (sameAtom (p .atom) (q .atom)) e in
     both (named-sym (p .source) (p .name) (q .source) (q .name) named) (rw (same-atom-eq (p .atom) (q .atom) same) (same-atom-refl (q .atom)))
 
 -- what no old thing is alike to is not alike to any old thing
@@ -152,14 +152,14 @@ module _ {D : Declarations} (well : WellDeclared D) where
       → attributeNumber D (a .source) (a .name) ≡ none → leb attributeLimit (length (D .attributes)) ≡ false → WellDeclared (withAttribute a D)
   unfolding attributeNumber operationNumber
   attribute-more a named typed new room =
-      let stay : AttributesStay D (withAttribute a D) = λ s n k e. place-append (λ b. isNamed (b .source) (b .name) s n) (D .attributes) (a ∷ []) e in
+      let stay : AttributesStay D (withAttribute a D) = λ s n k e. place-append (λ b. sameSourceAndName (b .source) (b .name) s n) (D .attributes) (a ∷ []) e in
       record {
         attributes = record {
           named = each-more (D .attributes) a (well .attributes .named) named;
           typed = each-more (D .attributes) a (well .attributes .typed) typed;
           unique =
-              unique-more (λ a b. isNamed (a .source) (a .name) (b .source) (b .name)) (D .attributes) a (well .attributes .unique)
-              (apart (λ a b. isNamed (a .source) (a .name) (b .source) (b .name)) (λ x y. named-sym (x .source) (x .name) (y .source) (y .name)) (D .attributes) a new);
+              unique-more (λ a b. sameSourceAndName (a .source) (a .name) (b .source) (b .name)) (D .attributes) a (well .attributes .unique)
+              (apart (λ a b. sameSourceAndName (a .source) (a .name) (b .source) (b .name)) (λ x y. named-sym (x .source) (x .name) (y .source) (y .name)) (D .attributes) a new);
           few = one-longer attributeLimit (D .attributes) a room;
         };
         operations = well .operations;
@@ -254,7 +254,7 @@ pair-of-line : (D : Declarations) (s : Source) (n : Bytes) (a : Atom) → isAtom
 unfolding attributeOf attributeNumber
 pair-of-line D s n a written known sorted =
     let (k, q) = found (attributeNumber D s n) known in
-    let (b, r, t) = place-nth (λ x. isNamed (x .source) (x .name) s n) (D .attributes) k q in
+    let (b, r, t) = place-nth (λ x. sameSourceAndName (x .source) (x .name) s n) (D .attributes) k q in
     let (block, typed) = or-none (fromBlock s) (attributeOf D s n is λ b. not (sameType (b .type) (typeOf a))) sorted in
     let declared : attributeOf D s n ≡ some b = ap (λ (o : Option ℕ). o >>= nth (D .attributes)) q ∙ r in
     record {

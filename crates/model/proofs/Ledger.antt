@@ -1,4 +1,4 @@
--- The ledger: every state that calls leave is standing; a refused edit and a request change nothing; an edit changes the sets of the edited
+-- The ledger: every state that calls leave is standing; a refused edit and a request change nothing; an edit changes the sets of the editedHolder
 -- holder and those below it alone. Assumes nothing.
 use Prim.Native.Nat.{ℕ, suc}
 use mathlib.Core.Path.{_≡_, refl, sym, ap, subst}
@@ -13,7 +13,7 @@ use Rattle.model.specs.Bytes.{Bytes, linesOf}
 use Rattle.model.specs.Keys.{Key}
 use Rattle.model.specs.Lines.{Line, readLine}
 use Rattle.model.specs.Declarations.{holderNumbersOf}
-use Rattle.model.specs.Ties.{Tie, Ties, edited, added, removed, Below}
+use Rattle.model.specs.Ties.{Tie, Ties, editedHolder, added, removed, Below}
 use Rattle.model.specs.Effective.{effective}
 use Rattle.model.specs.State.{State, empty, tieOf}
 use Rattle.model.specs.Refusals.{_if_, tooLong, wrongFirstLine, wrongTable, lineTests, lineRefusal, overLimits, undeclared, wrongSort, repeated, full, tieCloses, circular, plusLine, minusLine, signedLine, editTests, editRefusal}
@@ -131,29 +131,29 @@ module _ (S : State) (line : Bytes) where
   pub refused-edit : (Edits.edit S line .number ≡ 0 → ⊥) → (Edits.edit S line .state ≡ S) × (Edits.edit S line .changed ≡ 0)
   refused-edit = edit-cases (λ r. (r .number ≡ 0 → ⊥) → (r .state ≡ S) × (r .changed ≡ 0)) (λ e n. absurd (n refl)) (λ n m. (refl, refl))
 
--- ---- an edit changes ties of the edited holder alone
+-- ---- an edit changes ties of the editedHolder holder alone
 
-added-differs : (t : Tie) (T : Ties) → DifferAt (edited t) T (added t T)
+added-differs : (t : Tie) (T : Ties) → DifferAt (editedHolder t) T (added t T)
 added-differs t T u n = ap (λ (b : Bool). b || T u) (other-tie t u n)
 
-removed-differs : (t : Tie) (T : Ties) → DifferAt (edited t) T (removed t T)
+removed-differs : (t : Tie) (T : Ties) → DifferAt (editedHolder t) T (removed t T)
 removed-differs t T u n = ap (λ (b : Bool). not b && T u) (other-tie t u n)
 
--- an edit changes the set of no holder that is neither the edited one nor below it
+-- an edit changes the set of no holder that is neither the editedHolder one nor below it
 pub edit-elsewhere : (S : State) (line : Bytes) (k p : ℕ)
-    → ((t : Tie) → editedTie S line ≡ some t → (k ≡ edited t → ⊥) × (Below (S .ties) k (edited t) → ⊥))
+    → ((t : Tie) → editedTie S line ≡ some t → (k ≡ editedHolder t → ⊥) × (Below (S .ties) k (editedHolder t) → ⊥))
     → effective (holderNumbersOf (S .declared)) (Edits.edit S line .state .ties) k p ≡ effective (holderNumbersOf (S .declared)) (S .ties) k p
 edit-elsewhere S line k p elsewhere =
     edit-cases S line (λ r. effective (holderNumbersOf (S .declared)) (r .state .ties) k p ≡ effective (holderNumbersOf (S .declared)) (S .ties) k p)
     (λ e. go (adds line) (editedTie S line) elsewhere) (λ n. refl)
   where
-    go : (plus : Bool) (o : Option Tie) → ((t : Tie) → o ≡ some t → (k ≡ edited t → ⊥) × (Below (S .ties) k (edited t) → ⊥))
+    go : (plus : Bool) (o : Option Tie) → ((t : Tie) → o ≡ some t → (k ≡ editedHolder t → ⊥) × (Below (S .ties) k (editedHolder t) → ⊥))
         → effective (holderNumbersOf (S .declared)) (editedTies plus o (S .ties)) k p ≡ effective (holderNumbersOf (S .declared)) (S .ties) k p
     go plus none f = refl
     go true (some t) f =
-        same-elsewhere (holderNumbersOf (S .declared)) (S .ties) (added t (S .ties)) (edited t) (added-differs t (S .ties)) k p (f t refl .0) (f t refl .1)
+        same-elsewhere (holderNumbersOf (S .declared)) (S .ties) (added t (S .ties)) (editedHolder t) (added-differs t (S .ties)) k p (f t refl .0) (f t refl .1)
     go false (some t) f =
-        same-elsewhere (holderNumbersOf (S .declared)) (S .ties) (removed t (S .ties)) (edited t) (removed-differs t (S .ties)) k p (f t refl .0) (f t refl .1)
+        same-elsewhere (holderNumbersOf (S .declared)) (S .ties) (removed t (S .ties)) (editedHolder t) (removed-differs t (S .ties)) k p (f t refl .0) (f t refl .1)
 
 -- ---- calls
 

@@ -47,6 +47,7 @@ pub mod Ledger
 pub mod Reached
 pub mod Gate
 pub mod Fallbacks
+pub mod OneType
 -- The numbers a caller may meet.
 pub mod Refusals
 pub mod Accepted

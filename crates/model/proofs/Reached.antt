@@ -14,7 +14,7 @@ use Rattle.model.specs.Notation.{if_then_else_, count, below}
 use Rattle.model.specs.Limits.{holderNumbers, pairLimit, tableWords}
 use Rattle.model.specs.Bytes.{Bytes}
 use Rattle.model.specs.Declarations.{holderNumbersOf}
-use Rattle.model.specs.Ties.{Tie, Ties, edited, added, removed, Below, isBelow}
+use Rattle.model.specs.Ties.{Tie, Ties, editedHolder, added, removed, Below, isBelow}
 use Rattle.model.specs.Effective.{effective}
 use Rattle.model.specs.Table.{effectiveSet, table}
 use Rattle.model.specs.State.{State, empty}
@@ -88,8 +88,8 @@ module _ {S : State} (reached : Reached S) where
   pub is-below : (h g : ℕ) → (isBelow (holderNumbersOf (S .declared)) (S .ties) h g ≡ true) ↔ Below (S .ties) h g
   is-below = Chains.is-below (holderNumbersOf (S .declared)) (S .ties) (among standing) (standing .acyclic)
 
-  -- a tie more or one less changes the set of no holder but the edited one and those below it
-  pub same-elsewhere : (t : Tie) (k p : ℕ) → (k ≡ edited t → ⊥) → isBelow (holderNumbersOf (S .declared)) (S .ties) k (edited t) ≡ false
+  -- a tie more or one less changes the set of no holder but the editedHolder one and those below it
+  pub same-elsewhere : (t : Tie) (k p : ℕ) → (k ≡ editedHolder t → ⊥) → isBelow (holderNumbersOf (S .declared)) (S .ties) k (editedHolder t) ≡ false
       → (effectiveSet (S .declared) (added t (S .ties)) k p ≡ effectiveSet (S .declared) (S .ties) k p)
       × (effectiveSet (S .declared) (removed t (S .ties)) k p ≡ effectiveSet (S .declared) (S .ties) k p)
   unfolding effectiveSet
@@ -98,11 +98,11 @@ module _ {S : State} (reached : Reached S) where
     elsewhere (removed t (S .ties)) (λ u n. ap (λ (b : Bool). not b && S .ties u) (other-tie t u n)),
   )
     where
-      elsewhere : (U : Ties) → DifferAt (edited t) (S .ties) U
+      elsewhere : (U : Ties) → DifferAt (editedHolder t) (S .ties) U
           → effective (holderNumbersOf (S .declared)) U k p ≡ effective (holderNumbersOf (S .declared)) (S .ties) k p
       elsewhere U differ =
-          Effective.same-elsewhere (holderNumbersOf (S .declared)) (S .ties) U (edited t) differ k p other
-          (λ c. true≢false (sym (is-below k (edited t) .1 c) ∙ no-chain))
+          Effective.same-elsewhere (holderNumbersOf (S .declared)) (S .ties) U (editedHolder t) differ k p other
+          (λ c. true≢false (sym (is-below k (editedHolder t) .1 c) ∙ no-chain))
 
   -- "the number of holders whose stored set changed": those whose four words are others in the table behind the edit
   pub edit-count : (line : Bytes) → edit S line .changed ≡ count (setChanged (tableOf S) (tableOf (edit S line .state))) (below holderNumbers)

@@ -16,7 +16,7 @@ use Rattle.model.specs.Block.{Block, readBlock}
 use Rattle.model.specs.State.{State}
 use Rattle.model.specs.Refusals.{Test, _if_, first, lineTests, lineRefusal, editTests, editRefusal, badBlock, requestTests, requestRefusal}
 use Rattle.model.specs.Edits.{edit}
-use Rattle.model.specs.Decision.{Decision, permit, deny, undefined, refused, isTrue, isUndef, decided, judged, verdicts, decide}
+use Rattle.model.specs.Decision.{Decision, permit, deny, undefined, refused, isTrue, isUndef, decisionBy, judged, verdicts, decide}
 use Rattle.model.proofs.Options.{parts, is-there}
 use Rattle.model.proofs.Lists.{or-left, or-right}
 use Rattle.model.proofs.Tests.{NoneHolds, allNumbered, none-holds, accepted}
@@ -192,8 +192,8 @@ pub edit-unmet : (S : State) (line : Bytes) → edit S line .number ≡ 0 → (n
 edit-unmet S line e n = condition-fails (editTests S line) (edit-accepted S line .0 e) n
 
 -- the rules' verdicts never refuse
-decided-not : {C : Type 0} (vs : List (ℕ × Truth)) (n : ℕ) → decided vs ≡ refused n → C
-unfolding decided
+decided-not : {C : Type 0} (vs : List (ℕ × Truth)) (n : ℕ) → decisionBy vs ≡ refused n → C
+unfolding decisionBy
 decided-not vs n e = go (filter (λ (k, t). isTrue t) vs) (any (λ (k, t). isUndef t) vs) e
   where
     go : {C : Type 0} (found : List (ℕ × Truth)) (undef : Bool)
@@ -240,20 +240,20 @@ request-lower-wins S block n e m l =
 
 -- a request that meets none of them gets the decision of the rules
 pub request-accepted : (S : State) (block : Bytes)
-    → NoneHolds (requestTests S block) ↔ ((b : Block) × (readBlock block ≡ some b) × (decide S block ≡ decided (verdicts S b)))
+    → NoneHolds (requestTests S block) ↔ ((b : Block) × (readBlock block ≡ some b) × (decide S block ≡ decisionBy (verdicts S b)))
 unfolding decide requestRefusal badBlock
 request-accepted S block = (into, λ (b, q, e). out (eqb r 0) refl b e)
   where
     r : ℕ
     r = requestRefusal S block
 
-    into : NoneHolds (requestTests S block) → (b : Block) × (readBlock block ≡ some b) × (decide S block ≡ decided (verdicts S b))
+    into : NoneHolds (requestTests S block) → (b : Block) × (readBlock block ≡ some b) × (decide S block ≡ decisionBy (verdicts S b))
     into h =
         let (b, q) = is-there (readBlock block) (h .0) in
         let zero′ = eq-eqb r 0 (accepted (requestTests S block) h) in
         (b, q, ap (λ (c : Bool). if c then judged S (readBlock block) else refused r) zero′ ∙ ap (judged S) q)
 
-    out : (c : Bool) → eqb r 0 ≡ c → (b : Block) → (if c then judged S (readBlock block) else refused r) ≡ decided (verdicts S b)
+    out : (c : Bool) → eqb r 0 ≡ c → (b : Block) → (if c then judged S (readBlock block) else refused r) ≡ decisionBy (verdicts S b)
         → NoneHolds (requestTests S block)
     out true z b e = none-holds (requestTests S block) refl (eqb-true r 0 z)
     out false z b e = decided-not (verdicts S b) r (sym e)

@@ -15,7 +15,7 @@ use Rattle.model.specs.Bytes.{Bytes, same}
 use Rattle.model.specs.Attributes.{sourceWord, sources, sameSource}
 use Rattle.model.specs.Atoms.{Atom, sameAtom}
 use Rattle.model.specs.Lines.{Line, attr, op, atom, holder, parent, member, value, rule}
-use Rattle.model.specs.Declarations.{Declarations, Pair, Holder, Sort, sortWord, isSort, isNamed, holderNumber, sortOf, sourceFor, parentSort, groupSort, pairNumber, isHolder, holderNumbersOf, isGroup}
+use Rattle.model.specs.Declarations.{Declarations, Pair, Holder, Sort, sortWord, isSort, sameSourceAndName, holderNumber, sortOf, sourceFor, parentSort, groupSort, pairNumber, isHolder, holderNumbersOf, isGroup}
 use Rattle.model.specs.Ties.{Tie, Ties, added, removed, up, Acyclic}
 use Rattle.model.specs.State.{State, empty, tieOf, tied, declare, after}
 use Rattle.model.specs.Refusals.{fits, wrongSort, tieCloses, circular}
@@ -51,8 +51,8 @@ sorts-fit above D lower upper h g e p q =
 pair-fits : (D : Declarations) (h : ℕ) (s : Sort) (n : Bytes) (a : Atom) (p : ℕ) → sortOf D h ≡ some s → pairNumber D (sourceFor s) n a ≡ some p → PairFits D h p
 unfolding pairNumber
 pair-fits D h s n a p e q =
-    let r = place-nth (λ x. isNamed (x .source) (x .name) (sourceFor s) n && sameAtom (x .atom) a) (D .pairs) p q in
-    let named = parts (isNamed (r .0 .source) (r .0 .name) (sourceFor s) n) (sameAtom (r .0 .atom) a) (r .2) .0 in
+    let r = place-nth (λ x. sameSourceAndName (x .source) (x .name) (sourceFor s) n && sameAtom (x .atom) a) (D .pairs) p q in
+    let named = parts (sameSourceAndName (r .0 .source) (r .0 .name) (sourceFor s) n) (sameAtom (r .0 .atom) a) (r .2) .0 in
     record {
       sort = s;
       pair = r .0;

@@ -5,7 +5,7 @@ use mathlib.Core.Logic.{_⊎_, inl, inr, ⊎-elim}
 use mathlib.Core.Bool.{true, false, not}
 use lib.Dec.{eqb}
 use borrow.Author.Tests.{eq-eqb, eqb-true}
-use Rattle.model.specs.Ties.{Tie, Ties, edited, sameTie, added, removed, up}
+use Rattle.model.specs.Ties.{Tie, Ties, editedHolder, sameTie, added, removed, up}
 use Rattle.model.proofs.WordTables.{false-is-true}
 use Rattle.model.proofs.Options.{parts, both}
 use Rattle.model.proofs.Lists.{true-or-false, or-cases, or-left, or-right}
@@ -27,8 +27,8 @@ tie-refl (Tie.member a b) = both (eq-eqb a a refl) (eq-eqb b b refl)
 tie-refl (Tie.value a b) = both (eq-eqb a a refl) (eq-eqb b b refl)
 
 -- a tie of another holder is another tie
-pub other-tie : (t u : Tie) → (edited u ≡ edited t → ⊥) → sameTie t u ≡ false
-other-tie t u n = ⊎-elim (λ e. absurd (n (ap edited (sym (same-tie t u e))))) (λ e. e) (true-or-false (sameTie t u))
+pub other-tie : (t u : Tie) → (editedHolder u ≡ editedHolder t → ⊥) → sameTie t u ≡ false
+other-tie t u n = ⊎-elim (λ e. absurd (n (ap editedHolder (sym (same-tie t u e))))) (λ e. e) (true-or-false (sameTie t u))
 
 pub added-cases : (t : Tie) (T : Ties) (u : Tie) → added t T u ≡ true → (t ≡ u) ⊎ (T u ≡ true)
 added-cases t T u e = ⊎-elim (λ s. inl (same-tie t u s)) inr (or-cases (sameTie t u) (T u) e)

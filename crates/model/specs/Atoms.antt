@@ -17,6 +17,7 @@ pub data Atom : Type 0 where
   str : Bytes → Atom
   bool : Bool → Atom
 
+-- the type of an atom
 abbrev pub typeOf : Atom → AtomType
 typeOf (int n) = AtomType.int
 typeOf (str s) = AtomType.str
@@ -43,6 +44,7 @@ abbrev pub digitsWithin : ℕ → ℕ → Bytes
 digitsWithin zero n = []
 digitsWithin (suc f) n = if ltb n 10 then (code "0" + n) ∷ [] else digitsWithin f (n / 10) ++ (code "0" + n % 10) ∷ []
 
+-- "Integers below are decimal"
 unfoldable pub decimal : ℕ → Bytes
 decimal n = digitsWithin (suc n) n
 
@@ -57,6 +59,7 @@ isText s = leb (length s) textBytes && all textByte s
 abbrev pub quoted : Bytes → Bytes
 quoted s = bytes "\"" ++ s ++ bytes "\""
 
+-- the text of a str between its quotes
 unfoldable pub readStr : Bytes → Option Bytes
 readStr s = do
   r ← behind (bytes "\"") s
@@ -68,6 +71,7 @@ abbrev pub boolWord : Bool → Bytes
 boolWord true = bytes "TRUE"
 boolWord false = bytes "FALSE"
 
+-- the bool that a word is
 unfoldable pub readBool : Bytes → Option Bool
 readBool s = oneOf boolWord (true ∷ false ∷ []) s
 
@@ -86,6 +90,7 @@ isAtom (int n) = leb n largestInt
 isAtom (str s) = isText s
 isAtom (bool b) = true
 
+-- whether two atoms are the same
 abbrev pub sameAtom : Atom → Atom → Bool
 sameAtom (int m) (int n) = eqb m n
 sameAtom (int m) (str t) = false

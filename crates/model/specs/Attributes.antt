@@ -29,6 +29,7 @@ sameSource a b = same (sourceWord a) (sourceWord b)
 abbrev pub blockSources : List Source
 blockSources = env ∷ connect ∷ []
 
+-- "env or connect"
 abbrev pub fromBlock : Source → Bool
 fromBlock s = any (sameSource s) blockSources
 

@@ -14,6 +14,7 @@ pub record Entry : Type 0 where
   pub attribute : ℕ
   pub value : ℕ
 
+-- "Byte 1: user's holder number. 2: object's. 3: operation. 4-7: activation mask", and the entries
 pub record Block : Type 0 where
   pub user : ℕ
   pub object : ℕ

@@ -4,11 +4,12 @@ use mathlib.Core.Bool.{Bool, true, false}
 use mathlib.Core.List.{List, [], _∷_}
 use lib.Dec.{leb, ltb}
 use Rattle.model.specs.Notation.{if_then_else_, any, all}
-use Rattle.model.specs.Attributes.{sameType}
+use Rattle.model.specs.Attributes.{AtomType, sameType}
 use Rattle.model.specs.Atoms.{Atom, typeOf, sameAtom}
 use Rattle.model.specs.Truth.{Truth, truth, NOT}
 use Rattle.model.specs.Tokens.{Operator}
 
+-- "is among its values"
 abbrev pub among : List Atom → Atom → Bool
 among values a = any (sameAtom a) values
 
@@ -20,7 +21,7 @@ common left right = any (among right) left
 abbrev pub subset : List Atom → List Atom → Bool
 subset left right = all (among right) left
 
--- "some left and some right value are so ordered"; "an order between non-integers" gives UNDEF
+-- two ints so ordered; other values are not
 abbrev pub ordered : (ℕ → ℕ → Bool) → Atom → Atom → Bool
 ordered before (Atom.int m) (Atom.int n) = before m n
 ordered before (Atom.int m) (Atom.str t) = false
@@ -28,31 +29,33 @@ ordered before (Atom.int m) (Atom.bool b) = false
 ordered before (Atom.str s) b = false
 ordered before (Atom.bool a) b = false
 
+-- "some left and some right value are so ordered"
 abbrev pub someOrdered : (ℕ → ℕ → Bool) → List Atom → List Atom → Truth
 someOrdered before left right = truth (any (λ a. any (ordered before a) right) left)
 
-abbrev pub order : (ℕ → ℕ → Bool) → Atom → List Atom → List Atom → Truth
-order before (Atom.int n) left right = someOrdered before left right
-order before (Atom.str s) left right = Truth.UNDEF
-order before (Atom.bool b) left right = Truth.UNDEF
+-- "an order between non-integers" gives UNDEF
+abbrev pub order : (ℕ → ℕ → Bool) → AtomType → List Atom → List Atom → Truth
+order before AtomType.int left right = someOrdered before left right
+order before AtomType.str left right = Truth.UNDEF
+order before AtomType.bool left right = Truth.UNDEF
 
--- the operators, on present operands of one type, that of the atom a
-abbrev pub compareLike : Operator → Atom → List Atom → List Atom → Truth
-compareLike Operator.equal a left right = truth (common left right)
-compareLike Operator.IN a left right = truth (common left right)
-compareLike Operator.unequal a left right = NOT (truth (common left right))
-compareLike Operator.SUBSET a left right = truth (subset left right)
-compareLike Operator.less a left right = order (λ m n. ltb m n) a left right
-compareLike Operator.atMost a left right = order (λ m n. leb m n) a left right
-compareLike Operator.greater a left right = order (λ m n. ltb n m) a left right
-compareLike Operator.atLeast a left right = order (λ m n. leb n m) a left right
+-- the operators, on present operands of the type t: "`=` and IN: a common value exists. `!=`: the negation of `=`"
+abbrev pub compareLike : Operator → AtomType → List Atom → List Atom → Truth
+compareLike Operator.equal t left right = truth (common left right)
+compareLike Operator.IN t left right = truth (common left right)
+compareLike Operator.unequal t left right = NOT (truth (common left right))
+compareLike Operator.SUBSET t left right = truth (subset left right)
+compareLike Operator.less t left right = order (λ m n. ltb m n) t left right
+compareLike Operator.atMost t left right = order (λ m n. leb m n) t left right
+compareLike Operator.greater t left right = order (λ m n. ltb n m) t left right
+compareLike Operator.atLeast t left right = order (λ m n. leb n m) t left right
 
--- "Absent operands, different types, and an order between non-integers give UNDEF"
+-- "Absent operands, different types, and an order between non-integers give UNDEF". The values of an operand have one type, that of its first
 unfoldable pub compareSets : Operator → List Atom → List Atom → Truth
 compareSets o [] right = Truth.UNDEF
 compareSets o (a ∷ left) [] = Truth.UNDEF
 compareSets o (a ∷ left) (b ∷ right) =
-    if sameType (typeOf a) (typeOf b) then compareLike o a (a ∷ left) (b ∷ right) else Truth.UNDEF
+    if sameType (typeOf a) (typeOf b) then compareLike o (typeOf a) (a ∷ left) (b ∷ right) else Truth.UNDEF
 
 -- "A lone attribute: UNDEF if absent or not bool, else whether TRUE is among its values"
 unfoldable pub loneValue : List Atom → Truth

@@ -19,7 +19,7 @@ pub data Decision : Type 0 where
   deny undefined : Decision
   refused : ℕ → Decision
 
--- "0 permit, 64 deny, 65 undefined, else the refusal": the number of each case, and the values that it carries
+-- "a definition provides this paper's number and values for each of the enum's cases": "0 permit, 64 deny, 65 undefined, else the refusal"
 abbrev pub numberAndValues : Decision → ℕ × List ℕ
 numberAndValues (permit rule) = (0, rule ∷ [])
 numberAndValues deny = (64, [])
@@ -32,6 +32,7 @@ verdicts S b =
     map (λ (k, r). (k, meaningOf (readBy S b) (r .tokens)))
     (filter (λ (k, r). nth (S .declared .operations) (b .operation) is same (r .operation)) (numbered (S .declared .rules)))
 
+-- whether a verdict is TRUE, and whether it is UNDEF
 abbrev pub isTrue : Truth → Bool
 isTrue Truth.TRUE = true
 isTrue Truth.UNDEF = false
@@ -47,13 +48,13 @@ abbrev pub withoutPermit : List (ℕ × Truth) → Decision
 withoutPermit vs = if any (λ (k, t). isUndef t) vs then undefined else deny
 
 -- "Permit, with the lowest TRUE rule number": verdicts stand in the order of their numbers
-unfoldable pub decided : List (ℕ × Truth) → Decision
-decided vs = elim (filter (λ (k, t). isTrue t) vs) [ [] ↦ withoutPermit vs | v ∷ rest ↦ permit (v .0) ]
+unfoldable pub decisionBy : List (ℕ × Truth) → Decision
+decisionBy vs = elim (filter (λ (k, t). isTrue t) vs) [ [] ↦ withoutPermit vs | v ∷ rest ↦ permit (v .0) ]
 
--- the decision on a block that is not refused
+-- the decision on a block that is not refused; what is no block is refused with 15 before, so the clause for none is never met
 abbrev pub judged : State → Option Block → Decision
 judged S none = refused 15
-judged S (some b) = decided (verdicts S b)
+judged S (some b) = decisionBy (verdicts S b)
 
 -- a request
 unfoldable pub decide : State → Bytes → Decision

@@ -26,6 +26,7 @@ pub record Pair : Type 0 where
 pub data Sort : Type 0 where
   admin ugroup ogroup user object : Sort
 
+-- a holder, by its sort and NAME
 pub record Holder : Type 0 where
   pub sort : Sort
   pub name : Bytes
@@ -53,21 +54,25 @@ nothingDeclared = record {
   rules = [];
 }
 
--- "Unique by SRC and NAME"
-abbrev pub isNamed : Source → Bytes → Source → Bytes → Bool
-isNamed s n t m = sameSource s t && same n m
+-- "Unique by SRC and NAME": whether two pairs of SRC and NAME are the same
+abbrev pub sameSourceAndName : Source → Bytes → Source → Bytes → Bool
+sameSourceAndName s n t m = sameSource s t && same n m
 
+-- attributes are "numbered from 0"
 unfoldable pub attributeNumber : Declarations → Source → Bytes → Option ℕ
-attributeNumber D s n = place (λ a. isNamed (a .source) (a .name) s n) (D .attributes)
+attributeNumber D s n = place (λ a. sameSourceAndName (a .source) (a .name) s n) (D .attributes)
 
+-- the attribute of that SRC and NAME
 unfoldable pub attributeOf : Declarations → Source → Bytes → Option Attribute
 attributeOf D s n = attributeNumber D s n >>= nth (D .attributes)
 
+-- so are operations
 unfoldable pub operationNumber : Declarations → Bytes → Option ℕ
 operationNumber D n = place (same n) (D .operations)
 
+-- and pairs
 unfoldable pub pairNumber : Declarations → Source → Bytes → Atom → Option ℕ
-pairNumber D s n a = place (λ p. isNamed (p .source) (p .name) s n && sameAtom (p .atom) a) (D .pairs)
+pairNumber D s n a = place (λ p. sameSourceAndName (p .source) (p .name) s n && sameAtom (p .atom) a) (D .pairs)
 
 -- "Names are unique among holders"
 unfoldable pub holderNumber : Declarations → Bytes → Option ℕ
@@ -77,9 +82,11 @@ holderNumber D n = place (λ h. same (h .name) n) (D .holders)
 abbrev pub holderOf : Declarations → ℕ → Option Holder
 holderOf D k = nth (D .holders) k
 
+-- and its sort
 unfoldable pub sortOf : Declarations → ℕ → Option Sort
 sortOf D k = holderOf D k >>= λ h. some (h .sort)
 
+-- whether a number is that of a holder
 abbrev pub isHolder : Declarations → ℕ → Bool
 isHolder D k = not (isNone (holderOf D k))
 
@@ -104,6 +111,7 @@ groupSorts = Sort.ugroup ∷ Sort.ogroup ∷ []
 abbrev pub isGroup : Sort → Bool
 isGroup s = any (isSort s) groupSorts
 
+-- how many holders are groups: "at most 64 groups"
 unfoldable pub groups : Declarations → ℕ
 groups D = count (λ h. isGroup (h .sort)) (D .holders)
 

@@ -21,7 +21,7 @@ editedTie S line = signedLine line >>= readLine >>= tieOf (S .declared)
 abbrev pub adds : Bytes → Bool
 adds line = not (isNone (plusLine line))
 
--- "`+t` accepted adds t to T, `-t` removes it"
+-- "`+t` accepted adds t to T, `-t` removes it". An accepted edit has its tie: the clause for none is never met
 abbrev pub editedTies : Bool → Option Tie → Ties → Ties
 editedTies plus none T = T
 editedTies plus (some t) T = if plus then added t T else removed t T
@@ -46,9 +46,10 @@ accepting S line =
     let U = editedTies (adds line) (editedTie S line) (S .ties) in
     record { number = 0; changed = changes (S .declared) (S .ties) U; state = record { declared = S .declared; ties = U } }
 
--- "a refused edit … changes nothing", and its count is 0
+-- "a refused edit changes nothing"; its count is "0 if refused"
 abbrev pub refusing : State → Bytes → Edited
 refusing S line = record { number = editRefusal S line; changed = 0; state = S }
 
+-- an edit
 unfoldable pub edit : State → Bytes → Edited
 edit S line = if eqb (editRefusal S line) 0 then accepting S line else refusing S line

@@ -17,7 +17,7 @@ effectiveWithin zero hs T h p = false
 effectiveWithin (suc n) hs T h p = direct T h p || any (λ g. effectiveWithin n hs T g p) (ups hs T h)
 
 -- "effective(h): its own direct pairs together with those inherited from each parent (a group) or each group it is a member of (a user or
--- object), namely that parent's or group's effective pairs". A chain of ties that never comes back passes each of the holders hs at most once.
+-- object), namely that parent's or group's effective pairs"; the source's min_group "has no values", so nothing is added for it. A chain of ties that never comes back passes each of the holders hs at most once.
 unfoldable pub effective : List ℕ → Ties → ℕ → ℕ → Bool
 effective hs T h p = effectiveWithin (length hs) hs T h p
 

@@ -15,7 +15,7 @@ use Rattle.model.specs.Refusals.{signedLine}
 use Rattle.model.specs.Decision.{Decision, permit, deny, undefined, refused}
 use Rattle.model.specs.Ledger.{Call, Answer, loaded, edited, decided, step}
 
--- a line without its byte 10, if it has one
+-- a line without its byte 10, if it has one: "A last `end=` or `try=` line needs no byte 10"
 abbrev pub bare : Bytes → Bytes
 bare line = elim (content line) [ some l ↦ l | none ↦ line ]
 
@@ -42,7 +42,8 @@ hexPairs [] = some []
 hexPairs (x ∷ []) = none
 hexPairs (x ∷ y ∷ rest) = hexDigit x >>= λ h. hexDigit y >>= λ l. hexPairs rest >>= λ block. some ((16 * h + l) ∷ block)
 
--- "edit lines (those that begin with `+` or `-`) and `try=` with the block"; none for other lines
+-- "edit lines (those that begin with `+` or `-`) and `try=` with the block"; none for other lines. An edit is called with its line as it stands: "a last
+-- edit line without one is 4"
 unfoldable pub callOf : Bytes → Option Call
 callOf line =
     (signedLine line >>= λ l. some (Call.edit line))

@@ -19,6 +19,7 @@ pub data Var : Type 0 where
   constants : List Atom → Var
   attribute : Source → Bytes → Var
 
+-- "A term is `var op var` …, or an optional NOT before TRUE, FALSE, UNDEF, an attribute or a parenthesised policy. Terms join by AND and OR"
 pub data Policy : Type 0 where
   constant : Truth → Policy
   lone : Source → Bytes → Policy
@@ -69,10 +70,11 @@ pub data Obeys : Part → List Token → Policy → Type 0 where
   joined-by-or : {ts us : List Token} {p q : Policy} → Obeys conjunction ts p → Obeys policy us q
       → Obeys policy (ts ++ Token.mark Mark.OR ∷ us) (or p q)
 
--- the tokens behind a mark at the front
+-- whether two marks are the same
 abbrev pub isMark : Mark → Mark → Bool
 isMark a b = same (markWord a) (markWord b)
 
+-- the tokens behind a mark at the front
 abbrev pub behindMark : Mark → List Token → Option (List Token)
 behindMark m [] = none
 behindMark m (t ∷ ts) = asMark t >>= λ k. onlyIf (isMark m k) ts
@@ -189,11 +191,12 @@ depth (and p q) = max (depth p) (depth q)
 depth (or p q) = max (depth p) (depth q)
 depth (parenthesised p) = suc (depth p)
 
--- "set `{a, b}` of 1 to 8 atoms": the atoms of the largest set, counted as written
+-- the atoms of a var, counted as written
 abbrev pub atomsIn : Var → ℕ
 atomsIn (constants l) = length l
 atomsIn (attribute s n) = 0
 
+-- "set `{a, b}` of 1 to 8 atoms": the atoms of the largest set
 abbrev pub largestSet : Policy → ℕ
 largestSet (constant t) = 0
 largestSet (lone s n) = 0

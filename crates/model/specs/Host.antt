@@ -9,7 +9,7 @@ use Rattle.model.specs.Load.{load}
 use Rattle.model.specs.Ledger.{tableAfter}
 use Rattle.model.specs.Decision.{numberAndValues, decide}
 
--- "takes file, block and table, loads, then decides"; a refused load gives its number
+-- "One call for hosts in C takes file, block and table, loads, then decides"; a refused load gives its number
 unfoldable pub hostCall : Bytes → Bytes → ℕ → ℕ
 hostCall file block words =
     let l = load file in

@@ -7,6 +7,7 @@ use lib.ListN.{length}
 use Rattle.model.specs.Notation.{before, any}
 use Rattle.model.specs.Bytes.{Bytes, bytes, same, oneOf}
 
+-- "lines `key=fields`"
 pub data Key : Type 0 where
   attr op atom ugroup ogroup user object parent member value rule : Key
 
@@ -27,6 +28,7 @@ keyWord member = bytes "member"
 keyWord value = bytes "value"
 keyWord rule = bytes "rule"
 
+-- the key that bytes are, if they are one
 abbrev pub readKey : Bytes → Option Key
 readKey s = oneOf keyWord keys s
 

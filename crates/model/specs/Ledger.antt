@@ -17,15 +17,16 @@ pub data Call : Type 0 where
 
 -- "the answer with all it carries (number, line, count, decision, rule)"
 pub data Answer : Type 0 where
-  loaded : ℕ → ℕ → Answer
-  edited : ℕ → ℕ → Answer
+  loaded : (number line : ℕ) → Answer
+  edited : (number count : ℕ) → Answer
   decided : Decision → Answer
 
+-- what a call answers, and the state it leaves
 pub record Step : Type 0 where
   pub answer : Answer
   pub state : State
 
--- "1: table not 1,024 words, any call. … a load gives the empty book, an edit keeps its own"
+-- "1: table not 1,024 words, any call. … a load gives the empty book, an edit keeps its own"; "2 has line 0, as has 1"
 abbrev pub withoutTable : State → Call → Step
 withoutTable S (load file) = record { answer = loaded 1 0; state = empty }
 withoutTable S (edit line) = record { answer = edited 1 0; state = S }
@@ -37,7 +38,7 @@ withTable S (load file) = let l = Load.load file in record { answer = loaded (l 
 withTable S (edit line) = let e = Edits.edit S line in record { answer = edited (e .number) (e .changed); state = e .state }
 withTable S (request block) = record { answer = decided (decide S block); state = S }
 
--- one call, on a table of so many words
+-- one call, on a table of so many words. "Nothing else comes from book or table": "Refusals and answers are functions of D, T and what is fed"
 unfoldable pub step : ℕ → State → Call → Step
 step words S c = if wrongTable words then withoutTable S c else withTable S c
 
@@ -55,7 +56,7 @@ pub record Outcome : Type 0 where
 abbrev pub outcome : State → List ℕ → Call → Outcome
 outcome S words c = let s = step (length words) S c in record { answer = s .answer; words = tableAfter words (s .state); state = s .state }
 
--- the calls of a list, each in the state and on the table that the one before it left
+-- "All its calls use that table, and each edit and request gets the book that the last load or edit gave back"
 abbrev pub ledgerFrom : State → List ℕ → List Call → List Outcome
 ledgerFrom S words [] = []
 ledgerFrom S words (c ∷ calls) = let o = outcome S words c in o ∷ ledgerFrom (o .state) (o .words) calls

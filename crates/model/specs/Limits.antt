@@ -1,4 +1,4 @@
--- The figures of document 01, each named once.
+-- The limits and sizes of document 01, each named once.
 use Prim.Native.Nat.{ℕ, _+_}
 
 -- "At most 32,768 bytes. Lines end with byte 10 and have at most 255 bytes before it."

@@ -15,16 +15,16 @@ use Rattle.model.specs.Tokens.{Token, spelling, isToken, tokensOf, Spell
 use Rattle.model.specs.Grammar.{readPolicy}
 use Rattle.model.specs.Declarations.{Sort, sortWord, isSort}
 
--- the eleven kinds of lines; `holder` is those of the keys ugroup, ogroup, user and object
+-- the lines of the eleven keys; `holder` is those of the keys ugroup, ogroup, user and object
 pub data Line : Type 0 where
-  attr : Source → Bytes → AtomType → Line
-  op : Bytes → Line
-  atom : Source → Bytes → Atom → Line
-  holder : Sort → Bytes → Line
-  parent : Bytes → Bytes → Line
-  member : Bytes → Bytes → Line
-  value : Bytes → Bytes → Atom → Line
-  rule : Bytes → List Token → Line
+  attr : (source : Source) (name : Bytes) (type : AtomType) → Line
+  op : (name : Bytes) → Line
+  atom : (source : Source) (name : Bytes) (value : Atom) → Line
+  holder : (sort : Sort) (name : Bytes) → Line
+  parent : (child group : Bytes) → Line
+  member : (party group : Bytes) → Line
+  value : (holder name : Bytes) (value : Atom) → Line
+  rule : (operation : Bytes) (policy : List Token) → Line
 
 -- "`attr=SRC,NAME,TYPE`"
 unfoldable pub readAttr : Bytes → Option Line

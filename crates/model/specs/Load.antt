@@ -16,7 +16,7 @@ pub record Loaded : Type 0 where
   pub line : ℕ
   pub state : State
 
--- "with line number from 1 … Book empty"
+-- "with line number from 1 … Book empty, table all 0": the table of the empty state
 abbrev pub refusedAt : ℕ → ℕ → Loaded
 refusedAt number line = record { number = number; line = line; state = empty }
 
@@ -24,12 +24,12 @@ refusedAt number line = record { number = number; line = line; state = empty }
 abbrev pub keyOf : Bytes → Option Key
 keyOf line = framed line >>= λ (key, fields). some key
 
--- the state behind an accepted line
+-- the state behind an accepted line, which reads as one: the clause for none is never met
 abbrev pub stepped : State → Option Line → State
 stepped S none = S
 stepped S (some l) = after l S
 
--- "the first offending line of a file decides". n lines were read, the last of them with the key `previous`; the first line has none of the keys
+-- "A file is read as its lines one after another"; "the first offending line of a file decides". n lines were read, the last of them with the key `previous`; the first line has none of the keys
 unfoldable pub readOn : State → Option Key → ℕ → List Bytes → Loaded
 readOn S previous n [] = record { number = 0; line = n; state = S }
 readOn S previous n (l ∷ ls) =

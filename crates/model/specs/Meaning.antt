@@ -9,7 +9,7 @@ use Rattle.model.specs.Tokens.{Token}
 use Rattle.model.specs.Grammar.{Var, constants, attribute, Policy, constant, lone, compare, not, and, or, parenthesised, readPolicy}
 use Rattle.model.specs.Comparison.{compareSets, loneValue}
 
--- the values that each attribute, by SRC and NAME, has "in the set that is read"; none where it is absent
+-- the values that each attribute has, by SRC and NAME: "An attribute with no value in the set that is read is absent"
 abbrev pub Values : Type 0
 Values = Source → Bytes → List Atom
 
@@ -18,6 +18,7 @@ abbrev pub valuesOf : Values → Var → List Atom
 valuesOf read (constants l) = l
 valuesOf read (attribute s n) = read s n
 
+-- "The rules of the operation are evaluated": the value of a policy
 abbrev pub meaning : Values → Policy → Truth
 meaning read (constant t) = t
 meaning read (lone s n) = loneValue (read s n)

@@ -1,4 +1,5 @@
--- Notation: choice, partial results and lists. Nothing here comes from document 01; the definitions that do are written with these words.
+-- Notation: choice, partial results and lists. Nothing here comes from document 01; the definitions that do are written with these words. Of the words
+-- before a definition, `pub` says that other files use it; `abbrev`, `unfoldable` and `unfolding` matter to proofs alone.
 use Prim.Native.Nat.{ℕ, zero, suc}
 use mathlib.Core.Bool.{Bool, true, false}
 use mathlib.Core.List.{List, [], _∷_, _++_}
@@ -84,11 +85,12 @@ module _ {A : Type 0} where
   abbrev pub numbered : List A → List (ℕ × A)
   numbered xs = numberedFrom 0 xs
 
--- the list of what f gives for each element, and the lists that it gives one after another
+-- what f gives for each element
 abbrev pub map : {A B : Type 0} → (A → B) → List A → List B
 map f [] = []
 map f (x ∷ xs) = f x ∷ map f xs
 
+-- the lists that f gives for each element, one after another
 abbrev pub each : {A B : Type 0} → (A → List B) → List A → List B
 each f [] = []
 each f (x ∷ xs) = f x ++ each f xs

@@ -57,7 +57,7 @@ unframed line = isNone (framed line)
 unfoldable pub outOfOrder : Option Key → Bytes → Bool
 outOfOrder previous line = framed line is λ (key, fields). previous is λ p. ltb (rank key) (rank p)
 
--- "6: field count, SRC, TYPE, name, atom or policy malformed, the policy judged without the limits of 7"
+-- "6: field count, SRC, TYPE, name, atom or policy malformed, the policy judged without the limits of 7; `{}` and sets of two types are 6"
 unfoldable pub malformed : Bytes → Bool
 malformed line = framed line is λ (key, fields). isNone (readFields key fields)
 
@@ -106,7 +106,7 @@ wrongSort D (rule o ts) = false
 unfoldable pub stands : State → Line → Bool
 stands S l = tieOf (S .declared) l is S .ties
 
--- "10: already declared or standing"
+-- "10: already declared or standing"; of a rule "a repeat is allowed"
 abbrev pub repeated : State → Line → Bool
 repeated S (attr s n t) = not (isNone (attributeNumber (S .declared) s n))
 repeated S (op n) = not (isNone (operationNumber (S .declared) n))
@@ -152,6 +152,7 @@ lineTests S previous line =
     ∷ 12 if (l is circular S)
     ∷ [])
 
+-- "Lower numbers win within a line or call"
 unfoldable pub lineRefusal : State → Option Key → Bytes → ℕ
 lineRefusal S previous line = first (lineTests S previous line)
 
@@ -164,6 +165,7 @@ plusLine edit = behind (bytes "+") edit
 abbrev pub minusLine : Bytes → Option Bytes
 minusLine edit = behind (bytes "-") edit
 
+-- the line behind either sign
 abbrev pub signedLine : Bytes → Option Bytes
 signedLine edit = plusLine edit or-else minusLine edit
 
@@ -175,7 +177,8 @@ otherKey line = framed line is λ (key, fields). not (isTieKey key)
 unfoldable pub notStanding : State → Line → Bool
 notStanding S l = not (stands S l)
 
--- the tests of an edit; 13 "comes after 4, before the rest", "A `-` line never gets 10 or 12"
+-- the tests of an edit, 4 for "edit sign missing" too; 13 "comes after 4, before the rest", "A `-` line never gets 10 or 12". 5 and 11 are "file only", and 7
+-- is of rule lines, which get 13
 abbrev pub editTests : State → Bytes → List Test
 editTests S edit =
     let line = signedLine edit in
@@ -190,6 +193,7 @@ editTests S edit =
     ∷ 14 if ((minusLine edit >>= readLine) is notStanding S)
     ∷ [])
 
+-- the number of an edit; 0 where it is accepted
 unfoldable pub editRefusal : State → Bytes → ℕ
 editRefusal S edit = first (editTests S edit)
 

@@ -7,7 +7,7 @@ use Rattle.model.specs.Notation.{if_then_else_, _is_, map, each, filter,
 use Rattle.model.specs.Bytes.{Bytes}
 use Rattle.model.specs.Attributes.{Source, AtomType}
 use Rattle.model.specs.Atoms.{Atom}
-use Rattle.model.specs.Declarations.{Attribute, Pair, isNamed, attributeNumber}
+use Rattle.model.specs.Declarations.{Attribute, Pair, sameSourceAndName, attributeNumber}
 use Rattle.model.specs.Table.{effectiveSet}
 use Rattle.model.specs.State.{State}
 use Rattle.model.specs.Block.{Block, activated}
@@ -19,18 +19,18 @@ pairsOf S k = map (λ (p, pair). pair) (filter (λ (p, pair). effectiveSet (S .d
 
 -- the values that holder k has of an attribute
 unfoldable pub held : State → ℕ → Source → Bytes → List Atom
-held S k s n = map (λ pair. pair .atom) (filter (λ pair. isNamed (pair .source) (pair .name) s n) (pairsOf S k))
+held S k s n = map (λ pair. pair .atom) (filter (λ pair. sameSourceAndName (pair .source) (pair .name) s n) (pairsOf S k))
 
--- "a 32-bit value … (bool 0 or 1)"; no attribute of env or connect is str
+-- "a 32-bit value … (bool 0 or 1)"; "env and connect are never str", so the clause for str is never met
 abbrev pub entryValue : AtomType → ℕ → Atom
 entryValue AtomType.int v = Atom.int v
 entryValue AtomType.str v = Atom.int v
 entryValue AtomType.bool v = Atom.bool (eqb v 1)
 
--- the value that an entry gives to an attribute of that source and name, if it is its own
+-- the value of an entry, where its attribute has that SRC and NAME; else nothing
 abbrev pub given : Source → Bytes → ℕ → Option Attribute → List Atom
 given s n v none = []
-given s n v (some a) = if isNamed (a .source) (a .name) s n then entryValue (a .type) v ∷ [] else []
+given s n v (some a) = if sameSourceAndName (a .source) (a .name) s n then entryValue (a .type) v ∷ [] else []
 
 -- "Repeated attributes form a set"
 unfoldable pub entered : State → Block → Source → Bytes → List Atom

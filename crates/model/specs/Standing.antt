@@ -1,4 +1,5 @@
--- What holds of every state that calls leave: what each accepted line and edit made sure of.
+-- Not from document 01: what theorems and contracts say of every state that calls leave, as each accepted line and edit made sure of it. Such a state
+-- stands; document 01 says so of ties alone.
 use Prim.Native.Nat.{ℕ, suc, _≤_}
 use mathlib.Core.Path.{_≡_}
 use mathlib.Core.Bool.{Bool, true, false, _&&_}
@@ -13,8 +14,8 @@ use Rattle.model.specs.Attributes.{AtomType, fromBlock, sameType}
 use Rattle.model.specs.Atoms.{typeOf, isAtom, sameAtom}
 use Rattle.model.specs.Tokens.{isToken}
 use Rattle.model.specs.Grammar.{Policy, readPolicy, tooLarge}
-use Rattle.model.specs.Declarations.{Declarations, Attribute, Pair, Holder, Rule, Sort, isNamed, attributeOf, operationNumber, holderOf, sortOf, holderNumbersOf, groups, isSort, sourceFor, parentSort, groupSort}
-use Rattle.model.specs.Ties.{Tie, Ties, edited, Acyclic}
+use Rattle.model.specs.Declarations.{Declarations, Attribute, Pair, Holder, Rule, Sort, sameSourceAndName, attributeOf, operationNumber, holderOf, sortOf, holderNumbersOf, groups, isSort, sourceFor, parentSort, groupSort}
+use Rattle.model.specs.Ties.{Tie, Ties, editedHolder, Acyclic}
 use Rattle.model.specs.State.{State}
 use Rattle.model.specs.Refusals.{unknownName}
 
@@ -29,7 +30,7 @@ Unique {A} alike xs = (i j : ℕ) (x y : A) → nth xs i ≡ some x → nth xs j
 pub record AttributesStand (attributes : List Attribute) : Type 0 where
   pub named : Each (λ a. isName (a .name) ≡ true) attributes
   pub typed : Each (λ a. (fromBlock (a .source) && sameType (a .type) AtomType.str) ≡ false) attributes
-  pub unique : Unique (λ a b. isNamed (a .source) (a .name) (b .source) (b .name)) attributes
+  pub unique : Unique (λ a b. sameSourceAndName (a .source) (a .name) (b .source) (b .name)) attributes
   pub few : length attributes ≤ attributeLimit
 
 -- op: "at most 8"
@@ -46,9 +47,10 @@ pub record PairStands (D : Declarations) (p : Pair) : Type 0 where
   pub of-holders : fromBlock (p .source) ≡ false
   pub written : isAtom (p .atom) ≡ true
 
+-- all pairs
 pub record PairsStand (D : Declarations) : Type 0 where
   pub each : Each (PairStands D) (D .pairs)
-  pub unique : Unique (λ p q. isNamed (p .source) (p .name) (q .source) (q .name) && sameAtom (p .atom) (q .atom)) (D .pairs)
+  pub unique : Unique (λ p q. sameSourceAndName (p .source) (p .name) (q .source) (q .name) && sameAtom (p .atom) (q .atom)) (D .pairs)
   pub few : length (D .pairs) ≤ pairLimit
 
 -- holders: "Holder 0 is `admin`, always there. Others are numbered from 1 …, at most 255, of which at most 64 groups … Names are unique"
@@ -69,10 +71,12 @@ pub record RuleStands (D : Declarations) (r : Rule) : Type 0 where
   pub within : tooLarge policy ≡ false
   pub names-declared : any (unknownName D) (r .tokens) ≡ false
 
+-- all rules
 pub record RulesStand (D : Declarations) : Type 0 where
   pub each : Each (RuleStands D) (D .rules)
   pub few : length (D .rules) ≤ ruleLimit
 
+-- all that is declared
 pub record WellDeclared (D : Declarations) : Type 0 where
   pub attributes : AttributesStand (D .attributes)
   pub operations : OperationsStand (D .operations)
@@ -102,6 +106,7 @@ TieFits D (Tie.parent c g) = SortsFit parentSort D c g
 TieFits D (Tie.member p g) = SortsFit groupSort D p g
 TieFits D (Tie.value h p) = PairFits D h p
 
+-- the state
 pub record Standing (S : State) : Type 0 where
   pub declarations : WellDeclared (S .declared)
   pub ties-fit : (t : Tie) → S .ties t ≡ true → TieFits (S .declared) t
@@ -109,4 +114,4 @@ pub record Standing (S : State) : Type 0 where
 
 -- T and U differ in ties of the holder e alone
 abbrev pub DifferAt : ℕ → Ties → Ties → Type 0
-DifferAt e T U = (t : Tie) → (edited t ≡ e → ⊥) → U t ≡ T t
+DifferAt e T U = (t : Tie) → (editedHolder t ≡ e → ⊥) → U t ≡ T t

@@ -9,9 +9,9 @@ use Rattle.model.specs.Notation.{any, filter}
 
 -- "parent, member and value lines are ties", with holders and pairs by their numbers
 pub data Tie : Type 0 where
-  parent : ℕ → ℕ → Tie
-  member : ℕ → ℕ → Tie
-  value : ℕ → ℕ → Tie
+  parent : (child group : ℕ) → Tie
+  member : (party group : ℕ) → Tie
+  value : (holder pair : ℕ) → Tie
 
 abbrev pub sameTie : Tie → Tie → Bool
 sameTie (parent a b) (parent c d) = eqb a c && eqb b d
@@ -38,11 +38,11 @@ added t T u = sameTie t u || T u
 abbrev pub removed : Tie → Ties → Ties
 removed t T u = not (sameTie t u) && T u
 
--- "The edited holder is the first one named"
-abbrev pub edited : Tie → ℕ
-edited (parent child g) = child
-edited (member party g) = party
-edited (value h p) = h
+-- "The editedHolder holder is the first one named"
+abbrev pub editedHolder : Tie → ℕ
+editedHolder (parent child g) = child
+editedHolder (member party g) = party
+editedHolder (value h p) = h
 
 -- "each parent (a group) or each group it is a member of (a user or object)": one tie leads from h up to g
 abbrev pub up : Ties → ℕ → ℕ → Bool

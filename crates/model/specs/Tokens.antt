@@ -31,7 +31,7 @@ pub data Token : Type 0 where
   operator : Operator → Token
   mark : Mark → Token
 
--- what a token is, if it is such a one
+-- a name's source and name; none for another token
 abbrev pub asName : Token → Option (Source × Bytes)
 asName (name s n) = some (s, n)
 asName (int n) = none
@@ -40,7 +40,7 @@ asName (truth t) = none
 asName (operator o) = none
 asName (mark m) = none
 
--- "int or str constant"
+-- "int or str constant"; "TRUE and FALSE are no var, so no set holds them"
 abbrev pub asConstant : Token → Option Atom
 asConstant (name s n) = none
 asConstant (int n) = some (Atom.int n)
@@ -49,6 +49,7 @@ asConstant (truth t) = none
 asConstant (operator o) = none
 asConstant (mark m) = none
 
+-- a truth value; none for another token
 abbrev pub asTruth : Token → Option Truth
 asTruth (name s n) = none
 asTruth (int n) = none
@@ -57,6 +58,7 @@ asTruth (truth t) = some t
 asTruth (operator o) = none
 asTruth (mark m) = none
 
+-- an operator; none for another token
 abbrev pub asOperator : Token → Option Operator
 asOperator (name s n) = none
 asOperator (int n) = none
@@ -65,6 +67,7 @@ asOperator (truth t) = none
 asOperator (operator o) = some o
 asOperator (mark m) = none
 
+-- a mark; none for another token
 abbrev pub asMark : Token → Option Mark
 asMark (name s n) = none
 asMark (int n) = none

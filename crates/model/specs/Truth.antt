@@ -2,6 +2,7 @@
 use mathlib.Core.Bool.{Bool, true, false}
 use Rattle.model.specs.Bytes.{Bytes, bytes}
 
+-- "TRUE, FALSE, UNDEF"
 pub data Truth : Type 0 where
   FALSE UNDEF TRUE : Truth
 

@@ -38,8 +38,8 @@ abbrev pub valleyFile : Bytes
 valleyFile = lines valleyLines
 
 -- "Then `end=`, `try=01040500030000000100` `040a000000` (one line), `-parent=season,day`"
-abbrev pub valleySession : Bytes
-valleySession = valleyFile ++ lines ("end=" ∷ "try=01040500030000000100040a000000" ∷ "-parent=season,day" ∷ [])
+abbrev pub valleyInput : Bytes
+valleyInput = valleyFile ++ lines ("end=" ∷ "try=01040500030000000100040a000000" ∷ "-parent=season,day" ∷ [])
 
 -- "prints `load=0,27`, `try=permit,0`, `edit=0,2`"
 abbrev pub valleyPrinted : Bytes
@@ -79,7 +79,7 @@ behindEdit S line = edit S (lines (line ∷ [])) .state
 abbrev pub alone : String → Option Truth
 alone text = tokensOf (bytes text) >>= readPolicy >>= λ p. some (meaning (λ s n. []) p)
 
--- "Valley cases", A to L
+-- cases A to L "On the valley file", in order, a line each; G has two
 abbrev pub cases : List Case
 cases =
     map (λ k. getD (table (valley .declared) (valley .ties)) (4 * k) 0) (below 6) gives (0 ∷ 5 ∷ 15 ∷ 16 ∷ 15 ∷ 16 ∷ [])

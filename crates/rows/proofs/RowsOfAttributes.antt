@@ -13,11 +13,10 @@ use Rattle.model.specs.Notation.{nth}
 use Rattle.model.specs.Limits.{attributeLimit}
 use Rattle.model.specs.Bytes.{Bytes, same}
 use Rattle.model.specs.Names.{isName}
-use Rattle.model.specs.Attributes.{Source, sources, sourceWord, sameSource}
-use Rattle.model.specs.Declarations.{Declarations, Attribute, isNamed, attributeNumber}
-use Rattle.model.proofs.WordTables.{same-eq, same-refl, same-word, reads-source}
-use Rattle.model.proofs.Options.{parts, both}
+use Rattle.model.specs.Attributes.{Source, sameSource}
+use Rattle.model.specs.Declarations.{Declarations, Attribute, sameSourceAndName, attributeNumber}
 use Rattle.model.proofs.Lists.{nth-lt, lt-nth, place-nth}
+use Rattle.model.proofs.Declared.{named-eq}
 use Rattle.codes.specs.Codes.{sourceCode}
 use Rattle.codes.proofs.Codes.{source-some}
 use Rattle.text.specs.declared.Packed.{Packed}
@@ -30,16 +29,6 @@ use Rattle.rows.proofs.FirstPlaces.{place-none, place-first}
 -- the last of three tests, behind those that were passed
 pub last-test : (a b c d e f : ℕ) → a ≡ b → c ≡ d → eqb e f ≡ (eqb a b && (eqb c d && eqb e f))
 last-test a b c d e f p q = rw (eq-eqb a b p, eq-eqb c d q)
-
--- a source and a name are told by the test
-pub named-eq : (s : Source) (n : Bytes) (t : Source) (m : Bytes) → isNamed s n t m ≡ true → (s ≡ t) × (n ≡ m)
-named-eq s n t m e =
-    let (p, q) = parts (sameSource s t) (same n m) e in
-    (same-word sourceWord sources reads-source s t p, same-eq n m q)
-
-pub eq-named : (s : Source) (n : Bytes) (t : Source) (m : Bytes) → s ≡ t → n ≡ m → isNamed s n t m ≡ true
-eq-named s n t m p q =
-    both (ap (λ (u : Source). sameSource s u) (sym p) ∙ same-refl (sourceWord s)) (ap (same n) (sym q) ∙ same-refl n)
 
 source-same : (s t : Source) → eqb (sourceCode s) (sourceCode t) ≡ sameSource s t
 source-same Source.user Source.user = refl
@@ -79,7 +68,7 @@ both-words a b c d = go (eqb a b) (eqb c d)
 module _ (rows : List ℕ) (D : Declarations) (well : WellDeclared D) (ar : AttributeRows rows D)
     (s : Source) (n : Bytes) (name : isName n ≡ true) (source low high : ℕ) (from : source ≡ sourceCode s) (words : packedOf n ≡ record { low = low; high = high }) where
   -- a row has that source and name where its attribute has
-  row-named : (i : ℕ) (a : Attribute) → nth (D .attributes) i ≡ some a → rowNamed rows source low high i ≡ isNamed (a .source) (a .name) s n
+  row-named : (i : ℕ) (a : Attribute) → nth (D .attributes) i ≡ some a → rowNamed rows source low high i ≡ sameSourceAndName (a .source) (a .name) s n
   unfolding rowNamed
   row-named i a e =
       let r = ar .row i a e in
@@ -102,7 +91,7 @@ module _ (rows : List ℕ) (D : Declarations) (well : WellDeclared D) (ar : Attr
   pub number-none : ((i : ℕ) → i < attributeLimit → rowNamed rows source low high i ≡ false) → attributeNumber D s n ≡ none
   unfolding attributeNumber
   number-none f =
-      place-none (λ a. isNamed (a .source) (a .name) s n) (D .attributes)
+      place-none (λ a. sameSourceAndName (a .source) (a .name) s n) (D .attributes)
       (λ i a e. let l = nth-lt (D .attributes) i e in let w = ar .within in sym (row-named i a e) ∙ f i (omega arith))
 
   -- or the first of them whose row has
@@ -114,7 +103,7 @@ module _ (rows : List ℕ) (D : Declarations) (well : WellDeclared D) (ar : Attr
       go : Dec (k < length (D .attributes)) → attributeNumber D s n ≡ some k
       go (yes l) =
           let (a, e) = lt-nth (D .attributes) k l in
-          place-first (λ a. isNamed (a .source) (a .name) s n) (D .attributes) k a e (sym (row-named k a e) ∙ t) (λ i b l g. sym (row-named i b g) ∙ f i l)
+          place-first (λ a. sameSourceAndName (a .source) (a .name) s n) (D .attributes) k a e (sym (row-named k a e) ∙ t) (λ i b l g. sym (row-named i b g) ∙ f i l)
       go (no l) = absurd (true≢false (sym t ∙ row-other k (omega arith) h))
 
 -- the two answers of a search
@@ -138,7 +127,7 @@ module _ (rows : List ℕ) (source low high : ℕ) where
 pub number-small : (D : Declarations) (rows : List ℕ) → AttributeRows rows D → (s : Source) (n : Bytes) (k : ℕ) → attributeNumber D s n ≡ some k → k < attributeLimit
 unfolding attributeNumber
 number-small D rows ar s n k e =
-    let (a, f, t) = place-nth (λ a. isNamed (a .source) (a .name) s n) (D .attributes) k e in
+    let (a, f, t) = place-nth (λ a. sameSourceAndName (a .source) (a .name) s n) (D .attributes) k e in
     let l = nth-lt (D .attributes) k f in
     let w = ar .within in
     omega arith
@@ -147,8 +136,8 @@ number-small D rows ar s n k e =
 pub number-injective : (D : Declarations) (s t : Source) (n m : Bytes) (k : ℕ) → attributeNumber D s n ≡ some k → attributeNumber D t m ≡ some k → (s ≡ t) × (n ≡ m)
 unfolding attributeNumber
 number-injective D s t n m k e f =
-    let (a, g, p) = place-nth (λ a. isNamed (a .source) (a .name) s n) (D .attributes) k e in
-    let (b, h, q) = place-nth (λ a. isNamed (a .source) (a .name) t m) (D .attributes) k f in
+    let (a, g, p) = place-nth (λ a. sameSourceAndName (a .source) (a .name) s n) (D .attributes) k e in
+    let (b, h, q) = place-nth (λ a. sameSourceAndName (a .source) (a .name) t m) (D .attributes) k f in
     let z : a ≡ b = Option·some-injective a b (sym g ∙ h) in
     let (x, y) = named-eq (a .source) (a .name) s n p in
     let (u, v) = named-eq (b .source) (b .name) t m q in

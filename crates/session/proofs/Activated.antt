@@ -10,7 +10,7 @@ use lib.ListN.{length, getD}
 use borrow.Author.Tests.{lt-ltb}
 use Rattle.model.specs.Notation.{_is_, isEmpty, any, map, filter, below, nth}
 use Rattle.model.specs.Attributes.{Source, sameSource}
-use Rattle.model.specs.Declarations.{Declarations, Attribute, isNamed, attributeNumber}
+use Rattle.model.specs.Declarations.{Declarations, Attribute, sameSourceAndName, attributeNumber}
 use Rattle.model.specs.State.{State}
 use Rattle.model.specs.Block.{Block, activated}
 use Rattle.model.specs.Table.{effectiveSet}
@@ -24,7 +24,7 @@ use Rattle.text.specs.declared.Words.{Words}
 use Rattle.text.specs.Values.{atomWords}
 use Rattle.rows.specs.Rows.{AttributeRows, PairRows, isPairOf}
 use Rattle.rows.proofs.FirstPlaces.{place-first}
-use Rattle.rows.proofs.RowsOfAttributes.{eq-named}
+use Rattle.model.proofs.Declared.{eq-named}
 use Rattle.values.specs.Operands.{upFrom, chosen, pairWords}
 use Rattle.session.specs.Opened.{readsPair, mayRead, Opened}
 use Rattle.session.specs.Words.{heldWords, unheldWords}
@@ -86,11 +86,11 @@ module _ (S : State) (b : Block) (attributes pairs session : List ℕ) (declarat
     number-so : (a : Attribute) → nth (D .attributes) k ≡ some a → attributeNumber D (a .source) (a .name) ≡ some k
     unfolding attributeNumber
     number-so a at =
-        place-first (λ c. isNamed (c .source) (c .name) (a .source) (a .name)) (D .attributes) k a at
-        (eq-named (a .source) (a .name) (a .source) (a .name) refl refl) (λ i c l e. other i c l e (isNamed (c .source) (c .name) (a .source) (a .name)) refl)
+        place-first (λ c. sameSourceAndName (c .source) (c .name) (a .source) (a .name)) (D .attributes) k a at
+        (eq-named (a .source) (a .name) (a .source) (a .name) refl refl) (λ i c l e. other i c l e (sameSourceAndName (c .source) (c .name) (a .source) (a .name)) refl)
       where
         other : (i : ℕ) (c : Attribute) → i < k → nth (D .attributes) i ≡ some c
-            → (t : Bool) → isNamed (c .source) (c .name) (a .source) (a .name) ≡ t → isNamed (c .source) (c .name) (a .source) (a .name) ≡ false
+            → (t : Bool) → sameSourceAndName (c .source) (c .name) (a .source) (a .name) ≡ t → sameSourceAndName (c .source) (c .name) (a .source) (a .name) ≡ false
         other i c l e false q = q
         other i c l e true q = let z = declarations .attributes .unique i k c a e at q in absurd (omega arith)
 

@@ -15,14 +15,14 @@ use Rattle.model.specs.Limits.{largestInt}
 use Rattle.model.specs.Bytes.{Bytes}
 use Rattle.model.specs.Attributes.{Source, AtomType}
 use Rattle.model.specs.Atoms.{Atom, int, bool}
-use Rattle.model.specs.Declarations.{Attribute, isNamed}
+use Rattle.model.specs.Declarations.{Attribute, sameSourceAndName}
 use Rattle.model.specs.Block.{Entry, number, byteAt, valueAt, entriesOf}
 use Rattle.model.specs.Session.{given, entryValue}
 use Rattle.model.proofs.Lists.{all-cons, all-append}
 use Rattle.codes.specs.Codes.{typeCode}
 use Rattle.text.specs.declared.Words.{Words}
 use Rattle.text.specs.Values.{atomWords}
-use Rattle.rows.proofs.RowsOfAttributes.{named-eq, eq-named}
+use Rattle.model.proofs.Declared.{named-eq, eq-named}
 use Rattle.values.specs.Operands.{upFrom, chosen, entryWords, entriesFrom}
 use Rattle.values.proofs.Chosen.{filter-keep, filter-drop}
 
@@ -52,7 +52,7 @@ entry-words AtomType.bool v = refl
 
 module _ (attributes : List Attribute) (s : Source) (n : Bytes) where
   -- nothing is given to an attribute that is not there
-  nothing-given : ((i : ℕ) (b : Attribute) → nth attributes i ≡ some b → isNamed (b .source) (b .name) s n ≡ false)
+  nothing-given : ((i : ℕ) (b : Attribute) → nth attributes i ≡ some b → sameSourceAndName (b .source) (b .name) s n ≡ false)
       → (m v : ℕ) → given s n v (nth attributes m) ≡ []
   nothing-given f m v = go (nth attributes m) refl
     where
@@ -60,13 +60,13 @@ module _ (attributes : List Attribute) (s : Source) (n : Bytes) where
       go none e = refl
       go (some b) e = ap (λ (t : Bool). if t then entryValue (b .type) v ∷ [] else []) (f m b e)
 
-  pub nothing-entered : ((i : ℕ) (b : Attribute) → nth attributes i ≡ some b → isNamed (b .source) (b .name) s n ≡ false)
+  pub nothing-entered : ((i : ℕ) (b : Attribute) → nth attributes i ≡ some b → sameSourceAndName (b .source) (b .name) s n ≡ false)
       → (l : List Entry) → each (λ e. given s n (e .value) (nth attributes (e .attribute))) l ≡ []
   nothing-entered f [] = refl
   nothing-entered f (e ∷ l) = ap₂ (λ (x y : List Atom). x ++ y) (nothing-given f (e .attribute) (e .value)) (nothing-entered f l)
 
-  module _ (k : ℕ) (a : Attribute) (at : nth attributes k ≡ some a) (has : isNamed (a .source) (a .name) s n ≡ true)
-      (unique : (i j : ℕ) (b c : Attribute) → nth attributes i ≡ some b → nth attributes j ≡ some c → isNamed (b .source) (b .name) (c .source) (c .name) ≡ true → i ≡ j) where
+  module _ (k : ℕ) (a : Attribute) (at : nth attributes k ≡ some a) (has : sameSourceAndName (a .source) (a .name) s n ≡ true)
+      (unique : (i j : ℕ) (b c : Attribute) → nth attributes i ≡ some b → nth attributes j ≡ some c → sameSourceAndName (b .source) (b .name) (c .source) (c .name) ≡ true → i ≡ j) where
     -- an entry gives a value where its number is that of the attribute
     entry-own : (m v : ℕ) → m ≡ k → given s n v (nth attributes m) ≡ entryValue (a .type) v ∷ []
     entry-own m v e =
@@ -77,9 +77,9 @@ module _ (attributes : List Attribute) (s : Source) (n : Bytes) where
       where
         go : (o : Option Attribute) → nth attributes m ≡ o → given s n v o ≡ []
         go none e = refl
-        go (some b) e = named-not (isNamed (b .source) (b .name) s n) refl
+        go (some b) e = named-not (sameSourceAndName (b .source) (b .name) s n) refl
           where
-            named-not : (t : Bool) → isNamed (b .source) (b .name) s n ≡ t → (if isNamed (b .source) (b .name) s n then entryValue (b .type) v ∷ [] else []) ≡ []
+            named-not : (t : Bool) → sameSourceAndName (b .source) (b .name) s n ≡ t → (if sameSourceAndName (b .source) (b .name) s n then entryValue (b .type) v ∷ [] else []) ≡ []
             named-not false q = ap (λ (t : Bool). if t then entryValue (b .type) v ∷ [] else []) q
             named-not true q =
                 let (u, w) = named-eq (b .source) (b .name) s n q in

@@ -8,12 +8,12 @@ use mathlib.Core.Option.{Option, none, some, Option·some-injective}
 use lib.Dec.{eqb, leb}
 use lib.ListN.{length, getD}
 use borrow.Author.Tests.{eq-eqb, eqb-true, le-leb}
-use Rattle.model.specs.Notation.{_>>=_, if_then_else_, _is_, map, each, nth, place}
+use Rattle.model.specs.Notation.{if_then_else_, _is_, map, each, nth}
 use Rattle.model.specs.Limits.{largestInt}
 use Rattle.model.specs.Bytes.{Bytes}
 use Rattle.model.specs.Attributes.{Source, AtomType, fromBlock, sameType}
 use Rattle.model.specs.Atoms.{typeOf, isAtom}
-use Rattle.model.specs.Declarations.{Declarations, Attribute, Pair, isNamed, attributeNumber}
+use Rattle.model.specs.Declarations.{Declarations, Attribute, Pair, sameSourceAndName, attributeNumber}
 use Rattle.model.specs.Table.{effectiveSet}
 use Rattle.model.specs.State.{State}
 use Rattle.model.specs.Block.{Block, activated}
@@ -25,9 +25,10 @@ use Rattle.bits.specs.Bits.{holds}
 use Rattle.codes.specs.Codes.{sourceCode, typeCode}
 use Rattle.text.specs.declared.Words.{Words}
 use Rattle.text.specs.Values.{words, atomWords}
-use Rattle.model.proofs.Declared.{PairDeclared, pair-declared}
+use Rattle.model.proofs.Growing.{place-nowhere}
+use Rattle.model.proofs.Declared.{named-eq, eq-named, PairDeclared, pair-declared}
 use Rattle.rows.specs.Rows.{isPairOf, numberOr, PairRows}
-use Rattle.rows.proofs.RowsOfAttributes.{named-eq, eq-named, number-small, number-injective}
+use Rattle.rows.proofs.RowsOfAttributes.{number-small, number-injective}
 use Rattle.values.specs.declared.Operand.{Operand}
 use Rattle.values.specs.Operands.{Lent, lent, chosen, pairWords, rowType, attributeOperand, operand, Stands}
 use Rattle.values.proofs.AttributeOperands.{no-number, in-words, in-entries}
@@ -35,27 +36,6 @@ use Rattle.values.proofs.Stands.{session-values, block-values, none-stand}
 use Rattle.session.specs.Opened.{readsPair, mayRead, SessionOf}
 use Rattle.session.proofs.HeldValues.{heldFrom, held-each, held-none, At, held-all}
 use Rattle.session.proofs.Entries.{nothing-entered, entered-each, entered-values}
-
--- no place: none passes
-none-placed : {A : Type 0} (p : A → Bool) (xs : List A) → place p xs ≡ none → (i : ℕ) (x : A) → nth xs i ≡ some x → p x ≡ false
-none-placed p [] e i x f = none-is-some f
-none-placed p (y ∷ xs) e zero x f = go (p y) refl
-  where
-    go : (t : Bool) → p y ≡ t → p x ≡ false
-    go true q =
-        none-is-some (sym e
-        ∙ ap (λ (b : Bool). elim b as (λ _. Option ℕ) [ true ↦ some 0 | false ↦ place p xs >>= λ n. some (suc n) ]) q)
-    go false q = ap p (sym (Option·some-injective y x f)) ∙ q
-none-placed p (y ∷ xs) e (suc i) x f = go (p y) refl (place p xs) refl (none-placed p xs)
-  where
-    go : (t : Bool) → p y ≡ t → (o : Option ℕ) → place p xs ≡ o → (place p xs ≡ none → (i : ℕ) (x : _) → nth xs i ≡ some x → p x ≡ false) → p x ≡ false
-    go true q o r g =
-        none-is-some (sym e
-        ∙ ap (λ (b : Bool). elim b as (λ _. Option ℕ) [ true ↦ some 0 | false ↦ place p xs >>= λ n. some (suc n) ]) q)
-    go false q none r g = g r i x f
-    go false q (some m) r g =
-        none-is-some (sym e
-        ∙ ap₂ (λ (b : Bool) (o : Option ℕ). elim b as (λ _. Option ℕ) [ true ↦ some 0 | false ↦ o >>= λ n. some (suc n) ]) q r)
 
 type-small : (t : AtomType) → (if leb (typeCode t) 3 then typeCode t else 0) ≡ typeCode t
 type-small AtomType.int = refl
@@ -93,7 +73,7 @@ entry-atom AtomType.bool v h = refl
 
 -- a pair is of the attribute of that source and name
 abbrev named : Source → Bytes → Pair → Bool
-named s n x = isNamed (x .source) (x .name) s n
+named s n x = sameSourceAndName (x .source) (x .name) s n
 
 -- the pairs of an attribute that is declared
 module _ {D : Declarations} (declarations : WellDeclared D) (s : Source) (n : Bytes) (k : ℕ) (number : attributeNumber D s n ≡ some k) where
@@ -152,7 +132,7 @@ module _ (S : State) (b : Block) (attributes pairs session : List ℕ) (entries 
 
   -- an attribute that is declared
   module _ (s : Source) (n : Bytes) (k : ℕ) (a : Attribute) (number : attributeNumber D s n ≡ some k)
-      (at : nth (D .attributes) k ≡ some a) (has : isNamed (a .source) (a .name) s n ≡ true) where
+      (at : nth (D .attributes) k ≡ some a) (has : sameSourceAndName (a .source) (a .name) s n ≡ true) where
     small : k < 32
     small = number-small D attributes (of .attribute-rows) s n k number
 
@@ -226,7 +206,7 @@ module _ (S : State) (b : Block) (attributes pairs session : List ℕ) (entries 
         }))
 
   user-stand : (n : Bytes) (k : ℕ) (a : Attribute) → attributeNumber D Source.user n ≡ some k → nth (D .attributes) k ≡ some a
-      → isNamed (a .source) (a .name) Source.user n ≡ true → Stands L (attributeOperand attributes k) (userValues S b n)
+      → sameSourceAndName (a .source) (a .name) Source.user n ≡ true → Stands L (attributeOperand attributes k) (userValues S b n)
   unfolding userValues
   user-stand n k a number at has =
       subst (λ (t : Option ℕ). Stands L (attributeOperand attributes k) (if t is activated b then held S (b .user) Source.user n else [])) (sym number) (go (activated b k) refl)
@@ -242,10 +222,10 @@ module _ (S : State) (b : Block) (attributes pairs session : List ℕ) (entries 
   pub reads-number : (s : Source) (n : Bytes) (k : ℕ) → attributeNumber D s n ≡ some k → Stands L (attributeOperand attributes k) (readBy S b s n)
   unfolding readBy attributeNumber
   reads-number s n k number =
-      let (a, at, has) = place-nth (λ c. isNamed (c .source) (c .name) s n) (D .attributes) k number in
+      let (a, at, has) = place-nth (λ c. sameSourceAndName (c .source) (c .name) s n) (D .attributes) k number in
       go s a number at has
     where
-      go : (s : Source) (a : Attribute) → attributeNumber D s n ≡ some k → nth (D .attributes) k ≡ some a → isNamed (a .source) (a .name) s n ≡ true
+      go : (s : Source) (a : Attribute) → attributeNumber D s n ≡ some k → nth (D .attributes) k ≡ some a → sameSourceAndName (a .source) (a .name) s n ≡ true
           → Stands L (attributeOperand attributes k) (readBy S b s n)
       go Source.user a number at has = user-stand n k a number at has
       go Source.object a number at has = holder-stand Source.object n k a number at has refl (b .object) (λ p. refl)
@@ -255,14 +235,14 @@ module _ (S : State) (b : Block) (attributes pairs session : List ℕ) (entries 
 
   -- a name that is not declared reads nothing
   module _ (s : Source) (n : Bytes) (number : attributeNumber D s n ≡ none) where
-    unnamed : (i : ℕ) (c : Attribute) → nth (D .attributes) i ≡ some c → isNamed (c .source) (c .name) s n ≡ false
+    unnamed : (i : ℕ) (c : Attribute) → nth (D .attributes) i ≡ some c → sameSourceAndName (c .source) (c .name) s n ≡ false
     unfolding attributeNumber
-    unnamed = none-placed (λ c. isNamed (c .source) (c .name) s n) (D .attributes) number
+    unnamed = place-nowhere (λ c. sameSourceAndName (c .source) (c .name) s n) (D .attributes) number
 
-    unnamed-pair : (i : ℕ) (x : Pair) → nth (D .pairs) i ≡ some x → isNamed (x .source) (x .name) s n ≡ false
-    unnamed-pair i x e = go (isNamed (x .source) (x .name) s n) refl
+    unnamed-pair : (i : ℕ) (x : Pair) → nth (D .pairs) i ≡ some x → sameSourceAndName (x .source) (x .name) s n ≡ false
+    unnamed-pair i x e = go (sameSourceAndName (x .source) (x .name) s n) refl
       where
-        go : (t : Bool) → isNamed (x .source) (x .name) s n ≡ t → isNamed (x .source) (x .name) s n ≡ false
+        go : (t : Bool) → sameSourceAndName (x .source) (x .name) s n ≡ t → sameSourceAndName (x .source) (x .name) s n ≡ false
         go false q = q
         go true q =
             let p = pair-declared (of .declarations) i x e in
@@ -271,7 +251,7 @@ module _ (S : State) (b : Block) (attributes pairs session : List ℕ) (entries 
 
     held-nowhere : (holder : ℕ) → held S holder s n ≡ []
     unfolding held pairsOf
-    held-nowhere holder = held-none (effectiveSet D (S .ties) holder) (λ x. isNamed (x .source) (x .name) s n) 0 (D .pairs) unnamed-pair
+    held-nowhere holder = held-none (effectiveSet D (S .ties) holder) (λ x. sameSourceAndName (x .source) (x .name) s n) 0 (D .pairs) unnamed-pair
 
     entered-nowhere : entered S b s n ≡ []
     unfolding entered

@@ -195,11 +195,11 @@ not-truth false = refl
 module _ (k : ℕ) (a : Atom) (l : List Atom) (b : Atom) (m : List Atom) (tl : Typed k (a ∷ l)) (tm : Typed k (b ∷ m)) where
   order-so : (n : ℕ) (before : ℕ → ℕ → Bool)
       → (Typed 1 (a ∷ l) → Typed 1 (b ∷ m) → orderOf n (map atomWords (a ∷ l)) (map atomWords (b ∷ m)) ≡ any (λ x. any (ordered before x) (b ∷ m)) (a ∷ l))
-      → (if eqb k 1 then truth (orderOf n (map atomWords (a ∷ l)) (map atomWords (b ∷ m))) else model.UNDEF) ≡ order before a (a ∷ l) (b ∷ m)
+      → (if eqb k 1 then truth (orderOf n (map atomWords (a ∷ l)) (map atomWords (b ∷ m))) else model.UNDEF) ≡ order before (typeOf a) (a ∷ l) (b ∷ m)
   order-so n before f = go a refl
     where
       go : (x : Atom) → x ≡ a
-          → (if eqb k 1 then truth (orderOf n (map atomWords (a ∷ l)) (map atomWords (b ∷ m))) else model.UNDEF) ≡ order before x (a ∷ l) (b ∷ m)
+          → (if eqb k 1 then truth (orderOf n (map atomWords (a ∷ l)) (map atomWords (b ∷ m))) else model.UNDEF) ≡ order before (typeOf x) (a ∷ l) (b ∷ m)
       go (int x) p =
           let e : k ≡ 1 = sym (tl .kinds a (here refl)) ∙ ap (λ (y : Atom). typeCode (typeOf y)) (sym p) in
           rw (eq-eqb k 1 e) (ap truth (f (subst (λ (j : ℕ). Typed j (a ∷ l)) e tl) (subst (λ (j : ℕ). Typed j (b ∷ m)) e tm)))
@@ -216,7 +216,7 @@ module _ (k : ℕ) (a : Atom) (l : List Atom) (b : Atom) (m : List Atom) (tl : T
   small-right : Typed 1 (b ∷ m) → atomWords b .first ≤ Rattle.model.specs.Limits.largestInt
   small-right t = int-small b (t .written b (here refl)) (t .kinds b (here refl))
 
-  like-atoms : (o : Operator) → likeValues (operatorCode o) k (map atomWords (a ∷ l)) (map atomWords (b ∷ m)) ≡ compareLike o a (a ∷ l) (b ∷ m)
+  like-atoms : (o : Operator) → likeValues (operatorCode o) k (map atomWords (a ∷ l)) (map atomWords (b ∷ m)) ≡ compareLike o (typeOf a) (a ∷ l) (b ∷ m)
   unfolding orderOf
   like-atoms Operator.equal =
       like-equality 16 k (map atomWords (a ∷ l)) (map atomWords (b ∷ m)) (omega arith) (omega arith) ∙ ap truth (common-atoms k (a ∷ l) (b ∷ m) tl tm)
@@ -260,16 +260,16 @@ compare-atoms o k k′ (a ∷ l) (b ∷ m) tl tm = go (eqb k k′) refl
     kinds = same-kind a b ∙ ap₂ eqb (tl .kinds a (here refl)) (tm .kinds b (here refl))
 
     go : (t : Bool) → eqb k k′ ≡ t → compareValues (operatorCode o) k k′ (map atomWords (a ∷ l)) (map atomWords (b ∷ m))
-        ≡ (elim (sameType (typeOf a) (typeOf b)) as (λ _. model.Truth) [ true ↦ compareLike o a (a ∷ l) (b ∷ m) | false ↦ model.UNDEF ])
+        ≡ (elim (sameType (typeOf a) (typeOf b)) as (λ _. model.Truth) [ true ↦ compareLike o (typeOf a) (a ∷ l) (b ∷ m) | false ↦ model.UNDEF ])
     go true e =
         let same : k ≡ k′ = eqb-true k k′ e in
         alike (operatorCode o) k k′ (map atomWords (a ∷ l)) (map atomWords (b ∷ m)) same
         ∙ both-there (atomWords a) (map atomWords l) (atomWords b) (map atomWords m) (likeValues (operatorCode o) k (map atomWords (a ∷ l)) (map atomWords (b ∷ m)))
         ∙ like-atoms k a l b m tl (record { kinds = λ x p. tm .kinds x p ∙ sym same; written = tm .written }) o
-        ∙ ap (λ (t : Bool). elim t as (λ _. model.Truth) [ true ↦ compareLike o a (a ∷ l) (b ∷ m) | false ↦ model.UNDEF ]) (sym (kinds ∙ e))
+        ∙ ap (λ (t : Bool). elim t as (λ _. model.Truth) [ true ↦ compareLike o (typeOf a) (a ∷ l) (b ∷ m) | false ↦ model.UNDEF ]) (sym (kinds ∙ e))
     go false e =
         unlike (operatorCode o) k k′ (map atomWords (a ∷ l)) (map atomWords (b ∷ m)) (eqb-false k k′ e)
-        ∙ ap (λ (t : Bool). elim t as (λ _. model.Truth) [ true ↦ compareLike o a (a ∷ l) (b ∷ m) | false ↦ model.UNDEF ]) (sym (kinds ∙ e))
+        ∙ ap (λ (t : Bool). elim t as (λ _. model.Truth) [ true ↦ compareLike o (typeOf a) (a ∷ l) (b ∷ m) | false ↦ model.UNDEF ]) (sym (kinds ∙ e))
 
 -- the atoms that an operand stands for have its type
 stands-typed : (L : Lent) (o : Operand) {l : List Atom} → Stands L o l → Typed (o .kind) l
