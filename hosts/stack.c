@@ -99,8 +99,8 @@ static uint64_t edited(const char *format, int first, int second) {
     return measured(EDIT, (const uint8_t *)line, (size_t)n, bytes, 0);
 }
 
-/* The group at a place of the chain, from its head. An edit settles the groups in rounds by their numbers, one round
-   inside the other: with the numbers against the chain it takes a round for each group, so both ways are taken. */
+/* The group at a place of the chain, from its head. A group settles its parents first, inside its own call, so that numbers against the chain nest
+   as deep as the chain is long: both ways are taken. */
 static int group(int place, int reversed) { return reversed ? GROUPS - 1 - place : place; }
 
 /* Every table full, all groups in one chain of parents, all users at its end, and values at its head while the limit leaves room for 32 rules. */

@@ -1,4 +1,4 @@
-// The calls. A request is decided on the book, the code of its rules and the table, all lent; nothing is written.
+// The request: decided on the book, the code of its rules and the table, all lent; nothing is written. Loads and edits have files of their own.
 ghost use mathlib.Core.Path.{_≡_};
 ghost use mathlib.Core.Bool.{_||_};
 ghost use Prim.Native.Nat.{_+_, _*_, _≤_, _<_};

@@ -219,7 +219,7 @@ fn close(code: &[u8], negated: bool, r: Reading) -> Reading
     }
 }
 
-// The truth value of its word.
+// The truth value of a kind of token.
 fn truth_of(kind: u8) -> Truth
     ensures { λ r. ⌜ Spoken kind r ⌝ }
 {
@@ -604,7 +604,7 @@ fn refusal(r: Reading, unknown: bool) -> u8
     }
 }
 
-// What a policy alone is refused for; its code is written. No values are lent: none is asked for.
+// What a policy alone is refused for; its code is written. It is read on a session without values, and the value that comes out is not used.
 pub fn judge(s: &[u8], attributes: &[u64], code: &mut [u8]) -> u8
     requires { ⌜ (length (now attributes) ≡ 256) × (3 * length (now s) + 3 ≤ length (now code)) ⌝ }
     ensures { λ n. ⌜ Judges (now (s .entry)) (now (attributes .entry)) (now (code .entry)) (now (code .exit)) n ⌝ }

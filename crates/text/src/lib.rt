@@ -1,4 +1,4 @@
-// Leaves over the parts of a line: each takes the bytes of one part and says what the specification reads in them.
+// Readers of the parts of a line: each takes the bytes of one part and says what the specification reads in them.
 ghost use mathlib.Core.Path.{_≡_};
 ghost use mathlib.Core.Bool.{true};
 ghost use Prim.Native.Nat.{_≤_, _/_};
