@@ -22,7 +22,7 @@ use Rattle.book.specs.TieSteps.{tieBy}
 use Rattle.book.proofs.TieSections.{part-size}
 use Rattle.engine.specs.EditSteps.{signTests, TieChanged, TableKept, Applied}
 
--- the editedHolder holder is the lower one
+-- the edited holder is the lower one
 pub edited-lower : (key h u : ℕ) → editedHolder (tieBy key h u) ≡ h
 unfolding tieBy
 edited-lower key h u = go (eqb key 10) (eqb key 8)

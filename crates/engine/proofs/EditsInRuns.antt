@@ -1,4 +1,4 @@
--- What an edit does in a run: it changes the words of no holder that is neither the editedHolder one nor below it, where it is refused those of none, and its
+-- What an edit does in a run: it changes the words of no holder that is neither the edited one nor below it, where it is refused those of none, and its
 -- count is that of the holders whose words changed. Assumes nothing.
 use Prim.Native.Nat.{ℕ, _<_}
 use mathlib.Core.Path.{_≡_, refl, sym, ap, subst, _∙_}
@@ -82,7 +82,7 @@ module _ {calls : List Call} {S : State} {before after : Memory} {line : Bytes} 
   given : Gives (outcome S (before .words) (Call.edit line)) (ledger.edited number changed) (after .words) (after .book) (after .code)
   given = does-gives together does
 
-  -- no holder that is neither the editedHolder one nor below it
+  -- no holder that is neither the edited one nor below it
   pub elsewhere-stays : (k : ℕ) → k < holderNumbers
       → ((t : Tie) → editedTie S line ≡ some t → (k ≡ editedHolder t → ⊥) × (Below (S .ties) k (editedHolder t) → ⊥)) → setIn (after .words) k ≡ setIn (before .words) k
   unfolding effectiveSet

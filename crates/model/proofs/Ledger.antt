@@ -1,4 +1,4 @@
--- The ledger: every state that calls leave is standing; a refused edit and a request change nothing; an edit changes the sets of the editedHolder
+-- The ledger: every state that calls leave is standing; a refused edit and a request change nothing; an edit changes the sets of the edited
 -- holder and those below it alone. Assumes nothing.
 use Prim.Native.Nat.{ℕ, suc}
 use mathlib.Core.Path.{_≡_, refl, sym, ap, subst}
@@ -131,7 +131,7 @@ module _ (S : State) (line : Bytes) where
   pub refused-edit : (Edits.edit S line .number ≡ 0 → ⊥) → (Edits.edit S line .state ≡ S) × (Edits.edit S line .changed ≡ 0)
   refused-edit = edit-cases (λ r. (r .number ≡ 0 → ⊥) → (r .state ≡ S) × (r .changed ≡ 0)) (λ e n. absurd (n refl)) (λ n m. (refl, refl))
 
--- ---- an edit changes ties of the editedHolder holder alone
+-- ---- an edit changes ties of the edited holder alone
 
 added-differs : (t : Tie) (T : Ties) → DifferAt (editedHolder t) T (added t T)
 added-differs t T u n = ap (λ (b : Bool). b || T u) (other-tie t u n)
@@ -139,7 +139,7 @@ added-differs t T u n = ap (λ (b : Bool). b || T u) (other-tie t u n)
 removed-differs : (t : Tie) (T : Ties) → DifferAt (editedHolder t) T (removed t T)
 removed-differs t T u n = ap (λ (b : Bool). not b && T u) (other-tie t u n)
 
--- an edit changes the set of no holder that is neither the editedHolder one nor below it
+-- an edit changes the set of no holder that is neither the edited one nor below it
 pub edit-elsewhere : (S : State) (line : Bytes) (k p : ℕ)
     → ((t : Tie) → editedTie S line ≡ some t → (k ≡ editedHolder t → ⊥) × (Below (S .ties) k (editedHolder t) → ⊥))
     → effective (holderNumbersOf (S .declared)) (Edits.edit S line .state .ties) k p ≡ effective (holderNumbersOf (S .declared)) (S .ties) k p

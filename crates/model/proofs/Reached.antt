@@ -88,7 +88,7 @@ module _ {S : State} (reached : Reached S) where
   pub is-below : (h g : ℕ) → (isBelow (holderNumbersOf (S .declared)) (S .ties) h g ≡ true) ↔ Below (S .ties) h g
   is-below = Chains.is-below (holderNumbersOf (S .declared)) (S .ties) (among standing) (standing .acyclic)
 
-  -- a tie more or one less changes the set of no holder but the editedHolder one and those below it
+  -- a tie more or one less changes the set of no holder but the edited one and those below it
   pub same-elsewhere : (t : Tie) (k p : ℕ) → (k ≡ editedHolder t → ⊥) → isBelow (holderNumbersOf (S .declared)) (S .ties) k (editedHolder t) ≡ false
       → (effectiveSet (S .declared) (added t (S .ties)) k p ≡ effectiveSet (S .declared) (S .ties) k p)
       × (effectiveSet (S .declared) (removed t (S .ties)) k p ≡ effectiveSet (S .declared) (S .ties) k p)

@@ -16,7 +16,7 @@ pub record State : Type 0 where
 abbrev pub empty : State
 empty = record { declared = nothingDeclared; ties = noTies }
 
--- the tie of a parent, member or value line, which "gives a declared pair"; none where one of its names or its pair is undeclared
+-- the tie of a parent, member or value line, the last of which "gives a declared pair"; none where one of its names or its pair is undeclared
 abbrev pub tieOf : Declarations → Line → Option Tie
 tieOf D (attr s n t) = none
 tieOf D (op n) = none

@@ -38,7 +38,7 @@ added t T u = sameTie t u || T u
 abbrev pub removed : Tie → Ties → Ties
 removed t T u = not (sameTie t u) && T u
 
--- "The editedHolder holder is the first one named"
+-- "The edited holder is the first one named"
 abbrev pub editedHolder : Tie → ℕ
 editedHolder (parent child g) = child
 editedHolder (member party g) = party
