@@ -27,7 +27,7 @@ use Rattle.text.specs.Packing.{packedOf}
 use Rattle.bits.specs.Bits.{bit}
 use Rattle.rows.specs.Rows.{AttributeRow, AttributeRows, isPairOf, masked, Numbered}
 use Rattle.index.specs.Index.{Row, Indexed, putRow}
-use Rattle.index.proofs.Adding.{put-0, put-1, put-2, put-3, put-other}
+use Rattle.index.proofs.Relinking.{put-0, put-1, put-2, put-3, put-other}
 use Rattle.index.proofs.Listed.{indexed-same}
 use Rattle.book.specs.Sections as section
 use Rattle.book.specs.Sections.{Section, sectionWords}
@@ -192,7 +192,7 @@ attribute-held book code S s n t k held well at few =
       pairs =
           subst (λ (w : List ℕ). Indexed w pairLimit (pairRow E)) (sym (beside section.pairs refl refl))
           (indexed-same (pairRow D) (pairRow E) (same-pair-rows D a well) (held .pairs));
-      holders = subst (λ (w : List ℕ). Indexed w holderNumbers (holderRow (E .holders))) (sym (beside section.holders refl refl)) (held .holders);
+      holders = subst (λ (w : List ℕ). Indexed w holderNumbers (holderRow E)) (sym (beside section.holders refl refl)) (held .holders);
       sorts = subst (λ (w : List ℕ). SortRows w E) (sym (beside section.sorts refl refl)) (sorts-kept D E refl (sectionWords section.sorts book) (held .sorts));
       groups = rw (beside section.slots refl refl, beside section.seats refl refl) (groups-kept D E refl _ _ (held .groups));
       ties = rw (beside section.ups refl refl, beside section.own refl refl, beside section.slots refl refl) (held .ties);

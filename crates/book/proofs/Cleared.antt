@@ -23,7 +23,7 @@ use Rattle.ties.proofs.Editing.{keeps-none}
 use Rattle.book.specs.Sections as section
 use Rattle.book.specs.Sections.{Section, sectionWords, bookWords, ruleBytes}
 use Rattle.book.specs.Held.{Holds, pairRow, holderRow, sortCode}
-use Rattle.book.specs.Declaring.{holderPut, Emptied}
+use Rattle.book.specs.Declaring.{HolderPut, Emptied}
 use Rattle.book.proofs.Writes.{section-long, section-word}
 use Rattle.book.proofs.Holders.{holder-held}
 
@@ -81,7 +81,7 @@ module _ (book : List ℕ) (long : length book ≡ bookWords) (zeros : (i : ℕ)
               other = λ i h l. zero-part section.operations (omega arith) (2 * i);
             };
         pairs = indexed (pairRow nobody) (λ k. refl) section.pairs (omega arith) refl;
-        holders = indexed (holderRow []) (λ k. refl) section.holders (omega arith) refl;
+        holders = indexed (holderRow nobody) (λ k. refl) section.holders (omega arith) refl;
         sorts = λ k l. zero-part section.sorts (omega arith) k;
         groups =
             record {
@@ -101,7 +101,6 @@ module _ (book : List ℕ) (long : length book ≡ bookWords) (zeros : (i : ℕ)
           indexed-same (λ _. none) rows same (empty-indexed (sectionWords s book) 256 (section-long s book fits ∙ e) (λ i l. zero-part s fits i))
 
   -- with holder 0
-  pub emptied : (next : List ℕ) → next ≡ holderPut book 0 (sortCode Sort.admin) (packedOf (bytes "admin") .low) (packedOf (bytes "admin") .high) → Emptied next
-  emptied next e code code-long =
-      subst (λ (l : List ℕ). Holds l code empty) (sym e)
-      (holder-held book code nobody noTies (record { sort = Sort.admin; name = bytes "admin" }) 0 (zeros-held code code-long) (λ i r f. none-is-some f) refl (omega arith) refl)
+  pub emptied : (next : List ℕ) → HolderPut book 0 (sortCode Sort.admin) (packedOf (bytes "admin") .low) (packedOf (bytes "admin") .high) next → Emptied next
+  emptied next put code code-long =
+      holder-held book code nobody noTies (record { number = 0; sort = Sort.admin; name = bytes "admin" }) 0 (zeros-held code code-long) (λ i r f. none-is-some f) refl refl refl (omega arith) next put refl

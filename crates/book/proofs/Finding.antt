@@ -11,15 +11,16 @@ use native.Mathlib.Nat.{eq-or-lt-of-le}
 use lib.Dec.{eqb, ltb}
 use lib.ListN.{length, getD}
 use borrow.Author.Tests.{lt-ltb, le-ltb, eqb-true, eq-eqb, ne-eqb}
-use Rattle.model.specs.Notation.{nth, onlyIf}
+use Rattle.model.specs.Notation.{_>>=_, nth, find, onlyIf}
 use Rattle.model.specs.Limits.{operationLimit, pairLimit, holderNumbers}
 use Rattle.model.specs.Bytes.{Bytes, same}
 use Rattle.model.specs.Names.{isName}
 use Rattle.model.specs.Atoms.{sameAtom}
-use Rattle.model.specs.Declarations.{Declarations, Attribute, Pair, Holder, sameSourceAndName, attributeNumber, operationNumber, pairNumber, holderNumber}
+use Rattle.model.specs.Declarations.{Declarations, Attribute, Pair, Holder, sameSourceAndName, attributeNumber, operationNumber, pairNumber, holderOf, holderNumber}
 use Rattle.model.specs.Standing.{WellDeclared}
 use Rattle.model.proofs.WordTables.{same-eq, same-refl}
-use Rattle.model.proofs.Options.{parts, both}
+use Rattle.model.proofs.Options.{parts, both, bind-some}
+use Rattle.model.proofs.Numbered.{find-in, find-none, found-number, number-found}
 use Rattle.model.proofs.Lists.{same-truth, all-parts, nth-lt, lt-nth}
 use Rattle.model.proofs.Declared.{same-sym, named-eq, eq-named, pair-declared}
 use Rattle.text.specs.declared.Packed.{Packed}
@@ -31,7 +32,7 @@ use Rattle.text.proofs.Values.{words-injective, same-atom-eq, same-atom-refl}
 use Rattle.rows.specs.Rows.{numberOr}
 use Rattle.rows.proofs.FirstPlaces.{place-none, place-first}
 use Rattle.rows.proofs.RowsOfAttributes.{number-injective}
-use Rattle.index.specs.Index.{Row, FindsRow, rowsOf}
+use Rattle.index.specs.Index.{Row, RowFound, FindsRow, rowsOf}
 use Rattle.index.proofs.Listed.{place-found, indexed-same}
 use Rattle.book.specs.Held.{OperationRows, pairRow, holderRow}
 use Rattle.book.specs.Finding.{HolderFound, OperationFound, PairFound, operationNamed}
@@ -56,29 +57,41 @@ name-word (x ∷ n) e z = let (one, rest) = all-parts solid x n (name-solid (x �
 
 -- ---- holders
 
-abbrev rowOfHolder : Holder → Row
-rowOfHolder h = (1, packedOf (h .name) .low, packedOf (h .name) .high, 0)
-
 module _ (section : List ℕ) (low high r : ℕ) (finds : FindsRow section (1, low, high, 0) r) where
   pub holder-found : HolderFound section low high r
   unfolding holderNumber
-  holder-found D well ix n name words =
-      let found = finds .exact holderNumbers (holderRow (D .holders)) ix in
-      number-or holderNumbers r _ (found .within)
-      (place-found rowOfHolder (D .holders) (λ h. same (h .name) n) (1, low, high, 0) tells unique found)
+  holder-found D well ix n name words = go (eq-or-lt-of-le (found .within))
     where
-      tells : (k : ℕ) (h : Holder) → nth (D .holders) k ≡ some h → (same (h .name) n ≡ true) ↔ (rowOfHolder h ≡ (1, low, high, 0))
-      tells k h e = (
-        λ f. ap (λ (p : Packed). (1, p .low, p .high, 0)) (ap packedOf (same-eq (h .name) n f) ∙ words),
-        λ f.
-            packed-name (h .name) n (well .holders .named k h e) name
-            (ap (λ (w : Row). w .1) f ∙ sym (ap (λ (p : Packed). p .low) words))
-            (ap (λ (w : Row). w .2) f ∙ sym (ap (λ (p : Packed). p .high) words)),
-      )
+      found : RowFound (holderRow D) holderNumbers (1, low, high, 0) r
+      found = finds .exact holderNumbers (holderRow D) ix
 
-      unique : (i j : ℕ) (g h : Holder) → nth (D .holders) i ≡ some g → nth (D .holders) j ≡ some h → same (g .name) n ≡ true → same (h .name) n ≡ true → i ≡ j
-      unique i j g h e f p q =
-          well .holders .unique i j g h e f (rw (same-eq (g .name) n p, same-eq (h .name) n q) (same-refl n))
+      here : (k : ℕ) (h : Holder) → holderOf D k ≡ some h → same (h .name) n ≡ true → holderRow D k ≡ some (1, low, high, 0)
+      here k h e f = rw e (ap (λ (p : Packed). some (1, p .low, p .high, 0)) (ap packedOf (same-eq (h .name) n f) ∙ words))
+
+      -- the holder that is found by its name
+      by-name : (o : Option Holder) → find (λ h. same (h .name) n) (D .holders) ≡ o → (r ≡ holderNumbers) ⊎ (r < holderNumbers) → r ≡ numberOr holderNumbers (o >>= λ h. some (h .number))
+      by-name none e (inl z) = z
+      by-name none e (inr l) =
+          let (h, f, g) = bind-some (holderOf D r) (λ h. some (1, packedOf (h .name) .low, packedOf (h .name) .high, 0)) (found .here l) in
+          let w = Option·some-injective _ _ g in
+          absurd (true≢false (sym (packed-name (h .name) n (well .holders .named r h f) name
+          (ap (λ (w : Row). w .1) w ∙ sym (ap (λ (p : Packed). p .low) words)) (ap (λ (w : Row). w .2) w ∙ sym (ap (λ (p : Packed). p .high) words)))
+          ∙ find-none (λ h. same (h .name) n) (D .holders) e (found-number (λ h. h .number) (D .holders) r h f .0)))
+      by-name (some h) e z =
+          let (m, f) = find-in (λ h. same (h .name) n) (D .holders) h e in
+          let there = number-found (λ h. h .number) (D .holders) (well .holders .ordered) m in
+          at h there f z
+        where
+          at : (h : Holder) → holderOf D (h .number) ≡ some h → same (h .name) n ≡ true → (r ≡ holderNumbers) ⊎ (r < holderNumbers) → r ≡ h .number
+          at h e f (inl z) = absurd (found .nowhere z (h .number) (here (h .number) h e f))
+          at h e f (inr l) =
+              let (g, u, v) = bind-some (holderOf D r) (λ h. some (1, packedOf (h .name) .low, packedOf (h .name) .high, 0)) (found .here l) in
+              let w = Option·some-injective _ _ v in
+              let s = packed-name (g .name) n (well .holders .named r g u) name (ap (λ (w : Row). w .1) w ∙ sym (ap (λ (p : Packed). p .low) words)) (ap (λ (w : Row). w .2) w ∙ sym (ap (λ (p : Packed). p .high) words)) in
+              well .holders .unique r (h .number) g h u e (rw (same-eq (g .name) n s, same-eq (h .name) n f) (same-refl n))
+
+      go : (r ≡ holderNumbers) ⊎ (r < holderNumbers) → r ≡ numberOr holderNumbers (find (λ h. same (h .name) n) (D .holders) >>= λ h. some (h .number))
+      go z = by-name (find (λ h. same (h .name) n) (D .holders)) refl z
 
 -- ---- pairs
 

@@ -7,26 +7,27 @@ use mathlib.Core.Option.{Option}
 use native.Mathlib.Omega.{arith}
 use lib.Dec.{leb, ltb}
 use lib.ListN.{length, getD}
-use borrow.Author.Tests.{lt-ltb, le-ltb, le-leb, lt-leb}
+use borrow.Author.Tests.{ltb-true, lt-ltb, le-ltb, le-leb, lt-leb}
 use Rattle.model.specs.Notation.{isNone}
 use Rattle.model.specs.Limits.{holderNumbers, groupLimit}
-use Rattle.model.specs.Bytes.{Bytes, same}
+use Rattle.model.specs.Bytes.{Bytes}
 use Rattle.model.specs.Names.{isName}
-use Rattle.model.specs.Declarations.{Holder, Sort, isSort, isGroup, groups, holderNumber, holderNumbersOf}
+use Rattle.model.specs.Declarations.{Sort, isSort, isGroup, groups, holderNumber, holderNumbersOf}
 use Rattle.model.specs.Lines.{holder}
 use Rattle.model.specs.State.{State, after}
 use Rattle.model.specs.Standing.{Standing}
-use Rattle.model.proofs.Lists.{nth-lt, length-below}
+use Rattle.model.proofs.Declared.{next-free}
+use Rattle.model.proofs.Standing.{numbers-length, holder-fits, named-holder}
 use Rattle.text.specs.declared.Packed.{Packed}
 use Rattle.text.specs.Packing.{packedOf}
 use Rattle.book.specs.Sections as section
 use Rattle.book.specs.Sections.{sectionWords}
 use Rattle.book.specs.Held.{Holds, sortCode}
 use Rattle.book.specs.Finding.{HolderFound}
-use Rattle.book.specs.Declaring.{holderPut, groupPut, HolderStep}
+use Rattle.book.specs.Declaring.{HolderPut, groupPut, HolderStep}
 use Rattle.book.proofs.Writes.{section-word}
 use Rattle.book.proofs.Holders.{holder-held, group-held}
-use Rattle.book.proofs.DeclarationTests.{refused-10, refused-11, accepted, number-there, number-nowhere, place-few}
+use Rattle.book.proofs.DeclarationTests.{refused-10, refused-11, accepted, number-there, number-nowhere}
 
 -- groups are told by the numbers of their sorts
 group-code : (s : Sort) → isSort s Sort.admin ≡ false → isGroup s ≡ ltb (sortCode s) (sortCode Sort.user)
@@ -45,23 +46,16 @@ module _ (book : List ℕ) (key low high k : ℕ) (found : HolderFound (sectionW
   module _ (free : k ≡ holderNumbers) (m : ℕ) (count : m ≡ getD book 3 0) where
     new : (n : Bytes) → isName n ≡ true → packedOf n ≡ record { low = low; high = high } → (code : Bytes) (S : State) → Standing S → Holds book code S
         → not (isNone (holderNumber (S .declared) n)) ≡ false
-    unfolding holderNumber holderNumbersOf
     new n name words code S standing held =
         ap (λ (o : Option ℕ). not (isNone o))
-        (number-nowhere holderNumbers (holderNumber (S .declared) n) k
-        (λ j f.
-        let a = place-few (λ (h : Holder). same (h .name) n) (S .declared .holders) j f in
-        let b = standing .declarations .holders .few in
-        let c = length-below (length (S .declared .holders)) in
-        omega arith)
+        (number-nowhere holderNumbers (holderNumber (S .declared) n) k (λ j f. holder-fits standing j (rw (named-holder (standing .declarations) n j f .1) refl))
         (found (S .declared) (standing .declarations) (held .holders) n name words) free)
 
     counted : (code : Bytes) (S : State) → Holds book code S → m ≡ length (holderNumbersOf (S .declared))
     counted code S held = count ∙ sym (section-word section.counts book 3 (omega arith)) ∙ held .counts .holders
 
     numbered : (code : Bytes) (S : State) → Holds book code S → m ≡ length (S .declared .holders)
-    unfolding holderNumbersOf
-    numbered code S held = counted code S held ∙ length-below (length (S .declared .holders))
+    numbered code S held = counted code S held ∙ numbers-length (S .declared)
 
     pub holder-full : holderNumbers ≤ m → HolderStep book key low high book 11
     holder-full over code s n sort name from words S standing held =
@@ -79,18 +73,23 @@ module _ (book : List ℕ) (key low high k : ℕ) (found : HolderFound (sectionW
           let at = counted code S held in
           ap₂ (λ (x y : Bool). x || y) (lt-leb holderNumbers (length (holderNumbersOf (S .declared))) (omega arith)) e
 
+      -- what was put, in the terms of the line
+      told : (s : Sort) (n : Bytes) → key ≡ sortCode s → packedOf n ≡ record { low = low; high = high } → {next : List ℕ} → HolderPut book m key low high next
+          → HolderPut book m (sortCode s) (packedOf n .low) (packedOf n .high) next
+      told s n from words {next} put =
+          subst (λ (x : ℕ). HolderPut book m x (packedOf n .low) (packedOf n .high) next) from
+          (subst (λ (p : Packed). HolderPut book m key (p .low) (p .high) next) (sym words) put)
+
       -- a user or an object
-      pub holder-step : sortCode Sort.user ≤ key → (next : List ℕ) → next ≡ holderPut book m key low high → HolderStep book key low high next 0
+      pub holder-step : sortCode Sort.user ≤ key → (next : List ℕ) → HolderPut book m key low high next → HolderStep book key low high next 0
       unfolding after
       holder-step plain next e code s n sort name from words S standing held =
           let no-group : isGroup s ≡ false = group-code s sort ∙ le-ltb (sortCode s) (sortCode Sort.user) (omega arith) in (
             accepted S (holder s n) refl refl refl refl (new n name words code S standing held)
                 (room code s S held false (ap (λ (t : Bool). t && leb groupLimit (groups (S .declared))) no-group)),
             λ _.
-                subst (λ (l : List ℕ). Holds l code (after (holder s n) S))
-                (sym (e ∙ ap (λ (x : ℕ). holderPut book m x low high) from ∙ ap (λ (p : Packed). holderPut book m (sortCode s) (p .low) (p .high)) (sym words)))
-                (holder-held book code (S .declared) (S .ties) (record { sort = s; name = n }) m held (λ i r f. standing .declarations .rules .each i r f .names-declared)
-                (numbered code S held) few no-group),
+                holder-held book code (S .declared) (S .ties) (record { number = length (S .declared .holders); sort = s; name = n }) m held (λ i r f. standing .declarations .rules .each i r f .names-declared)
+                (next-free (standing .declarations)) (numbered code S held) (numbered code S held) few next (told s n from words e) no-group,
           )
 
       -- a group; g is their count
@@ -109,20 +108,15 @@ module _ (book : List ℕ) (key low high k : ℕ) (found : HolderFound (sectionW
               λ z. absurd (omega arith),
             )
 
-        pub group-step : g < groupLimit → (first next : List ℕ) → first ≡ holderPut book m key low high → next ≡ groupPut first m g → HolderStep book key low high next 0
+        pub group-step : g < groupLimit → (first next : List ℕ) → HolderPut book m key low high first → next ≡ groupPut first m g → HolderStep book key low high next 0
         unfolding after
         group-step low-count first next w e code s n sort name from words S standing held =
             let at = grouped code S held in
-            let some-holder = nth-lt (S .declared .holders) 0 (standing .declarations .holders .admin-first) in (
+            let some-holder = ltb-true 0 (length (S .declared .holders)) (sym (standing .declarations .holders .gapless 0) ∙ rw (standing .declarations .holders .admin-first) refl) in (
               accepted S (holder s n) refl refl refl refl (new n name words code S standing held)
                   (room code s S held false (ap₂ (λ (x y : Bool). x && y) (is-group s sort from) (lt-leb groupLimit (groups (S .declared)) (omega arith)))),
               λ _.
-                  subst (λ (l : List ℕ). Holds l code (after (holder s n) S))
-                  (sym
-                  (e
-                  ∙ ap (λ (l : List ℕ). groupPut l m g) w
-                  ∙ ap (λ (x : ℕ). groupPut (holderPut book m x low high) m g) from
-                  ∙ ap (λ (p : Packed). groupPut (holderPut book m (sortCode s) (p .low) (p .high)) m g) (sym words)))
-                  (group-held book code (S .declared) (S .ties) (record { sort = s; name = n }) m held (λ i r f. standing .declarations .rules .each i r f .names-declared)
-                  (numbered code S held) few (is-group s sort from) g at low-count (omega (arith, numbered code S held))),
+                  subst (λ (l : List ℕ). Holds l code (after (holder s n) S)) (sym e)
+                  (group-held book code (S .declared) (S .ties) (record { number = length (S .declared .holders); sort = s; name = n }) m held (λ i r f. standing .declarations .rules .each i r f .names-declared)
+                  (next-free (standing .declarations)) (numbered code S held) (numbered code S held) few first (told s n from words w) (is-group s sort from) g at low-count (omega (arith, numbered code S held))),
             )

@@ -3,107 +3,100 @@ use Prim.Native.Nat.{ℕ, suc, _+_, _<_}
 use mathlib.Core.Path.{_≡_, refl, sym, ap, subst, _∙_}
 use mathlib.Core.Bool.{true, false, _&&_, true≢false}
 use mathlib.Core.List.{List}
-use mathlib.Core.Option.{Option, some, Option·some-injective}
+use mathlib.Core.Option.{Option, none, some, Option·some-injective}
 use native.Mathlib.Decide.{ℕ-discrete, decLt}
 use native.Mathlib.Omega.{arith}
 use lib.ListN.{length, getD, set, length-set}
 use lib.Seq.{getD-set-same, getD-set-other}
 use lib.Dec.{ltb}
-use Rattle.model.specs.Notation.{if_then_else_, _>>=_, nth}
+use borrow.Author.Tests.{eq-eqb, ne-eqb}
+use Rattle.model.specs.Notation.{if_then_else_, _>>=_}
 use Rattle.model.specs.Limits.{pairLimit, holderNumbers, groupLimit}
 use Rattle.model.specs.Bytes.{Bytes}
-use Rattle.model.specs.Declarations.{Declarations, Holder, Sort, attributeNumber, operationNumber, holderNumbersOf, isGroup, groups, sortOf}
+use Rattle.model.specs.Declarations.{Declarations, Holder, Sort, attributeNumber, operationNumber, holderOf, holderNumbersOf, isGroup, groups, sortOf}
 use Rattle.model.specs.Ties.{Ties}
 use Rattle.model.specs.State.{withHolder}
-use Rattle.model.proofs.Options.{bind-some}
-use Rattle.model.proofs.Lists.{nth-lt, length-below, count-last}
+use Rattle.model.proofs.WordTables.{none-is-some}
+use Rattle.model.proofs.Numbered.{length-inserted, count-inserted, length-map}
+use Rattle.model.proofs.Declared.{holder-with}
 use Rattle.codes.specs.Codes.{coded}
 use Rattle.text.specs.Packing.{packedOf}
 use Rattle.rows.specs.Rows.{AttributeRows, isPairOf}
-use Rattle.index.specs.Index.{Row, Indexed, Added, rowAdded, rowsIn, withRow}
-use Rattle.index.proofs.Adding.{added-length, added-indexed}
-use Rattle.index.proofs.Listed.{listed-more, listed-fresh}
+use Rattle.index.specs.Index.{Row, Indexed, Added, withRow}
+use Rattle.index.proofs.Listed.{indexed-same}
 use Rattle.ties.specs.TieArrays.{inUse, KeepsTies}
 use Rattle.ties.proofs.Editing.{slot-given}
 use Rattle.book.specs.Sections as section
 use Rattle.book.specs.Sections.{Section, sectionWords, bookWords}
 use Rattle.book.specs.Held.{CountsOf, OperationRows, SortRows, GroupSlots, RuleRows, Holds, pairRow, holderRow, sortCode}
-use Rattle.book.specs.Declaring.{withSection, holderPut, groupPut}
+use Rattle.book.specs.Declaring.{withSection, holderPut, HolderPut, groupPut}
 use Rattle.book.proofs.Writes.{apart, word-beside, word-inside, section-beside, section-inside, section-long, section-same-length, word-at}
-use Rattle.book.proofs.Kept.{nth-new, nth-old, length-more, NamesKnown, rules-kept, attributes-kept}
+use Rattle.book.proofs.Kept.{NamesKnown, rules-kept, attributes-kept}
 
 -- ---- what is written, by sections
 
 abbrev rowOfName : ℕ → ℕ → Row
 rowOfName low high = (1, low, high, 0)
 
-module _ (book : List ℕ) (n sort low high : ℕ) (long : length book ≡ bookWords) (few : n < holderNumbers) where
-  abbrev row : List ℕ
-  row = rowAdded (sectionWords section.holders book) holderNumbers n (rowOfName low high)
-
+module _ (book : List ℕ) (n sort : ℕ) (rows : List ℕ) (long : length book ≡ bookWords) (few : n < holderNumbers) (rows-long : length rows ≡ section.holders .size) where
   abbrev h1 : List ℕ
-  h1 = withSection section.holders book row
+  h1 = withSection section.holders book rows
 
   abbrev h2 : List ℕ
   h2 = set h1 (section.sorts .start + n) sort
 
-  row-long : length row ≡ section.holders .size
-  row-long = added-length (sectionWords section.holders book) holderNumbers n (rowOfName low high) ∙ section-long section.holders book (omega arith)
-
   holder-beside : (s : Section) → apart s section.holders ≡ true → apart s section.sorts ≡ true → apart s section.counts ≡ true
-      → sectionWords s (holderPut book n sort low high) ≡ sectionWords s book
+      → sectionWords s (holderPut book n sort rows) ≡ sectionWords s book
   unfolding holderPut
   holder-beside s a b c =
       word-beside s section.counts h2 c 3 (n + 1) (omega arith) (omega arith)
       ∙ word-beside s section.sorts h1 b (section.sorts .start + n) sort (omega arith) (omega arith)
-      ∙ section-beside s section.holders book a row (omega arith) row-long
+      ∙ section-beside s section.holders book a rows (omega arith) rows-long
 
-  holder-row : sectionWords section.holders (holderPut book n sort low high) ≡ row
+  holder-row : sectionWords section.holders (holderPut book n sort rows) ≡ rows
   unfolding holderPut
   holder-row =
       word-beside section.holders section.counts h2 refl 3 (n + 1) (omega arith) (omega arith)
       ∙ word-beside section.holders section.sorts h1 refl (section.sorts .start + n) sort (omega arith) (omega arith)
-      ∙ section-inside section.holders book row (omega arith) row-long
+      ∙ section-inside section.holders book rows (omega arith) rows-long
 
-  holder-sort : sectionWords section.sorts (holderPut book n sort low high) ≡ set (sectionWords section.sorts book) n sort
+  holder-sort : sectionWords section.sorts (holderPut book n sort rows) ≡ set (sectionWords section.sorts book) n sort
   unfolding holderPut
   holder-sort =
       word-beside section.sorts section.counts h2 refl 3 (n + 1) (omega arith) (omega arith)
       ∙ word-inside section.sorts h1 n sort (omega arith)
-      ∙ ap (λ (l : List ℕ). set l n sort) (section-beside section.sorts section.holders book refl row (omega arith) row-long)
+      ∙ ap (λ (l : List ℕ). set l n sort) (section-beside section.sorts section.holders book refl rows (omega arith) rows-long)
 
-  holder-count : sectionWords section.counts (holderPut book n sort low high) ≡ set (sectionWords section.counts book) 3 (n + 1)
+  holder-count : sectionWords section.counts (holderPut book n sort rows) ≡ set (sectionWords section.counts book) 3 (n + 1)
   unfolding holderPut
   holder-count =
       word-inside section.counts h2 3 (n + 1) (omega arith)
       ∙ ap (λ (l : List ℕ). set l 3 (n + 1))
       (word-beside section.counts section.sorts h1 refl (section.sorts .start + n) sort (omega arith) (omega arith)
-      ∙ section-beside section.counts section.holders book refl row (omega arith) row-long)
+      ∙ section-beside section.counts section.holders book refl rows (omega arith) rows-long)
 
-  holder-long : length (holderPut book n sort low high) ≡ length book
+  holder-long : length (holderPut book n sort rows) ≡ length book
   unfolding holderPut
   holder-long =
-      length-set h2 3 (n + 1) ∙ length-set h1 (section.sorts .start + n) sort ∙ section-same-length section.holders book row (omega arith) row-long
+      length-set h2 3 (n + 1) ∙ length-set h1 (section.sorts .start + n) sort ∙ section-same-length section.holders book rows (omega arith) rows-long
 
-  pub holder-same-length : (next : List ℕ) → next ≡ holderPut book n sort low high → length next ≡ length book
-  holder-same-length next e = ap length e ∙ holder-long
+module _ (book : List ℕ) (n sort low high : ℕ) (long : length book ≡ bookWords) (few : n < holderNumbers) where
+  put-long : {next : List ℕ} (put : HolderPut book n sort low high next) → length (put .rows) ≡ section.holders .size
+  put-long put = put .row .long ∙ section-long section.holders book (omega arith)
+
+  pub holder-same-length : (next : List ℕ) → HolderPut book n sort low high next → length next ≡ length book
+  holder-same-length next put = ap length (put .written) ∙ holder-long book n sort (put .rows) long few (put-long put)
 
   -- what the code writes
   module _ (t : List ℕ) (adds : Added (sectionWords section.holders book) t n (rowOfName low high)) where
-    pub wrote-row : t ≡ row
-    wrote-row =
-        let e = section-long section.holders book (omega arith) in
-        let m : rowsIn (length (sectionWords section.holders book)) ≡ holderNumbers = omega arith in
-        adds .words ∙ ap (λ (j : ℕ). rowAdded (sectionWords section.holders book) j n (rowOfName low high)) m
-
-    pub wrote-holder : set (set (withSection section.holders book t) (section.sorts .start + n) sort) 3 (n + 1) ≡ holderPut book n sort low high
+    pub wrote-holder : HolderPut book n sort low high (set (set (withSection section.holders book t) (section.sorts .start + n) sort) 3 (n + 1))
     unfolding holderPut
-    wrote-holder = ap (λ (l : List ℕ). set (set (withSection section.holders book l) (section.sorts .start + n) sort) 3 (n + 1)) wrote-row
+    wrote-holder = record { rows = t; row = adds; written = refl }
 
     pub wrote-long : (i v : ℕ) → length (set (withSection section.holders book t) i v) ≡ bookWords
     wrote-long i v =
         length-set (withSection section.holders book t) i v
-        ∙ section-same-length section.holders book t (omega arith) (ap length wrote-row ∙ row-long)
+        ∙ section-same-length section.holders book t (omega arith) (adds .long ∙ section-long section.holders book (omega arith))
         ∙ long
 
 module _ (book : List ℕ) (n g : ℕ) (long : length book ≡ bookWords) (few : n < holderNumbers) (low : g < groupLimit) where
@@ -170,25 +163,26 @@ module _ (book : List ℕ) (n g : ℕ) (long : length book ≡ bookWords) (few :
 
 -- ---- the declarations with a holder more
 
-module _ (D : Declarations) (h : Holder) where
+module _ (D : Declarations) (h : Holder) (free : holderOf D (h .number) ≡ none) where
   abbrev E : Declarations
   E = withHolder h D
 
-  sort-new : sortOf E (length (D .holders)) ≡ some (h .sort)
+  sort-new : sortOf E (h .number) ≡ some (h .sort)
   unfolding sortOf
-  sort-new = ap (λ (o : Option Holder). o >>= λ x. some (x .sort)) (nth-new (D .holders) h)
+  sort-new = holder-with D h free (h .number) (λ o. (o >>= λ x. some (x .sort)) ≡ some (h .sort)) (λ e. refl) (λ e. absurd (e refl))
 
-  sort-old : (k : ℕ) → (k ≡ length (D .holders) → ⊥) → sortOf E k ≡ sortOf D k
+  sort-old : (k : ℕ) → (k ≡ h .number → ⊥) → sortOf E k ≡ sortOf D k
   unfolding sortOf
-  sort-old k other = ap (λ (o : Option Holder). o >>= λ x. some (x .sort)) (nth-old (D .holders) h k other)
+  sort-old k other = holder-with D h free k (λ o. (o >>= λ x. some (x .sort)) ≡ (holderOf D k >>= λ x. some (x .sort))) (λ e. absurd (other (sym e))) (λ e. refl)
 
-  sort-few : (k : ℕ) (s : Sort) → sortOf D k ≡ some s → k < length (D .holders)
+  -- who was there has another number
+  sort-other : (k : ℕ) (s : Sort) → sortOf D k ≡ some s → k ≡ h .number → ⊥
   unfolding sortOf
-  sort-few k s e = nth-lt (D .holders) k (bind-some (nth (D .holders) k) (λ x. some (x .sort)) e .1)
+  sort-other k s e z = none-is-some (sym (ap (λ (o : Option Holder). o >>= λ x. some (x .sort)) (ap (holderOf D) z ∙ free)) ∙ e)
 
   groups-more : groups E ≡ groups D + (if isGroup (h .sort) then 1 else 0)
   unfolding groups
-  groups-more = count-last (λ x. isGroup (x .sort)) (D .holders) h
+  groups-more = count-inserted (λ x. x .number) h (λ x. isGroup (x .sort)) (D .holders)
 
   groups-plain : isGroup (h .sort) ≡ false → groups E ≡ groups D
   groups-plain e = let m = rw e at groups-more in omega arith
@@ -197,19 +191,21 @@ module _ (D : Declarations) (h : Holder) where
   groups-one e = rw e at groups-more
 
   -- its row in the index, and its sort
-  rows-more : (s : List ℕ) (n : ℕ) → n ≡ length (D .holders) → n < holderNumbers → Indexed s holderNumbers (holderRow (D .holders))
-      → Indexed (rowAdded s holderNumbers n (rowOfName (packedOf (h .name) .low) (packedOf (h .name) .high))) holderNumbers (holderRow (E .holders))
-  rows-more s n at few ix =
-      listed-more (λ (x : Holder). rowOfName (packedOf (x .name) .low) (packedOf (x .name) .high)) (D .holders) h
-      (subst
-      (λ (j : ℕ).
-      Indexed (rowAdded s holderNumbers n (rowOfName (packedOf (h .name) .low) (packedOf (h .name) .high))) holderNumbers
-      (withRow (holderRow (D .holders)) j (rowOfName (packedOf (h .name) .low) (packedOf (h .name) .high))))
-      at
-      (added-indexed s holderNumbers n (rowOfName (packedOf (h .name) .low) (packedOf (h .name) .high)) (holderRow (D .holders)) ix few (λ z. omega arith)
-      (λ j l. listed-fresh (λ (x : Holder). rowOfName (packedOf (x .name) .low) (packedOf (x .name) .high)) (D .holders) j (omega arith))))
+  rows-more : (s t : List ℕ) (n : ℕ) → n ≡ h .number → Added s t n (rowOfName (packedOf (h .name) .low) (packedOf (h .name) .high)) → Indexed s holderNumbers (holderRow D)
+      → Indexed t holderNumbers (holderRow E)
+  rows-more s t n at adds ix =
+      indexed-same (withRow (holderRow D) n w) (holderRow E) same
+      (adds .index holderNumbers (holderRow D) ix (λ z. omega arith) (ap (λ (o : Option Holder). o >>= λ x. some (rowOfName (packedOf (x .name) .low) (packedOf (x .name) .high))) (ap (holderOf D) at ∙ free)))
+    where
+      w : Row
+      w = rowOfName (packedOf (h .name) .low) (packedOf (h .name) .high)
 
-  sorts-more : (words : List ℕ) (n : ℕ) → length words ≡ holderNumbers → n ≡ length (D .holders) → n < holderNumbers → SortRows words D
+      same : (k : ℕ) → withRow (holderRow D) n w k ≡ holderRow E k
+      same k =
+          holder-with D h free k (λ o. withRow (holderRow D) n w k ≡ (o >>= λ x. some (rowOfName (packedOf (x .name) .low) (packedOf (x .name) .high))))
+          (λ e. rw (eq-eqb k n (sym (at ∙ e))) refl) (λ e. rw (ne-eqb k n (λ z. e (sym (z ∙ at)))) refl)
+
+  sorts-more : (words : List ℕ) (n : ℕ) → length words ≡ holderNumbers → n ≡ h .number → n < holderNumbers → SortRows words D
       → SortRows (set words n (sortCode (h .sort))) E
   sorts-more words n long at few rows k l = go (ℕ-discrete k n)
     where
@@ -224,13 +220,13 @@ module _ (D : Declarations) (h : Holder) where
   -- no group: slots and seats stay
   slots-plain : (slots seats : List ℕ) → isGroup (h .sort) ≡ false → GroupSlots slots seats D → GroupSlots slots seats E
   slots-plain slots seats no-group g = record {
-    seated = λ k s e i. go k s e i (ℕ-discrete k (length (D .holders)));
-    unseated = λ k l f. g .unseated k l (λ s e. f s (sort-old k (λ z. let m = sort-few k s e in omega arith) ∙ e));
-    taken = λ q l. let (s, e, i) = g .taken q (omega (arith, groups-plain no-group)) in (s, sort-old _ (λ z. let m = sort-few _ s e in omega arith) ∙ e, i);
+    seated = λ k s e i. go k s e i (ℕ-discrete k (h .number));
+    unseated = λ k l f. g .unseated k l (λ s e. f s (sort-old k (sort-other k s e) ∙ e));
+    taken = λ q l. let (s, e, i) = g .taken q (omega (arith, groups-plain no-group)) in (s, sort-old _ (sort-other _ s e) ∙ e, i);
     free = λ q l m. g .free q (omega (arith, groups-plain no-group)) m;
   }
     where
-      go : (k : ℕ) (s : Sort) → sortOf E k ≡ some s → isGroup s ≡ true → Dec (k ≡ length (D .holders))
+      go : (k : ℕ) (s : Sort) → sortOf E k ≡ some s → isGroup s ≡ true → Dec (k ≡ h .number)
           → (q : ℕ) × (getD seats k 0 ≡ suc q) × (q < groups E) × (getD slots q 0 ≡ k)
       go k s e i (yes z) =
           absurd (true≢false (sym i ∙ ap isGroup (Option·some-injective _ _ (sym e ∙ ap (sortOf E) z ∙ sort-new)) ∙ no-group))
@@ -239,7 +235,7 @@ module _ (D : Declarations) (h : Holder) where
           (q, a, omega (arith, groups-plain no-group), c)
 
   -- a group: it has the next slot
-  module _ (slots seats : List ℕ) (n q : ℕ) (is-group : isGroup (h .sort) ≡ true) (at : n ≡ length (D .holders)) (next : q ≡ groups D) (few : n < holderNumbers)
+  module _ (slots seats : List ℕ) (n q : ℕ) (is-group : isGroup (h .sort) ≡ true) (at : n ≡ h .number) (next : q ≡ groups D) (few : n < holderNumbers)
       (low : q < groupLimit) (long : length slots ≡ groupLimit) (long′ : length seats ≡ holderNumbers) (g : GroupSlots slots seats D) where
     slots-group : GroupSlots (set slots q n) (set seats n (q + 1)) E
     slots-group = record {
@@ -279,7 +275,7 @@ module _ (D : Declarations) (h : Holder) where
         takes r l (no z) =
             let (s, e, i) = g .taken r (omega (arith, groups-one is-group)) in (
               s,
-              ap (sortOf E) (getD-set-other slots q r n 0 z) ∙ sort-old (getD slots r 0) (λ y. let m = sort-few (getD slots r 0) s e in omega arith) ∙ e,
+              ap (sortOf E) (getD-set-other slots q r n 0 z) ∙ sort-old (getD slots r 0) (sort-other (getD slots r 0) s e) ∙ e,
               i,
             )
 
@@ -292,7 +288,7 @@ module _ (D : Declarations) (h : Holder) where
         (λ r l e. other r l e (decLt r (groups D)))
       where
         other : (r : ℕ) → r < groupLimit → getD slots r 0 ≡ n → Dec (r < groups D) → ⊥
-        other r l e (yes m) = let (s, f, i) = g .taken r m in let few = sort-few (getD slots r 0) s f in omega arith
+        other r l e (yes m) = let (s, f, i) = g .taken r m in sort-other (getD slots r 0) s f (e ∙ at)
         other r l e (no m) = let z = g .free r (omega arith) l in omega arith
 
   -- the counts
@@ -302,7 +298,7 @@ module _ (D : Declarations) (h : Holder) where
     attributes = word-at words 3 (n + 1) 0 long ∙ c .attributes;
     operations = word-at words 3 (n + 1) 1 long ∙ c .operations;
     pairs = word-at words 3 (n + 1) 2 long ∙ c .pairs;
-    holders = word-at words 3 (n + 1) 3 long ∙ omega (arith, at, length-more (D .holders) h) ∙ sym (length-below (length (E .holders)));
+    holders = word-at words 3 (n + 1) 3 long ∙ omega (arith, at, length-inserted (λ x. x .number) h (D .holders)) ∙ sym (length-map (λ x. x .number) (E .holders));
     groups-are = word-at words 3 (n + 1) 4 long ∙ c .groups-are ∙ sym (groups-plain no-group);
     rules = word-at words 3 (n + 1) 5 long ∙ c .rules;
   }
@@ -318,7 +314,7 @@ module _ (D : Declarations) (h : Holder) where
         attributes = word-at w 4 (q + 1) 0 l′ ∙ word-at words 3 (n + 1) 0 l ∙ c .attributes;
         operations = word-at w 4 (q + 1) 1 l′ ∙ word-at words 3 (n + 1) 1 l ∙ c .operations;
         pairs = word-at w 4 (q + 1) 2 l′ ∙ word-at words 3 (n + 1) 2 l ∙ c .pairs;
-        holders = word-at w 4 (q + 1) 3 l′ ∙ word-at words 3 (n + 1) 3 l ∙ omega (arith, at, length-more (D .holders) h) ∙ sym (length-below (length (E .holders)));
+        holders = word-at w 4 (q + 1) 3 l′ ∙ word-at words 3 (n + 1) 3 l ∙ omega (arith, at, length-inserted (λ x. x .number) h (D .holders)) ∙ sym (length-map (λ x. x .number) (E .holders));
         groups-are = word-at w 4 (q + 1) 4 l′ ∙ omega (arith, next, groups-one is-group);
         rules = word-at w 4 (q + 1) 5 l′ ∙ word-at words 3 (n + 1) 5 l ∙ c .rules;
       }
@@ -331,16 +327,15 @@ record Grown (book next : List ℕ) (D : Declarations) (T : Ties) (h : Holder) (
   same : (s : Section) → apart s section.holders ≡ true → apart s section.sorts ≡ true → apart s section.counts ≡ true → apart s section.slots ≡ true
       → apart s section.seats ≡ true → sectionWords s next ≡ sectionWords s book
   counted : CountsOf (sectionWords section.counts next) (withHolder h D)
-  row : sectionWords section.holders next
-      ≡ rowAdded (sectionWords section.holders book) holderNumbers n (rowOfName (packedOf (h .name) .low) (packedOf (h .name) .high))
+  row : Indexed (sectionWords section.holders next) holderNumbers (holderRow (withHolder h D))
   sort : sectionWords section.sorts next ≡ set (sectionWords section.sorts book) n (sortCode (h .sort))
   slotted : GroupSlots (sectionWords section.slots next) (sectionWords section.seats next) (withHolder h D)
   tied : KeepsTies (sectionWords section.ups next) (sectionWords section.own next) (sectionWords section.slots next) T
 
 grown-held : (book next : List ℕ) (code : Bytes) (D : Declarations) (T : Ties) (h : Holder) (n : ℕ) → Holds book code (record { declared = D; ties = T }) → NamesKnown D
-    → n ≡ length (D .holders) → n < holderNumbers → Grown book next D T h n → Holds next code (record { declared = withHolder h D; ties = T })
+    → holderOf D (h .number) ≡ none → n ≡ h .number → n < holderNumbers → Grown book next D T h n → Holds next code (record { declared = withHolder h D; ties = T })
 unfolding attributeNumber operationNumber isPairOf
-grown-held book next code D T h n held known at few grown =
+grown-held book next code D T h n held known free at few grown =
     let E = withHolder h D in
     let long = held .long in
     let same = grown .same in
@@ -352,11 +347,10 @@ grown-held book next code D T h n held known at few grown =
           subst (λ (w : List ℕ). AttributeRows w E) (sym (same section.attributes refl refl refl refl refl)) (attributes-kept D E refl (λ i p. refl) _ (held .attributes));
       operations = subst (λ (w : List ℕ). OperationRows w (E .operations)) (sym (same section.operations refl refl refl refl refl)) (held .operations);
       pairs = subst (λ (w : List ℕ). Indexed w pairLimit (pairRow E)) (sym (same section.pairs refl refl refl refl refl)) (held .pairs);
-      holders =
-          subst (λ (w : List ℕ). Indexed w holderNumbers (holderRow (E .holders))) (sym (grown .row)) (rows-more D h (sectionWords section.holders book) n at few (held .holders));
+      holders = grown .row;
       sorts =
           subst (λ (w : List ℕ). SortRows w E) (sym (grown .sort))
-          (sorts-more D h (sectionWords section.sorts book) n (section-long section.sorts book (omega arith)) at few (held .sorts));
+          (sorts-more D h free (sectionWords section.sorts book) n (section-long section.sorts book (omega arith)) at few (held .sorts));
       groups = grown .slotted;
       ties = grown .tied;
       rules =
@@ -365,29 +359,49 @@ grown-held book next code D T h n held known at few grown =
     }
 
 module _ (book : List ℕ) (code : Bytes) (D : Declarations) (T : Ties) (h : Holder) (n : ℕ) (held : Holds book code (record { declared = D; ties = T }))
-    (known : NamesKnown D) (at : n ≡ length (D .holders)) (few : n < holderNumbers) where
-  abbrev put : List ℕ
-  put = holderPut book n (sortCode (h .sort)) (packedOf (h .name) .low) (packedOf (h .name) .high)
+    (known : NamesKnown D) (free : holderOf D (h .number) ≡ none) (at : n ≡ h .number) (next-number : n ≡ length (D .holders)) (few : n < holderNumbers)
+    (put : List ℕ) (wrote : HolderPut book n (sortCode (h .sort)) (packedOf (h .name) .low) (packedOf (h .name) .high) put) where
+  long : length book ≡ bookWords
+  long = held .long
+
+  rows-long : length (wrote .rows) ≡ section.holders .size
+  rows-long = put-long book n (sortCode (h .sort)) (packedOf (h .name) .low) (packedOf (h .name) .high) long few wrote
+
+  in-put : (P : List ℕ → Type 0) → P (holderPut book n (sortCode (h .sort)) (wrote .rows)) → P put
+  in-put P x = subst P (sym (wrote .written)) x
+
+  beside : (s : Section) → apart s section.holders ≡ true → apart s section.sorts ≡ true → apart s section.counts ≡ true → sectionWords s put ≡ sectionWords s book
+  beside s a b c = ap (sectionWords s) (wrote .written) ∙ holder-beside book n (sortCode (h .sort)) (wrote .rows) long few rows-long s a b c
+
+  put-words : length put ≡ length book
+  put-words = ap length (wrote .written) ∙ holder-long book n (sortCode (h .sort)) (wrote .rows) long few rows-long
+
+  counts-are : sectionWords section.counts put ≡ set (sectionWords section.counts book) 3 (n + 1)
+  counts-are = ap (sectionWords section.counts) (wrote .written) ∙ holder-count book n (sortCode (h .sort)) (wrote .rows) long few rows-long
+
+  sorts-are : sectionWords section.sorts put ≡ set (sectionWords section.sorts book) n (sortCode (h .sort))
+  sorts-are = ap (sectionWords section.sorts) (wrote .written) ∙ holder-sort book n (sortCode (h .sort)) (wrote .rows) long few rows-long
+
+  rows-are : sectionWords section.holders put ≡ wrote .rows
+  rows-are = ap (sectionWords section.holders) (wrote .written) ∙ holder-row book n (sortCode (h .sort)) (wrote .rows) long few rows-long
+
+  indexed : Indexed (wrote .rows) holderNumbers (holderRow (withHolder h D))
+  indexed = rows-more D h free (sectionWords section.holders book) (wrote .rows) n at (wrote .row) (held .holders)
 
   -- one that is no group
   pub holder-held : isGroup (h .sort) ≡ false → Holds put code (record { declared = withHolder h D; ties = T })
   holder-held no-group =
-      let low = packedOf (h .name) .low in
-      let high = packedOf (h .name) .high in
-      let sort = sortCode (h .sort) in
-      let long = held .long in
-      let beside = holder-beside book n sort low high long few in
-      grown-held book put code D T h n held known at few (record {
-        size = holder-long book n sort low high long few;
+      grown-held book put code D T h n held known free at few (record {
+        size = put-words;
         same = λ s a b c d e. beside s a b c;
         counted =
-            subst (λ (w : List ℕ). CountsOf w (withHolder h D)) (sym (holder-count book n sort low high long few))
-            (counts-plain D h (sectionWords section.counts book) n (omega (arith, section-long section.counts book (omega arith))) at no-group (held .counts));
-        row = holder-row book n sort low high long few;
-        sort = holder-sort book n sort low high long few;
+            subst (λ (w : List ℕ). CountsOf w (withHolder h D)) (sym counts-are)
+            (counts-plain D h free (sectionWords section.counts book) n (omega (arith, long, section-long section.counts book (omega (arith, long)))) next-number no-group (held .counts));
+        row = subst (λ (w : List ℕ). Indexed w holderNumbers (holderRow (withHolder h D))) (sym rows-are) indexed;
+        sort = sorts-are;
         slotted =
             rw (beside section.slots refl refl refl, beside section.seats refl refl refl)
-            (slots-plain D h (sectionWords section.slots book) (sectionWords section.seats book) no-group (held .groups));
+            (slots-plain D h free (sectionWords section.slots book) (sectionWords section.seats book) no-group (held .groups));
         tied = rw (beside section.ups refl refl refl, beside section.own refl refl refl, beside section.slots refl refl refl) (held .ties);
       })
 
@@ -395,12 +409,7 @@ module _ (book : List ℕ) (code : Bytes) (D : Declarations) (T : Ties) (h : Hol
   pub group-held : isGroup (h .sort) ≡ true → (g : ℕ) → g ≡ groups D → g < groupLimit → 0 < n
       → Holds (groupPut put n g) code (record { declared = withHolder h D; ties = T })
   group-held is-group g next low some-holder =
-      let low′ = packedOf (h .name) .low in
-      let high′ = packedOf (h .name) .high in
-      let sort = sortCode (h .sort) in
-      let long = held .long in
-      let long′ : length put ≡ bookWords = holder-long book n sort low′ high′ long few ∙ held .long in
-      let beside = holder-beside book n sort low′ high′ long few in
+      let long′ : length put ≡ bookWords = put-words ∙ long in
       let beside′ = group-beside put n g long′ few low in
       let slots = sectionWords section.slots book in
       let seats = sectionWords section.seats book in
@@ -408,22 +417,22 @@ module _ (book : List ℕ) (code : Bytes) (D : Declarations) (T : Ties) (h : Hol
       group-slots put n g long′ few low ∙ ap (λ (l : List ℕ). set l g n) (beside section.slots refl refl refl) in
       let seats-are : sectionWords section.seats (groupPut put n g) ≡ set seats n (g + 1) =
       group-seats put n g long′ few low ∙ ap (λ (l : List ℕ). set l n (g + 1)) (beside section.seats refl refl refl) in
-      let slots-long = section-long section.slots book (omega arith) in
-      let seats-long = section-long section.seats book (omega arith) in
-      grown-held book (groupPut put n g) code D T h n held known at few (record {
-        size = group-long put n g long′ few low ∙ holder-long book n sort low′ high′ long few;
+      let slots-long = section-long section.slots book (omega (arith, long)) in
+      let seats-long = section-long section.seats book (omega (arith, long)) in
+      grown-held book (groupPut put n g) code D T h n held known free at few (record {
+        size = group-long put n g long′ few low ∙ put-words;
         same = λ s a b c d e. beside′ s d e c ∙ beside s a b c;
         counted =
             subst (λ (w : List ℕ). CountsOf w (withHolder h D))
-            (sym (group-count put n g long′ few low ∙ ap (λ (l : List ℕ). set l 4 (g + 1)) (holder-count book n sort low′ high′ long few)))
-            (counts-group D h (sectionWords section.counts book) n g (omega (arith, section-long section.counts book (omega arith))) at next is-group (held .counts));
-        row = beside′ section.holders refl refl refl ∙ holder-row book n sort low′ high′ long few;
-        sort = beside′ section.sorts refl refl refl ∙ holder-sort book n sort low′ high′ long few;
+            (sym (group-count put n g long′ few low ∙ ap (λ (l : List ℕ). set l 4 (g + 1)) counts-are))
+            (counts-group D h free (sectionWords section.counts book) n g (omega (arith, long, section-long section.counts book (omega (arith, long)))) next-number next is-group (held .counts));
+        row = subst (λ (w : List ℕ). Indexed w holderNumbers (holderRow (withHolder h D))) (sym (beside′ section.holders refl refl refl ∙ rows-are)) indexed;
+        sort = beside′ section.sorts refl refl refl ∙ sorts-are;
         slotted =
             rw (slots-are, seats-are)
-            (slots-group D h slots seats n g is-group at next few low slots-long seats-long (held .groups));
+            (slots-group D h free slots seats n g is-group at next few low slots-long seats-long (held .groups));
         tied =
             rw (beside′ section.ups refl refl refl ∙ beside section.ups refl refl refl, beside′ section.own refl refl refl ∙ beside section.own refl refl refl, slots-are)
-            (ties-group D h slots seats n g is-group at next few low slots-long seats-long (held .groups) (sectionWords section.ups book) (sectionWords section.own book) T some-holder
+            (ties-group D h free slots seats n g is-group at next few low slots-long seats-long (held .groups) (sectionWords section.ups book) (sectionWords section.own book) T some-holder
             (held .ties));
       })

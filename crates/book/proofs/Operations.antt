@@ -152,7 +152,7 @@ operation-held book code S n k held known at few =
           subst (λ (w : List ℕ). OperationRows w (E .operations)) (sym (put-rows book k low high few))
           (rows-more (sectionWords section.operations book) (D .operations) n k (section-long section.operations book (omega arith)) at few (held .operations));
       pairs = subst (λ (w : List ℕ). Indexed w 256 (pairRow E)) (sym (beside section.pairs refl refl)) (held .pairs);
-      holders = subst (λ (w : List ℕ). Indexed w 256 (holderRow (E .holders))) (sym (beside section.holders refl refl)) (held .holders);
+      holders = subst (λ (w : List ℕ). Indexed w 256 (holderRow E)) (sym (beside section.holders refl refl)) (held .holders);
       sorts = subst (λ (w : List ℕ). SortRows w E) (sym (beside section.sorts refl refl)) (sorts-kept D E refl (sectionWords section.sorts book) (held .sorts));
       groups = rw (beside section.slots refl refl, beside section.seats refl refl) (groups-kept D E refl _ _ (held .groups));
       ties = rw (beside section.ups refl refl, beside section.own refl refl, beside section.slots refl refl) (held .ties);

@@ -10,7 +10,7 @@ use lib.Dec.{eqb}
 use lib.ListN.{length, getD, set, length-set}
 use lib.Seq.{getD-set-other}
 use borrow.Author.Tests.{eq-eqb, ne-eqb, eqb-true}
-use Rattle.model.specs.Notation.{_>>=_, _is_, nth}
+use Rattle.model.specs.Notation.{if_then_else_, _>>=_, _is_, nth}
 use Rattle.model.specs.Limits.{attributeLimit, pairLimit, holderNumbers, wordBits}
 use Rattle.model.specs.Bytes.{Bytes}
 use Rattle.model.specs.Declarations.{Declarations, Pair, attributeNumber, operationNumber, holderNumbersOf, groups}
@@ -23,8 +23,7 @@ use Rattle.text.specs.Values.{atomWords}
 use Rattle.bits.specs.Bits.{bit, Bits, member}
 use Rattle.bits.proofs.Sets.{member-with}
 use Rattle.rows.specs.Rows.{AttributeRows, isPairOf, masked}
-use Rattle.index.specs.Index.{Row, Indexed, Added, rowAdded, rowsIn, withRow}
-use Rattle.index.proofs.Adding.{added-length, added-indexed, with-this, with-other}
+use Rattle.index.specs.Index.{Row, Indexed, Added, withRow}
 use Rattle.index.proofs.Listed.{indexed-same}
 use Rattle.book.specs.Sections as section
 use Rattle.book.specs.Sections.{Section, sectionWords, bookWords}
@@ -38,87 +37,78 @@ use Rattle.book.proofs.Kept.{nth-new, nth-old, length-more, NamesKnown,
 abbrev rowOf : ℕ → Words → Row
 rowOf k words = (k + 1, words .first, words .second, words .third)
 
-module _ (book : List ℕ) (n k : ℕ) (words : Words) (mask : ℕ) (long : length book ≡ bookWords) (few : n < pairLimit) (low : k < attributeLimit) where
+module _ (book : List ℕ) (n k mask : ℕ) (rows : List ℕ) (long : length book ≡ bookWords) (few : n < pairLimit) (low : k < attributeLimit) (rows-long : length rows ≡ section.pairs .size) where
   abbrev marked : List ℕ
   marked = set book (maskPlace k n) mask
 
   marked-long : length marked ≡ bookWords
   marked-long = length-set book (maskPlace k n) mask ∙ long
 
-  abbrev row : List ℕ
-  row = rowAdded (sectionWords section.pairs marked) pairLimit n (rowOf k words)
-
   abbrev placed : List ℕ
-  placed = withSection section.pairs marked row
-
-  marked-pairs : sectionWords section.pairs marked ≡ sectionWords section.pairs book
-  marked-pairs = word-beside section.pairs section.attributes book refl (maskPlace k n) mask (omega arith) (omega arith)
-
-  row-long : length row ≡ section.pairs .size
-  row-long = let m = marked-long in added-length (sectionWords section.pairs marked) pairLimit n (rowOf k words) ∙ section-long section.pairs marked (omega arith)
+  placed = withSection section.pairs marked rows
 
   put-beside : (s : Section) → apart s section.attributes ≡ true → apart s section.pairs ≡ true → apart s section.counts ≡ true
-      → sectionWords s (pairPut book n k words mask) ≡ sectionWords s book
+      → sectionWords s (pairPut book n k mask rows) ≡ sectionWords s book
   unfolding pairPut
   put-beside s a b c =
       let m = marked-long in
       word-beside s section.counts placed c 2 (n + 1) (omega arith) (omega arith)
-      ∙ section-beside s section.pairs marked b row (omega arith) row-long
+      ∙ section-beside s section.pairs marked b rows (omega arith) rows-long
       ∙ word-beside s section.attributes book a (maskPlace k n) mask (omega arith) (omega arith)
 
-  put-row : sectionWords section.pairs (pairPut book n k words mask) ≡ rowAdded (sectionWords section.pairs book) pairLimit n (rowOf k words)
+  put-row : sectionWords section.pairs (pairPut book n k mask rows) ≡ rows
   unfolding pairPut
   put-row =
       let m = marked-long in
       word-beside section.pairs section.counts placed refl 2 (n + 1) (omega arith) (omega arith)
-      ∙ section-inside section.pairs marked row (omega arith) row-long
-      ∙ ap (λ (l : List ℕ). rowAdded l pairLimit n (rowOf k words)) marked-pairs
+      ∙ section-inside section.pairs marked rows (omega arith) rows-long
 
-  put-mask : sectionWords section.attributes (pairPut book n k words mask) ≡ set (sectionWords section.attributes book) (8 * k + 4 + n / 64) mask
+  put-mask : sectionWords section.attributes (pairPut book n k mask rows) ≡ set (sectionWords section.attributes book) (8 * k + 4 + n / 64) mask
   unfolding pairPut
   put-mask =
       let m = marked-long in
       word-beside section.attributes section.counts placed refl 2 (n + 1) (omega arith) (omega arith)
-      ∙ section-beside section.attributes section.pairs marked refl row (omega arith) row-long
+      ∙ section-beside section.attributes section.pairs marked refl rows (omega arith) rows-long
       ∙ word-inside section.attributes book (8 * k + 4 + n / 64) mask (omega arith)
 
-  put-count : sectionWords section.counts (pairPut book n k words mask) ≡ set (sectionWords section.counts book) 2 (n + 1)
+  put-count : sectionWords section.counts (pairPut book n k mask rows) ≡ set (sectionWords section.counts book) 2 (n + 1)
   unfolding pairPut
   put-count =
       let m = marked-long in
       word-inside section.counts placed 2 (n + 1) (omega arith)
       ∙ ap (λ (l : List ℕ). set l 2 (n + 1))
-      (section-beside section.counts section.pairs marked refl row (omega arith) row-long
+      (section-beside section.counts section.pairs marked refl rows (omega arith) rows-long
       ∙ word-beside section.counts section.attributes book refl (maskPlace k n) mask (omega arith) (omega arith))
 
-  put-long : length (pairPut book n k words mask) ≡ length book
+  put-long : length (pairPut book n k mask rows) ≡ length book
   unfolding pairPut
   put-long =
       let m = marked-long in
-      length-set placed 2 (n + 1) ∙ section-same-length section.pairs marked row (omega arith) row-long ∙ length-set book (maskPlace k n) mask
+      length-set placed 2 (n + 1) ∙ section-same-length section.pairs marked rows (omega arith) rows-long ∙ length-set book (maskPlace k n) mask
 
-  -- what the code writes
-  module _ (t : List ℕ) (adds : Added (sectionWords section.pairs marked) t n (rowOf k words)) where
-    pub wrote-row : t ≡ row
-    wrote-row =
-        let e = marked-long in
-        let f = section-long section.pairs marked (omega arith) in
-        let m : rowsIn (length (sectionWords section.pairs marked)) ≡ pairLimit = omega arith in
-        adds .words ∙ ap (λ (j : ℕ). rowAdded (sectionWords section.pairs marked) j n (rowOf k words)) m
+-- what the code writes: the section is that of the book with the mask's word
+module _ (book : List ℕ) (n k : ℕ) (words : Words) (mask : ℕ) (long : length book ≡ bookWords) (few : n < pairLimit) (low : k < attributeLimit)
+    (t : List ℕ) (adds : Added (sectionWords section.pairs (set book (maskPlace k n) mask)) t n (rowOf k words)) where
+  same-pairs : sectionWords section.pairs (set book (maskPlace k n) mask) ≡ sectionWords section.pairs book
+  same-pairs = word-beside section.pairs section.attributes book refl (maskPlace k n) mask (omega arith) (omega arith)
 
-    pub wrote-pair : Bits mask (λ j. bit (getD book (maskPlace k n) 0) j || eqb j (n % wordBits))
-        → PairPut book n k words (set (withSection section.pairs marked t) 2 (n + 1))
-    unfolding pairPut
-    wrote-pair bits =
-        record { mask = mask; marked = bits; written = ap (λ (l : List ℕ). set (withSection section.pairs marked l) 2 (n + 1)) wrote-row }
+  pub wrote-pair : Bits mask (λ j. bit (getD book (maskPlace k n) 0) j || eqb j (n % wordBits))
+      → PairPut book n k words (set (withSection section.pairs (set book (maskPlace k n) mask) t) 2 (n + 1))
+  unfolding pairPut
+  wrote-pair bits = record { mask = mask; rows = t; marked = bits; row = subst (λ (l : List ℕ). Added l t n (rowOf k words)) same-pairs adds; written = refl }
 
-    pub wrote-long : length (withSection section.pairs marked t) ≡ bookWords
-    wrote-long =
-        let m = marked-long in section-same-length section.pairs marked t (omega arith) (ap length wrote-row ∙ row-long) ∙ marked-long
+  pub wrote-long : length (withSection section.pairs (set book (maskPlace k n) mask) t) ≡ bookWords
+  wrote-long =
+      let m = marked-long book n k mask t long few low in
+      let l = length-set book (maskPlace k n) mask in
+      section-same-length section.pairs (set book (maskPlace k n) mask) t (omega arith) (adds .long ∙ section-long section.pairs (set book (maskPlace k n) mask) (omega arith)) ∙ l ∙ long
+
+pub rows-long : {book : List ℕ} {n k : ℕ} {words : Words} {next : List ℕ} → length book ≡ bookWords → (put : PairPut book n k words next) → length (put .rows) ≡ section.pairs .size
+rows-long {book} long put = put .row .long ∙ section-long section.pairs book (omega arith)
 
 pub pair-same-length : (book : List ℕ) (n k : ℕ) (words : Words) (next : List ℕ) → length book ≡ bookWords → n < pairLimit → k < attributeLimit
     → PairPut book n k words next → length next ≡ length book
-pair-same-length book n k words next long few low put = ap length (put .written) ∙ put-long book n k words (put .mask) long few low
+pair-same-length book n k words next long few low put = ap length (put .written) ∙ put-long book n k (put .mask) (put .rows) long few low (rows-long long put)
 
 -- ---- the rows with one more
 
@@ -205,11 +195,11 @@ module _ (D : Declarations) (q : Pair) (k n : ℕ) (number : attributeNumber D (
       other : (j : ℕ) → (j ≡ 8 * k + 4 + n / 64 → ⊥) → getD (set rows (8 * k + 4 + n / 64) mask) j 0 ≡ getD rows j 0
       other j z = getD-set-other rows (8 * k + 4 + n / 64) j mask 0 z
 
-  rows-more : (s : List ℕ) → n < pairLimit → Indexed s pairLimit (pairRow D) → Indexed (rowAdded s pairLimit n (rowOf k (atomWords (q .atom)))) pairLimit (pairRow E)
+  rows-more : (s t : List ℕ) → Added s t n (rowOf k (atomWords (q .atom))) → Indexed s pairLimit (pairRow D) → Indexed t pairLimit (pairRow E)
   unfolding attributeNumber
-  rows-more s few ix =
+  rows-more s t adds ix =
       indexed-same (withRow (pairRow D) n w) (pairRow E) same
-      (added-indexed s pairLimit n w (pairRow D) ix few (λ z. omega arith) (λ j h. ap (λ (o : Option Pair). o >>= rowIn) (nothing-yet j h)))
+      (adds .index pairLimit (pairRow D) ix (λ z. omega arith) (ap (λ (o : Option Pair). o >>= rowIn) (nothing-yet n (omega arith))))
     where
       w : Row
       w = rowOf k (atomWords (q .atom))
@@ -223,11 +213,11 @@ module _ (D : Declarations) (q : Pair) (k n : ℕ) (number : attributeNumber D (
           go : Dec (j ≡ n) → withRow (pairRow D) n w j ≡ pairRow E j
           go (yes z) =
               ap (withRow (pairRow D) n w) z
-              ∙ with-this (pairRow D) n w
+              ∙ rw (eq-eqb n n refl) refl
               ∙ sym
               (ap (λ (o : Option Pair). o >>= rowIn) (ap (nth (E .pairs)) (z ∙ at) ∙ nth-new (D .pairs) q)
               ∙ ap (λ (o : Option ℕ). o >>= λ i. some (rowOf i (atomWords (q .atom)))) number)
-          go (no z) = with-other (pairRow D) n w j z ∙ sym (ap (λ (o : Option Pair). o >>= rowIn) (nth-old (D .pairs) q j (λ y. z (y ∙ sym at))))
+          go (no z) = ap (λ (b : Bool). if b then some w else pairRow D j) (ne-eqb j n z) ∙ sym (ap (λ (o : Option Pair). o >>= rowIn) (nth-old (D .pairs) q j (λ y. z (y ∙ sym at))))
 
   counts-more : (words : List ℕ) → 2 < length words → CountsOf words D → CountsOf (set words 2 (n + 1)) E
   unfolding holderNumbersOf groups
@@ -248,28 +238,27 @@ unfolding attributeNumber operationNumber
 pair-held book next code D T q n k held known number at few low put =
     let E = withPair q D in
     let long = held .long in
-    let words = atomWords (q .atom) in
     let mask = put .mask in
     let e = put .written in
     let beside : (s : Section) → apart s section.attributes ≡ true → apart s section.pairs ≡ true → apart s section.counts ≡ true → sectionWords s next ≡ sectionWords s book =
-    λ s a b c. ap (sectionWords s) e ∙ put-beside book n k words mask long few low s a b c in
+    λ s a b c. ap (sectionWords s) e ∙ put-beside book n k mask (put .rows) long few low (rows-long long put) s a b c in
     let word : getD (sectionWords section.attributes book) (8 * k + 4 + n / 64) 0 ≡ getD book (maskPlace k n) 0 =
     section-word section.attributes book (8 * k + 4 + n / 64) (omega arith) in
     record {
-      long = ap length e ∙ put-long book n k words mask long few low ∙ held .long;
+      long = ap length e ∙ put-long book n k mask (put .rows) long few low (rows-long long put) ∙ held .long;
       code-long = held .code-long;
       counts =
-          subst (λ (w : List ℕ). CountsOf w E) (sym (ap (sectionWords section.counts) e ∙ put-count book n k words mask long few low))
+          subst (λ (w : List ℕ). CountsOf w E) (sym (ap (sectionWords section.counts) e ∙ put-count book n k mask (put .rows) long few low (rows-long long put)))
           (counts-more D q k n number at (sectionWords section.counts book) (omega (arith, section-long section.counts book (omega arith))) (held .counts));
       attributes =
-          subst (λ (w : List ℕ). AttributeRows w E) (sym (ap (sectionWords section.attributes) e ∙ put-mask book n k words mask long few low))
+          subst (λ (w : List ℕ). AttributeRows w E) (sym (ap (sectionWords section.attributes) e ∙ put-mask book n k mask (put .rows) long few low (rows-long long put)))
           (attributes-more D q k n number at (sectionWords section.attributes book) mask (section-long section.attributes book (omega arith)) low few
           (λ j. put .marked j ∙ ap (λ (x : ℕ). bit x j || eqb j (n % 64)) (sym word)) (held .attributes));
       operations = subst (λ (w : List ℕ). OperationRows w (E .operations)) (sym (beside section.operations refl refl refl)) (held .operations);
       pairs =
-          subst (λ (w : List ℕ). Indexed w pairLimit (pairRow E)) (sym (ap (sectionWords section.pairs) e ∙ put-row book n k words mask long few low))
-          (rows-more D q k n number at (sectionWords section.pairs book) few (held .pairs));
-      holders = subst (λ (w : List ℕ). Indexed w holderNumbers (holderRow (E .holders))) (sym (beside section.holders refl refl refl)) (held .holders);
+          subst (λ (w : List ℕ). Indexed w pairLimit (pairRow E)) (sym (ap (sectionWords section.pairs) e ∙ put-row book n k mask (put .rows) long few low (rows-long long put)))
+          (rows-more D q k n number at (sectionWords section.pairs book) (put .rows) (put .row) (held .pairs));
+      holders = subst (λ (w : List ℕ). Indexed w holderNumbers (holderRow E)) (sym (beside section.holders refl refl refl)) (held .holders);
       sorts = subst (λ (w : List ℕ). SortRows w E) (sym (beside section.sorts refl refl refl)) (sorts-kept D E refl (sectionWords section.sorts book) (held .sorts));
       groups = rw (beside section.slots refl refl refl, beside section.seats refl refl refl) (groups-kept D E refl _ _ (held .groups));
       ties = rw (beside section.ups refl refl refl, beside section.own refl refl refl, beside section.slots refl refl refl) (held .ties);

@@ -244,7 +244,7 @@ rule-held book code code′ S o ts k operation held size at few known kept here 
       attributes = subst (λ (w : List ℕ). AttributeRows w E) (sym (beside section.attributes refl refl)) (attributes-kept D E refl (λ i p. refl) _ (held .attributes));
       operations = subst (λ (w : List ℕ). OperationRows w (E .operations)) (sym (beside section.operations refl refl)) (held .operations);
       pairs = subst (λ (w : List ℕ). Indexed w 256 (pairRow E)) (sym (beside section.pairs refl refl)) (held .pairs);
-      holders = subst (λ (w : List ℕ). Indexed w 256 (holderRow (E .holders))) (sym (beside section.holders refl refl)) (held .holders);
+      holders = subst (λ (w : List ℕ). Indexed w 256 (holderRow E)) (sym (beside section.holders refl refl)) (held .holders);
       sorts = subst (λ (w : List ℕ). SortRows w E) (sym (beside section.sorts refl refl)) (sorts-kept D E refl (sectionWords section.sorts book) (held .sorts));
       groups = rw (beside section.slots refl refl, beside section.seats refl refl) (groups-kept D E refl _ _ (held .groups));
       ties = rw (beside section.ups refl refl, beside section.own refl refl, beside section.slots refl refl) (held .ties);

@@ -18,7 +18,7 @@ use Rattle.model.specs.Standing.{TieFits, Standing}
 use Rattle.model.proofs.WordTables.{none-is-some}
 use Rattle.model.proofs.Options.{bind-some, both}
 use Rattle.model.proofs.Lists.{nth-lt, same-truth}
-use Rattle.model.proofs.Standing.{holders-fit}
+use Rattle.model.proofs.Standing.{sorted-fits}
 use Rattle.ties.specs.TieArrays.{inUse, tiedUp, Distinct}
 use Rattle.ties.specs.TieEdits.{LeadsUp}
 use Rattle.ties.proofs.Keeps.{up-slot, slot-up}
@@ -57,8 +57,7 @@ module _ {S : State} (standing : Standing S) where
   pub sorted-few : (k : ℕ) {s : Sort} → sortOf (S .declared) k ≡ some s → k < holderNumbers
   unfolding sortOf
   sorted-few k e =
-      let r = bind-some (nth (S .declared .holders) k) (λ h. some (h .sort)) e in
-      omega (arith, nth-lt (S .declared .holders) k (r .1), holders-fit standing)
+      sorted-fits standing k e
 
   -- the numbers of a tie up, and that its upper one is a group's
   pub record UpFits (h g : ℕ) : Type 0 where

@@ -17,12 +17,12 @@ use Rattle.model.specs.Declarations.{Declarations, Attribute, Sort, isSort, sam
 use Rattle.model.specs.Ties.{Tie}
 use Rattle.model.specs.State.{State, tieOf}
 use Rattle.model.specs.Refusals.{_if_, first, fits}
-use Rattle.model.specs.Standing.{Standing}
+use Rattle.model.specs.Standing.{WellDeclared, Standing}
 use Rattle.model.proofs.WordTables.{none-is-some}
 use Rattle.model.proofs.Options.{parts, no-result}
 use Rattle.model.proofs.Lists.{nth-lt, place-nth}
 use Rattle.model.proofs.Declared.{named-eq, same-atom-eq, pair-declared}
-use Rattle.model.proofs.Standing.{holders-fit}
+use Rattle.model.proofs.Standing.{holder-fits, named-holder}
 use Rattle.codes.specs.Codes.{coded, sourceCode, typeCode}
 use Rattle.codes.proofs.Codes.{type-injective}
 use Rattle.text.specs.declared.Packed.{Packed}
@@ -69,9 +69,8 @@ accepted-0 (some u) false t y x = (refl, λ z. y)
 module _ {S : State} (standing : Standing S) where
   -- the numbers that names have are few
   pub holder-few : (n : Bytes) (k : ℕ) → holderNumber (S .declared) n ≡ some k → k < holderNumbers
-  unfolding holderNumber
   holder-few n k e =
-      let r = place-nth (λ h. same (h .name) n) (S .declared .holders) k e in omega (arith, nth-lt (S .declared .holders) k (r .1), holders-fit standing)
+      let r = named-holder (standing .declarations) n k e in holder-fits standing k (rw (r .1) refl)
 
   pub attribute-few : (s : Source) (n : Bytes) (k : ℕ) → attributeNumber (S .declared) s n ≡ some k → k < attributeLimit
   unfolding attributeNumber
@@ -109,9 +108,9 @@ module _ {S : State} {book : List ℕ} {code : Bytes} (standing : Standing S) (h
     attribute-absent far = number-gone attributeLimit r (attributeNumber (S .declared) s n) (attribute-few standing s n) attribute-is far
 
 -- a holder that is found has a sort
-pub holder-sort : (D : Declarations) (n : Bytes) (k : ℕ) → holderNumber D n ≡ some k → (s : Sort) × (sortOf D k ≡ some s)
-unfolding holderNumber sortOf
-holder-sort D n k e = let r = place-nth (λ h. same (h .name) n) (D .holders) k e in (r .0 .sort, rw (r .1))
+pub holder-sort : {D : Declarations} → WellDeclared D → (n : Bytes) (k : ℕ) → holderNumber D n ≡ some k → (s : Sort) × (sortOf D k ≡ some s)
+unfolding sortOf
+holder-sort well n k e = let r = named-holder well n k e in (r .0 .sort, rw (r .1))
 
 -- its word is the sort's code
 pub sort-word : {S : State} {book : List ℕ} {code : Bytes} → Standing S → Holds book code S → (k : ℕ) (s : Sort) → sortOf (S .declared) k ≡ some s

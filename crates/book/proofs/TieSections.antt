@@ -38,7 +38,7 @@ module _ {book : List ℕ} {code : Bytes} {S : State} (held : Holds book code S)
     attributes = subst (λ (w : List ℕ). AttributeRows w (S .declared)) (sym (section-before section.attributes (omega arith))) (held .attributes);
     operations = subst (λ (w : List ℕ). OperationRows w (S .declared .operations)) (sym (section-before section.operations (omega arith))) (held .operations);
     pairs = subst (λ (w : List ℕ). Indexed w pairLimit (pairRow (S .declared))) (sym (section-before section.pairs (omega arith))) (held .pairs);
-    holders = subst (λ (w : List ℕ). Indexed w holderNumbers (holderRow (S .declared .holders))) (sym (section-before section.holders (omega arith))) (held .holders);
+    holders = subst (λ (w : List ℕ). Indexed w holderNumbers (holderRow (S .declared))) (sym (section-before section.holders (omega arith))) (held .holders);
     sorts = subst (λ (w : List ℕ). SortRows w (S .declared)) (sym (section-before section.sorts (omega arith))) (held .sorts);
     groups = subst (λ (w : List ℕ). GroupSlots w (sectionWords section.seats book′) (S .declared)) (sym slots-same)
         (subst (λ (w : List ℕ). GroupSlots (sectionWords section.slots book) w (S .declared)) (sym (section-before section.seats (omega arith))) (held .groups));

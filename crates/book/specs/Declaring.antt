@@ -5,7 +5,7 @@ use mathlib.Core.Bool.{Bool, true, false, _&&_, _||_}
 use mathlib.Core.List.{List, _++_}
 use lib.Dec.{eqb, leb}
 use lib.ListN.{length, getD, take, drop, set}
-use Rattle.model.specs.Limits.{pairLimit, holderNumbers, wordBits}
+use Rattle.model.specs.Limits.{wordBits}
 use Rattle.model.specs.Bytes.{Bytes}
 use Rattle.model.specs.Names.{isName}
 use Rattle.model.specs.Attributes.{Source, AtomType}
@@ -19,7 +19,7 @@ use Rattle.text.specs.declared.Words.{Words}
 use Rattle.text.specs.declared.Value.{Value}
 use Rattle.text.specs.Packing.{packedOf}
 use Rattle.text.specs.Values.{atomValue}
-use Rattle.index.specs.Index.{putRow, rowAdded}
+use Rattle.index.specs.Index.{putRow, Added}
 use Rattle.book.specs.Sections.{Section, sectionWords, ruleBytes}
 use Rattle.book.specs.Sections as section
 use Rattle.book.specs.Held.{Holds, sortCode}
@@ -47,23 +47,24 @@ withSection s book words = take (s .start) book ++ (words ++ drop (s .size) (dro
 abbrev pub maskPlace : ℕ → ℕ → ℕ
 maskPlace k n = section.attributes .start + (8 * k + 4 + n / wordBits)
 
-unfoldable pub pairPut : List ℕ → ℕ → ℕ → Words → ℕ → List ℕ
-pairPut book n k words mask =
-    let marked = set book (maskPlace k n) mask in
-    set (withSection section.pairs marked (rowAdded (sectionWords section.pairs marked) pairLimit n (k + 1, words .first, words .second, words .third))) 2 (n + 1)
+unfoldable pub pairPut : List ℕ → ℕ → ℕ → ℕ → List ℕ → List ℕ
+pairPut book n k mask rows = set (withSection section.pairs (set book (maskPlace k n) mask) rows) 2 (n + 1)
 
 pub record PairPut (book : List ℕ) (n k : ℕ) (words : Words) (next : List ℕ) : Type 0 where
   pub mask : ℕ
+  pub rows : List ℕ
   pub marked : Bits mask (λ j. bit (getD book (maskPlace k n) 0) j || eqb j (n % wordBits))
-  pub written : next ≡ pairPut book n k words mask
+  pub row : Added (sectionWords section.pairs book) rows n (k + 1, words .first, words .second, words .third)
+  pub written : next ≡ pairPut book n k mask rows
 
 -- a holder with its number: its row, its sort, and the count with it
-unfoldable pub holderPut : List ℕ → ℕ → ℕ → ℕ → ℕ → List ℕ
-holderPut book n sort low high =
-    set
-    (set (withSection section.holders book (rowAdded (sectionWords section.holders book) holderNumbers n (1, low, high, 0))) (section.sorts .start + n) sort)
-    3
-    (n + 1)
+unfoldable pub holderPut : List ℕ → ℕ → ℕ → List ℕ → List ℕ
+holderPut book n sort rows = set (set (withSection section.holders book rows) (section.sorts .start + n) sort) 3 (n + 1)
+
+pub record HolderPut (book : List ℕ) (n sort low high : ℕ) (next : List ℕ) : Type 0 where
+  pub rows : List ℕ
+  pub row : Added (sectionWords section.holders book) rows n (1, low, high, 0)
+  pub written : next ≡ holderPut book n sort rows
 
 -- the slot of a group, its seat, and the count with it
 unfoldable pub groupPut : List ℕ → ℕ → ℕ → List ℕ

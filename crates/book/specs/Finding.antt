@@ -25,7 +25,7 @@ use Rattle.book.specs.Held.{OperationRows, pairRow, holderRow}
 -- r is the number of the holder of a name; the number of holders' numbers where there is none
 abbrev pub HolderFound : List ℕ → ℕ → ℕ → ℕ → Type 0
 HolderFound section low high r =
-    (D : Declarations) → WellDeclared D → Indexed section holderNumbers (holderRow (D .holders)) → (n : Bytes) → isName n ≡ true
+    (D : Declarations) → WellDeclared D → Indexed section holderNumbers (holderRow D) → (n : Bytes) → isName n ≡ true
     → packedOf n ≡ record { low = low; high = high } → r ≡ numberOr holderNumbers (holderNumber D n)
 
 -- the number of the operation of a name

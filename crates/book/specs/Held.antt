@@ -8,7 +8,7 @@ use lib.ListN.{length, getD, take, drop}
 use Rattle.model.specs.Notation.{_>>=_, nth}
 use Rattle.model.specs.Limits.{operationLimit, pairLimit, holderNumbers, groupLimit}
 use Rattle.model.specs.Bytes.{Bytes}
-use Rattle.model.specs.Declarations.{Declarations, Holder, Rule, Sort, attributeNumber, operationNumber, sortOf, holderNumbersOf, isGroup, groups}
+use Rattle.model.specs.Declarations.{Declarations, Rule, Sort, attributeNumber, operationNumber, holderOf, sortOf, holderNumbersOf, isGroup, groups}
 use Rattle.model.specs.State.{State}
 use Rattle.codes.specs.Codes.{coded}
 use Rattle.text.specs.Packing.{packedOf}
@@ -43,8 +43,8 @@ pairRow D p = do
   some (k + 1, atomWords (q .atom) .first, atomWords (q .atom) .second, atomWords (q .atom) .third)
 
 -- the row of holder k: its name
-abbrev pub holderRow : List Holder → ℕ → Option Row
-holderRow holders k = nth holders k >>= λ h. some (1, packedOf (h .name) .low, packedOf (h .name) .high, 0)
+abbrev pub holderRow : Declarations → ℕ → Option Row
+holderRow D k = holderOf D k >>= λ h. some (1, packedOf (h .name) .low, packedOf (h .name) .high, 0)
 
 -- the numbers of sorts: admin's is 1, the others have that of the key that declares them
 abbrev pub sortCode : Sort → ℕ
@@ -83,7 +83,7 @@ pub record Holds (book : List ℕ) (code : Bytes) (S : State) : Type 0 where
   pub attributes : AttributeRows (sectionWords section.attributes book) (S .declared)
   pub operations : OperationRows (sectionWords section.operations book) (S .declared .operations)
   pub pairs : Indexed (sectionWords section.pairs book) pairLimit (pairRow (S .declared))
-  pub holders : Indexed (sectionWords section.holders book) holderNumbers (holderRow (S .declared .holders))
+  pub holders : Indexed (sectionWords section.holders book) holderNumbers (holderRow (S .declared))
   pub sorts : SortRows (sectionWords section.sorts book) (S .declared)
   pub groups : GroupSlots (sectionWords section.slots book) (sectionWords section.seats book) (S .declared)
   pub ties : KeepsTies (sectionWords section.ups book) (sectionWords section.own book) (sectionWords section.slots book) (S .ties)

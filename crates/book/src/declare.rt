@@ -4,7 +4,7 @@ ghost use Prim.Native.Nat.{ℕ, _<_};
 ghost use lib.ListN.{length, getD};
 ghost use Rattle.model.specs.Limits.{attributeLimit, operationLimit, pairLimit, holderNumbers, groupLimit};
 ghost use Rattle.book.specs.Sections.{bookWords};
-ghost use Rattle.book.specs.Declaring.{blockText, attributePut, operationPut, PairPut, holderPut, groupPut, AttributeStep, OperationStep, PairStep, HolderStep, Keeps, Emptied};
+ghost use Rattle.book.specs.Declaring.{blockText, attributePut, operationPut, PairPut, HolderPut, groupPut, AttributeStep, OperationStep, PairStep, HolderStep, Keeps, Emptied};
 use crate::ATTRIBUTE_COUNT;
 use crate::ATTRIBUTES_AT;
 use crate::GROUP_COUNT;
@@ -165,7 +165,7 @@ pub fn pair(book: &mut [u64], source: u8, low: u64, high: u64, value: Value) -> 
 // Writes holder n, and counts it.
 fn put_holder(book: &mut [u64], n: usize, sort: u8, low: u64, high: u64)
     requires { ⌜ (length (now book) ≡ bookWords) × (n < holderNumbers) ⌝ }
-    ensures { λ _. ⌜ now (book .exit) ≡ holderPut (now (book .entry)) n sort low high ⌝ }
+    ensures { λ _. ⌜ HolderPut (now (book .entry)) n sort low high (now (book .exit)) ⌝ }
 {
     index::add(&mut book[HOLDERS_AT..SORTS_AT], n, 1, low, high, 0);
     book[SORTS_AT + n] = sort as u64;

@@ -1,4 +1,4 @@
 pub mod ChainWalks
-pub mod Adding
+pub mod Relinking
 pub mod IndexParts
 pub mod Listed

@@ -2,6 +2,7 @@
 -- n rows has 256 words of firsts, n words of nexts, and 4n words of rows.
 use Prim.Native.Nat.{ℕ, suc, _+_, _-_, _*_, _/_, _%_, _≤_, _<_}
 use mathlib.Core.Path.{_≡_}
+use mathlib.Core.Logic.{_⊎_}
 use mathlib.Core.Bool.{Bool, _&&_}
 use mathlib.Core.List.{List}
 use mathlib.Core.Option.{Option, none, some}
@@ -87,19 +88,36 @@ pub record FindsRow (s : List ℕ) (w : Row) (r : ℕ) : Type 0 where
 abbrev pub rowsOf : {A : Type 0} → (A → Row) → List A → Rows
 rowsOf row xs k = nth xs k >>= λ x. some (row x)
 
--- the rows with row k
+-- the rows with row k, and without it
 abbrev pub withRow : Rows → ℕ → Row → Rows
 withRow rows k w j = if eqb j k then some w else rows j
+
+abbrev pub withoutRow : Rows → ℕ → Rows
+withoutRow rows k j = if eqb j k then none else rows j
 
 -- four words from a place on, written as a row's
 unfoldable pub putRow : List ℕ → ℕ → Row → List ℕ
 putRow s place w = set (set (set (set s place (w .0)) (place + 1) (w .1)) (place + 2) (w .2)) (place + 3) (w .3)
 
--- the section with row k, as the greatest of its chain: two words of chains, four of the row
-unfoldable pub rowAdded : List ℕ → ℕ → ℕ → Row → List ℕ
-rowAdded s n k w = putRow (set (set s (nextPlace k) (getD s (hashOf w) 0)) (hashOf w) (k + 1)) (rowPlace n k) w
+-- the word at a place is the link of chain h that leads to row k, or past it: the chain's first, or the next of the least row of the chain above k
+pub record LinkOver (s : List ℕ) (n : ℕ) (rows : Rows) (h k place : ℕ) : Type 0 where
+  pub top : ℕ
+  pub over : k < top
+  pub leads : Greatest rows h top (getD s place 0)
+  pub low : getD s place 0 ≤ suc k
+  pub stands : ((place ≡ h) × (top ≡ n)) ⊎ ((place ≡ nextPlace top) × InChain rows h top)
 
--- what `add` makes of a section on any words, and of an index whose rows all have numbers below k
+-- what `link_place` answers on any words, and on an index
+pub record LinkFound (s : List ℕ) (h k place : ℕ) : Type 0 where
+  pub within : place < chains + rowsIn (length s)
+  pub exact : (n : ℕ) (rows : Rows) → Indexed s n rows → k < n → LinkOver s n rows h k place
+
+-- what `add` makes of a section: of an index without row k, one with it
 pub record Added (s t : List ℕ) (k : ℕ) (w : Row) : Type 0 where
-  pub words : t ≡ rowAdded s (rowsIn (length s)) k w
-  pub index : (n : ℕ) (rows : Rows) → Indexed s n rows → (w .0 ≡ 0 → ⊥) → ((j : ℕ) → k ≤ j → rows j ≡ none) → Indexed t n (withRow rows k w)
+  pub long : length t ≡ length s
+  pub index : (n : ℕ) (rows : Rows) → Indexed s n rows → (w .0 ≡ 0 → ⊥) → rows k ≡ none → Indexed t n (withRow rows k w)
+
+-- what `remove` makes of a section: of an index with row k, one without it
+pub record Removed (s t : List ℕ) (k : ℕ) : Type 0 where
+  pub long : length t ≡ length s
+  pub index : (n : ℕ) (rows : Rows) (w : Row) → Indexed s n rows → rows k ≡ some w → Indexed t n (withoutRow rows k)

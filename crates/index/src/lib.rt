@@ -4,7 +4,7 @@
 ghost use mathlib.Core.Path.{_≡_};
 ghost use Prim.Native.Nat.{_+_, _<_, _≤_};
 ghost use lib.ListN.{length};
-ghost use Rattle.index.specs.Index.{chains, rowsIn, hashOf, isAt, linkOf, FindsRow, putRow, Added};
+ghost use Rattle.index.specs.Index.{chains, rowsIn, hashOf, isAt, linkOf, FindsRow, putRow, LinkFound, Added, Removed};
 
 const CHAINS: usize = 256;
 
@@ -78,15 +78,50 @@ fn put_row(section: &mut [u64], place: usize, a: u64, b: u64, c: u64, d: u64)
     section[place + 3] = d;
 }
 
-// Puts a row; its number is above all that are there.
+// The place of the link that leads to row `number` of a chain, or past it: the chain's first, or the next of the least row of the chain above it.
+fn link_place(section: &[u64], chain: usize, number: usize) -> usize
+    requires { ⌜ (chains ≤ length (now section)) × (chain < chains) × (number < rowsIn (length (now section))) ⌝ }
+    ensures { λ r. ⌜ LinkFound (now (section .entry)) chain number r ⌝ }
+{
+    let mut place = chain;
+    let mut v = link(section[chain], rows_in(section.len()));
+    while number + 1 < v {
+        let k = v - 1;
+        place = CHAINS + k;
+        v = link(section[CHAINS + k], k);
+    }
+    place
+}
+
+// Puts a row, whose number no row has.
 pub fn add(section: &mut [u64], number: usize, a: u64, b: u64, c: u64, d: u64)
     requires { ⌜ (chains ≤ length (now section)) × (number < rowsIn (length (now section))) ⌝ }
     ensures { λ _. ⌜ Added (now (section .entry)) (now (section .exit)) number (a, b, c, d) ⌝ }
 {
     let n = rows_in(section.len());
     let chain = hash(a, b, c, d);
-    let before = section[chain];
+    let place = link_place(section, chain, number);
+    let before = section[place];
     section[CHAINS + number] = before;
-    section[chain] = number as u64 + 1;
+    section[place] = number as u64 + 1;
     put_row(section, CHAINS + n + 4 * number, a, b, c, d);
+}
+
+// Takes a row out.
+pub fn remove(section: &mut [u64], number: usize)
+    requires { ⌜ (chains ≤ length (now section)) × (number < rowsIn (length (now section))) ⌝ }
+    ensures { λ _. ⌜ Removed (now (section .entry)) (now (section .exit)) number ⌝ }
+{
+    let n = rows_in(section.len());
+    let row = CHAINS + n + 4 * number;
+    let chain = hash(
+        section[row],
+        section[row + 1],
+        section[row + 2],
+        section[row + 3],
+    );
+    let place = link_place(section, chain, number);
+    let behind = section[CHAINS + number];
+    section[place] = behind;
+    put_row(section, row, 0, 0, 0, 0);
 }

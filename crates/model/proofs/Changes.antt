@@ -1,22 +1,23 @@
 -- An edit's count: it is the number of holders whose four words in the table before and in the table after are not the same. Assumes nothing.
 use Prim.Native.Nat.{ℕ, _≤_, _<_}
 use mathlib.Core.Path.{_≡_, refl, sym, ap, _∙_}
-use mathlib.Core.Logic.{⊎-elim}
+use mathlib.Core.Logic.{_⊎_, inl, inr, ⊎-elim}
 use mathlib.Core.Bool.{Bool, true, false, not, Bool·beq}
 use mathlib.Core.List.{List}
 use mathlib.Core.Option.{Option, none, some}
 use native.Mathlib.Decide.{decLt}
 use native.Mathlib.Omega.{arith}
 use lib.ListN.{length, replicate}
-use Rattle.model.specs.Notation.{if_then_else_, isNone, count, below}
+use Rattle.model.specs.Notation.{if_then_else_, count, below, map}
 use Rattle.model.specs.Limits.{holderNumbers, pairLimit, setWords}
 use Rattle.model.specs.Bytes.{same}
-use Rattle.model.specs.Declarations.{Declarations, Holder, holderOf, holderNumbersOf}
+use Rattle.model.specs.Declarations.{Declarations, Holder, isHolder, holderNumbersOf}
 use Rattle.model.specs.Ties.{Ties}
 use Rattle.model.specs.Table.{wordsOf, effectiveSet, storedSet, table}
 use Rattle.model.specs.Edits.{differs, changes}
 use Rattle.model.proofs.WordTables.{false-is-true, same-eq, same-refl}
-use Rattle.model.proofs.Lists.{true-or-false, same-truth, any-in, in-any, in-below, below-in, nth-lt, lt-nth, count-ext, count-below}
+use Rattle.model.proofs.Lists.{true-or-false, same-truth, any-in, in-any, _∈_, in-below, below-in, count-ext}
+use Rattle.model.proofs.Numbered.{count-numbers}
 use Rattle.model.specs.Standing.{Standing}
 use Rattle.model.proofs.Standing as laws
 use Rattle.model.proofs.TableLayout.{setIn, words-same, words-told, set-in-table, pair-declared}
@@ -40,9 +41,6 @@ differ-not : (s t : List ℕ) → s ≡ t → not (same s t) ≡ false
 differ-not s t e = ap (λ (u : List ℕ). not (same s u)) (sym e) ∙ ap not (same-refl s)
 
 module _ (D : Declarations) (T U : Ties) (before : Standing (record { declared = D; ties = T })) (after : Standing (record { declared = D; ties = U })) where
-  holders-fit : length (D .holders) ≤ holderNumbers
-  holders-fit = laws.holders-fit before
-
   pairs-fit : length (D .pairs) ≤ pairLimit
   pairs-fit = laws.pairs-fit before
 
@@ -74,19 +72,15 @@ module _ (D : Declarations) (T U : Ties) (before : Standing (record { declared =
       false-is-true (sym (ap (λ (b : Bool). not (Bool·beq b (effectiveSet D U k (r .0)))) q ∙ beq-refl (effectiveSet D U k (r .0))) ∙ r .2)
 
   -- the four words of a holder, and those of a number that is none
-  holder-words : (W : Ties) (k : ℕ) → k < length (D .holders) → storedSet D W k ≡ wordsOf (effectiveSet D W k)
+  holder-words : (W : Ties) (k : ℕ) → isHolder D k ≡ true → storedSet D W k ≡ wordsOf (effectiveSet D W k)
   unfolding storedSet
-  holder-words W k h = ap (λ (o : Option Holder). if not (isNone o) then wordsOf (effectiveSet D W k) else replicate setWords 0) (lt-nth (D .holders) k h .1)
+  holder-words W k h = rw h
 
-  other-words : (W : Ties) (k : ℕ) → length (D .holders) ≤ k → storedSet D W k ≡ replicate setWords 0
+  other-words : (W : Ties) (k : ℕ) → isHolder D k ≡ false → storedSet D W k ≡ replicate setWords 0
   unfolding storedSet
-  other-words W k h = go (holderOf D k) refl
-    where
-      go : (o : Option Holder) → holderOf D k ≡ o → (if not (isNone o) then wordsOf (effectiveSet D W k) else replicate setWords 0) ≡ replicate setWords 0
-      go none e = refl
-      go (some x) e = absurd (omega (arith, h, nth-lt (D .holders) k e))
+  other-words W k h = rw h
 
-  changed-holder : (k : ℕ) → k < length (D .holders) → differs D T U k ≡ setChanged (table D T) (table D U) k
+  changed-holder : (k : ℕ) → isHolder D k ≡ true → differs D T U k ≡ setChanged (table D T) (table D U) k
   unfolding setChanged
   changed-holder k h =
       same-truth (differs D T U k) (not (same (setIn (table D T) k) (setIn (table D U) k)))
@@ -99,9 +93,9 @@ module _ (D : Declarations) (T U : Ties) (before : Standing (record { declared =
       (true-or-false (differs D T U k)))
     where
       words : (W : Ties) → setIn (table D W) k ≡ wordsOf (effectiveSet D W k)
-      words W = set-in-table D W k (omega (arith, h, holders-fit)) ∙ holder-words W k h
+      words W = set-in-table D W k (laws.holder-fits before k h) ∙ holder-words W k h
 
-  changed-other : (k : ℕ) → length (D .holders) ≤ k → k < holderNumbers → setChanged (table D T) (table D U) k ≡ false
+  changed-other : (k : ℕ) → isHolder D k ≡ false → k < holderNumbers → setChanged (table D T) (table D U) k ≡ false
   unfolding setChanged
   changed-other k h l =
       differ-not (setIn (table D T) k) (setIn (table D U) k)
@@ -111,5 +105,11 @@ module _ (D : Declarations) (T U : Ties) (before : Standing (record { declared =
   pub changes-exact : changes D T U ≡ count (setChanged (table D T) (table D U)) (below holderNumbers)
   unfolding changes holderNumbersOf
   changes-exact =
-      count-ext (differs D T U) (setChanged (table D T) (table D U)) (below (length (D .holders))) (λ k m. changed-holder k (in-below (length (D .holders)) m))
-      ∙ sym (count-below (setChanged (table D T) (table D U)) (length (D .holders)) holderNumbers holders-fit changed-other)
+      count-ext (differs D T U) (setChanged (table D T) (table D U)) (holderNumbersOf D) (λ k m. changed-holder k (laws.holder-below D k m))
+      ∙ count-numbers (λ h. h .number) (setChanged (table D T) (table D U)) (D .holders) holderNumbers (before .declarations .holders .ordered)
+      (λ k m. laws.holder-fits before k (laws.holder-below D k m))
+      (λ k l out. changed-other k (absent k out (true-or-false (isHolder D k))) l)
+    where
+      absent : (k : ℕ) → (k ∈ map (λ (h : Holder). h .number) (D .holders) → ⊥) → (isHolder D k ≡ true) ⊎ (isHolder D k ≡ false) → isHolder D k ≡ false
+      absent k out (inl e) = absurd (out (laws.holder-in D k e))
+      absent k out (inr e) = e

@@ -1,14 +1,15 @@
 -- Declarations stay well declared when an accepted line adds to them. Assumes nothing.
-use Prim.Native.Nat.{ℕ, zero, suc, _+_, _≤_}
-use mathlib.Core.Path.{_≡_, refl, sym, ap, _∙_}
-use mathlib.Core.Logic.{⊎-elim}
+use Prim.Native.Nat.{ℕ, zero, suc, _+_, _≤_, _<_}
+use mathlib.Core.Path.{_≡_, refl, sym, ap, subst, _∙_}
+use mathlib.Core.Logic.{_⊎_, inl, inr, ⊎-elim}
 use mathlib.Core.Bool.{Bool, true, false, _&&_, not, true≢false}
 use mathlib.Core.List.{List, [], _∷_, _++_}
 use mathlib.Core.Option.{Option, none, some, Option·some-injective}
+use native.Mathlib.Decide.{ℕ-discrete, decLt}
 use native.Mathlib.Omega.{arith}
 use lib.ListN.{length}
-use lib.Dec.{leb}
-use borrow.Author.Tests.{leb-false, not-false, not-true, eqb-true, eq-eqb}
+use lib.Dec.{eqb, leb, ltb}
+use borrow.Author.Tests.{leb-false, not-false, not-true, eqb-true, eqb-false, eq-eqb, ne-eqb, lt-ltb, le-ltb}
 use Rattle.model.specs.Notation.{if_then_else_, _>>=_, _is_, isNone, any, all, nth, place}
 use Rattle.model.specs.Limits.{attributeLimit, operationLimit, pairLimit, holderNumbers, groupLimit, ruleLimit}
 use Rattle.model.specs.Bytes.{Bytes, bytes, same}
@@ -18,13 +19,14 @@ use Rattle.model.specs.Atoms.{Atom, typeOf, isAtom, sameAtom, boolWord}
 use Rattle.model.specs.Tokens.{Token, isToken, asName}
 use Rattle.model.specs.Grammar.{readPolicy, tooLarge}
 use Rattle.model.specs.Lines.{Line, attr, op, atom, holder, parent, member, value, rule, isLine}
-use Rattle.model.specs.Declarations.{Declarations, Attribute, Pair, Holder, Rule, Sort, sameSourceAndName, attributeNumber, attributeOf, operationNumber, pairNumber, holderNumber, holderOf, holderNumbersOf, groups, isSort, isGroup, nothingDeclared}
+use Rattle.model.specs.Declarations.{Declarations, Attribute, Pair, Holder, Rule, Sort, sameSourceAndName, attributeNumber, attributeOf, operationNumber, pairNumber, holderNumber, holderOf, isHolder, holderNumbersOf, groups, isSort, isGroup, nothingDeclared}
 use Rattle.model.specs.State.{State, declare, withAttribute, withOperation, withPair, withHolder, withRule}
 use Rattle.model.specs.Refusals.{unknownName, overLimits, undeclared, wrongSort, repeated, full}
 use Rattle.model.specs.Standing.{PairStands, PairsStand, HoldersStand, RuleStands, RulesStand, WellDeclared}
 use Rattle.model.proofs.WordTables.{none-is-some, false-is-true, same-eq, same-refl, same-word, reads-source, reads-type, bools, reads-bool}
 use Rattle.model.proofs.Options.{parts, both, bind-some, some-not}
 use Rattle.model.proofs.Lists.{true-or-false, or-none, nth-append, place-nth, length-below, count-last}
+use Rattle.model.proofs.Numbered.{find-none, found-number, find-inserted, length-inserted, count-inserted, rising-inserted, length-map}
 use Rattle.model.proofs.Growing.{nth-last, each-more, unique-more, place-append, place-nowhere, any-none-by, one-longer}
 
 -- ---- tests that tell what is alike
@@ -118,6 +120,27 @@ module _ (D E : Declarations) (attributes-stay : AttributesStay D E) where
         written = stands .written;
       }
 
+-- ---- a holder more
+
+no-number : (o : Option Holder) → (o >>= λ h. some (h .number)) ≡ none → o ≡ none
+no-number none e = refl
+no-number (some h) e = none-is-some (sym e)
+
+module _ (D : Declarations) (h : Holder) (free : holderOf D (h .number) ≡ none) where
+  -- the holder of a number: the new one, or the one it was
+  pub holder-with : (k : ℕ) (P : Option Holder → Type 0) → (h .number ≡ k → P (some h)) → ((h .number ≡ k → ⊥) → P (holderOf D k)) → P (holderOf (withHolder h D) k)
+  holder-with k P new old = subst P (sym (find-inserted (λ g. g .number) h (D .holders) free k)) (go (eqb (h .number) k) refl)
+    where
+      go : (b : Bool) → eqb (h .number) k ≡ b → P (if b then some h else holderOf D k)
+      go true e = new (eqb-true (h .number) k e)
+      go false e = old (eqb-false (h .number) k e)
+
+  pub holder-cases : (k : ℕ) (g : Holder) → holderOf (withHolder h D) k ≡ some g → (holderOf D k ≡ some g) ⊎ ((h .number ≡ k) × (h ≡ g))
+  holder-cases k g = holder-with k (λ o. o ≡ some g → (holderOf D k ≡ some g) ⊎ ((h .number ≡ k) × (h ≡ g))) (λ e f. inr (e, Option·some-injective h g f)) (λ e f. inl f)
+
+  pub holder-stays : (k : ℕ) (g : Holder) → holderOf D k ≡ some g → holderOf (withHolder h D) k ≡ some g
+  holder-stays k g e = holder-with k (λ o. o ≡ some g) (λ f. none-is-some (sym (ap (holderOf D) (sym f) ∙ free) ∙ e)) (λ f. e)
+
 -- ---- one thing more of each key
 
 module _ {D : Declarations} (well : WellDeclared D) where
@@ -140,6 +163,8 @@ module _ {D : Declarations} (well : WellDeclared D) where
   holders-kept : (E : Declarations) → E .holders ≡ D .holders → HoldersStand E
   unfolding holderNumbersOf groups
   holders-kept E e = record {
+    ordered = rw e (well .holders .ordered);
+    gapless = rw e (well .holders .gapless);
     admin-first = rw e (well .holders .admin-first);
     others = rw e (well .holders .others);
     named = rw e (well .holders .named);
@@ -211,24 +236,34 @@ module _ {D : Declarations} (well : WellDeclared D) where
     };
   }
 
-  holder-more : (h : Holder) → isSort (h .sort) Sort.admin ≡ false → isName (h .name) ≡ true → holderNumber D (h .name) ≡ none
+  -- the next number is free
+  pub next-free : holderOf D (length (D .holders)) ≡ none
+  next-free = not-found _ (well .holders .gapless (length (D .holders)) ∙ le-ltb (length (D .holders)) (length (D .holders)) (omega arith))
+
+  holder-more : (h : Holder) → h .number ≡ length (D .holders) → isSort (h .sort) Sort.admin ≡ false → isName (h .name) ≡ true → holderNumber D (h .name) ≡ none
       → full D (holder (h .sort) (h .name)) ≡ false → WellDeclared (withHolder h D)
   unfolding attributeNumber operationNumber holderNumber holderNumbersOf groups
-  holder-more h no-admin named new room =
+  holder-more h at no-admin named new room =
       let (room-for-holders, room-for-groups) =
       or-none (leb holderNumbers (length (holderNumbersOf D))) (isGroup (h .sort) && leb groupLimit (groups D)) room in
-      let other = apart (λ (g k : Holder). same (g .name) (k .name)) (λ g k. same-sym (g .name) (k .name)) (D .holders) h new in
+      let free : holderOf D (h .number) ≡ none = ap (holderOf D) at ∙ next-free in
+      let longer = length-inserted (λ g. g .number) h (D .holders) in
       record {
         attributes = well .attributes;
         operations = well .operations;
         pairs = pairs-kept (withHolder h D) (λ s m k e. e) (λ i a e. e) refl;
         holders = record {
-          admin-first = nth-append (D .holders) (h ∷ []) 0 (well .holders .admin-first);
-          others = λ k g e. ⊎-elim (well .holders .others k g) (λ q. rw (q .1) at no-admin) (nth-last (D .holders) h (suc k) e);
-          named = each-more (D .holders) h (well .holders .named) named;
-          unique = unique-more (λ (g k : Holder). same (g .name) (k .name)) (D .holders) h (well .holders .unique) other;
-          few = rw (length-below (length (D .holders ++ h ∷ []))) (one-longer holderNumbers (D .holders) h (rw (length-below (length (D .holders))) at room-for-holders));
-          few-groups = rw (count-last (λ g. isGroup (g .sort)) (D .holders) h) (one-more-group (isGroup (h .sort)) (groups D) (well .holders .few-groups) room-for-groups);
+          ordered = rising-inserted (λ g. g .number) h (D .holders) (well .holders .ordered) free;
+          gapless = λ k. holder-with D h free k (λ o. not (isNone o) ≡ ltb k (length (withHolder h D .holders)))
+              (λ e. sym (lt-ltb k (length (withHolder h D .holders)) (omega (arith, e, at, longer))))
+              (λ e. well .holders .gapless k ∙ same-below k (length (D .holders)) (length (withHolder h D .holders)) longer (λ z. e (at ∙ sym z)));
+          admin-first = holder-with D h free 0 (λ o. o ≡ some (record { number = 0; sort = Sort.admin; name = bytes "admin" }))
+              (λ e. none-is-some (sym (ap (holderOf D) (sym e) ∙ free) ∙ well .holders .admin-first)) (λ e. well .holders .admin-first);
+          others = λ k g e. ⊎-elim (well .holders .others k g) (λ q. rw (q .1) at no-admin) (holder-cases D h free (suc k) g e);
+          named = λ k g e. ⊎-elim (well .holders .named k g) (λ q. rw (q .1) at named) (holder-cases D h free k g e);
+          unique = λ j k g f e d s. only j k g f s (holder-cases D h free j g e) (holder-cases D h free k f d);
+          few = omega (arith, length-map (λ g. g .number) (withHolder h D .holders), length-map (λ g. g .number) (D .holders), longer, leb-false holderNumbers (length (holderNumbersOf D)) room-for-holders);
+          few-groups = rw (count-inserted (λ g. g .number) h (λ g. isGroup (g .sort)) (D .holders)) (one-more-group (isGroup (h .sort)) (groups D) (well .holders .few-groups) room-for-groups);
         };
         rules = rules-kept (withHolder h D) (λ s m k e. e) (λ o k e. e) refl;
       }
@@ -236,6 +271,27 @@ module _ {D : Declarations} (well : WellDeclared D) where
       one-more-group : (t : Bool) (n : ℕ) → n ≤ groupLimit → (t && leb groupLimit n) ≡ false → n + (if t then 1 else 0) ≤ groupLimit
       one-more-group true n few off = omega (arith, leb-false groupLimit n off)
       one-more-group false n few off = omega arith
+
+      same-below : (k m n : ℕ) → n ≡ suc m → (k ≡ m → ⊥) → ltb k m ≡ ltb k n
+      same-below k m n e z = go (decLt k m)
+        where
+          go : Dec (k < m) → ltb k m ≡ ltb k n
+          go (yes l) = lt-ltb k m l ∙ sym (lt-ltb k n (omega arith))
+          go (no l) = le-ltb k m (omega arith) ∙ sym (le-ltb k n (past (ℕ-discrete k m)))
+            where
+              past : Dec (k ≡ m) → n ≤ k
+              past (yes w) = absurd (z w)
+              past (no w) = omega arith
+
+      -- no other holder has the name
+      other : (k : ℕ) (g : Holder) → holderOf D k ≡ some g → same (g .name) (h .name) ≡ true → ⊥
+      other k g e s = true≢false (sym s ∙ find-none (λ x. same (x .name) (h .name)) (D .holders) (no-number _ new) (found-number (λ x. x .number) (D .holders) k g e .0))
+
+      only : (j k : ℕ) (g f : Holder) → same (g .name) (f .name) ≡ true → (holderOf D j ≡ some g) ⊎ ((h .number ≡ j) × (h ≡ g)) → (holderOf D k ≡ some f) ⊎ ((h .number ≡ k) × (h ≡ f)) → j ≡ k
+      only j k g f s (inl a) (inl b) = well .holders .unique j k g f a b s
+      only j k g f s (inl a) (inr (b, c)) = absurd (other j g a (rw (← c) at s))
+      only j k g f s (inr (b, c)) (inl a) = absurd (other k f a (same-sym (h .name) (f .name) (rw (← c) at s)))
+      only j k g f s (inr (a, _)) (inr (b, _)) = sym a ∙ b
 
 -- ---- an accepted line
 
@@ -287,7 +343,7 @@ declare-well S (atom s n v) well a =
     pair-more well _ (pair-of-line (S .declared) s n v (parts (isName n) (isAtom v) (a .formed) .1) (a .known) (a .sorted)) (not-found _ (a .new)) (a .room)
 declare-well S (holder s n) well a =
     let (no-admin, named) = parts (not (isSort s Sort.admin)) (isName n) (a .formed) in
-    holder-more well _ (not-true _ no-admin) named (not-found _ (a .new)) (a .room)
+    holder-more well _ refl (not-true _ no-admin) named (not-found _ (a .new)) (a .room)
 declare-well S (parent c g) well a = well
 declare-well S (member p g) well a = well
 declare-well S (value h n v) well a = well
@@ -301,8 +357,10 @@ nothing-well = record {
   operations = record { named = λ i x e. none-is-some e; unique = λ i j x y e. none-is-some e; few = omega arith };
   pairs = record { each = λ i x e. none-is-some e; unique = λ i j x y e. none-is-some e; few = omega arith };
   holders = record {
+    ordered = refl;
+    gapless = gapless;
     admin-first = refl;
-    others = λ k h e. none-is-some e;
+    others = λ k h e. none-is-some (sym (alone k) ∙ e);
     named = one (λ h. isName (h .name) ≡ true) refl;
     unique = λ j k g h e f s. only j g e ∙ sym (only k h f);
     few = omega arith;
@@ -311,13 +369,20 @@ nothing-well = record {
   rules = record { each = λ i x e. none-is-some e; few = omega arith };
 }
   where
+    alone : (k : ℕ) → holderOf nothingDeclared (suc k) ≡ none
+    alone k = rw (ne-eqb 0 (suc k) (λ e. omega arith))
+
+    gapless : (k : ℕ) → isHolder nothingDeclared k ≡ ltb k 1
+    gapless zero = refl
+    gapless (suc k) = ap (λ (o : Option Holder). not (isNone o)) (alone k) ∙ sym (le-ltb (suc k) 1 (omega arith))
+
     only : (k : ℕ) (h : Holder) → holderOf nothingDeclared k ≡ some h → k ≡ 0
     only zero h e = refl
-    only (suc k) h e = none-is-some e
+    only (suc k) h e = none-is-some (sym (alone k) ∙ e)
 
-    one : (P : Holder → Type 0) → P (record { sort = Sort.admin; name = bytes "admin" }) → (k : ℕ) (h : Holder) → holderOf nothingDeclared k ≡ some h → P h
+    one : (P : Holder → Type 0) → P (record { number = 0; sort = Sort.admin; name = bytes "admin" }) → (k : ℕ) (h : Holder) → holderOf nothingDeclared k ≡ some h → P h
     one P p zero h e = rw (Option·some-injective _ _ e) at p
-    one P p (suc k) h e = none-is-some e
+    one P p (suc k) h e = none-is-some (sym (alone k) ∙ e)
 
 -- a pair's attribute, by its number
 pub record PairDeclared (D : Declarations) (p : Pair) : Type 0 where

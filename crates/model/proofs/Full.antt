@@ -20,10 +20,11 @@ use Rattle.model.specs.Refusals.{full, lineRefusal}
 use Rattle.model.specs.Standing.{Standing}
 use Rattle.model.proofs.WordTables.{false-is-true}
 use Rattle.model.proofs.Options.{parts, is-some}
-use Rattle.model.proofs.Lists.{true-or-false, or-cases, or-none, length-below, count-last}
+use Rattle.model.proofs.Lists.{true-or-false, or-cases, or-none}
 use Rattle.model.proofs.Refusals.{line-met}
 use Rattle.model.proofs.Growing.{one-longer}
-use Rattle.model.proofs.Standing.{holders-fit}
+use Rattle.model.proofs.Numbered.{length-inserted, count-inserted}
+use Rattle.model.proofs.Standing.{numbers-length}
 
 -- attributes "At most 32", operations "at most 8", pairs "At most 256", holders but admin "at most 255, of which at most 64 groups", rules "at most 32"
 pub record WithinLimits (D : Declarations) : Type 0 where
@@ -40,14 +41,10 @@ module _ {A : Type 0} (limit : ℕ) (xs : List A) (x : A) where
   one-over : leb limit (length xs) ≡ true → length (xs ++ x ∷ []) ≤ limit → ⊥
   one-over e h = omega (arith, length-append xs (x ∷ []), leb-true limit (length xs) e)
 
-numbers-length : (D : Declarations) → length (holderNumbersOf D) ≡ length (D .holders)
-unfolding holderNumbersOf
-numbers-length D = length-below (length (D .holders))
-
 -- a holder more is a group more, or none
 groups-last : (D : Declarations) (h : Holder) → groups (withHolder h D) ≡ groups D + (if isGroup (h .sort) then 1 else 0)
 unfolding groups
-groups-last D h = count-last (λ x. isGroup (x .sort)) (D .holders) h
+groups-last D h = count-inserted (λ x. x .number) h (λ x. isGroup (x .sort)) (D .holders)
 
 group-over : (D : Declarations) (s : Sort) (n : Bytes) → (isGroup s && leb groupLimit (groups D)) ≡ true → groups (declare (holder s n) D) ≤ groupLimit → ⊥
 group-over D s n e h =
@@ -57,12 +54,19 @@ group-over D s n e h =
 
 group-within : (D : Declarations) (s : Sort) (n : Bytes) → groups D ≤ groupLimit → (isGroup s && leb groupLimit (groups D)) ≡ false
     → groups (declare (holder s n) D) ≤ groupLimit
-group-within D s n w e = go (isGroup s) e (groups-last D (record { sort = s; name = n }))
+group-within D s n w e = go (isGroup s) e (groups-last D (record { number = length (D .holders); sort = s; name = n }))
   where
     go : (b : Bool) → (b && leb groupLimit (groups D)) ≡ false → groups (declare (holder s n) D) ≡ groups D + (if b then 1 else 0)
         → groups (declare (holder s n) D) ≤ groupLimit
     go true e q = omega (arith, leb-false groupLimit (groups D) e)
     go false e q = omega arith
+
+-- a holder more is one longer
+holder-over : (D : Declarations) (s : Sort) (n : Bytes) → leb holderNumbers (length (holderNumbersOf D)) ≡ true → length (declare (holder s n) D .holders) ≤ 1 + holderLimit → ⊥
+holder-over D s n e h = omega (arith, numbers-length D, leb-true holderNumbers (length (holderNumbersOf D)) e, length-inserted (λ x. x .number) (record { number = length (D .holders); sort = s; name = n }) (D .holders))
+
+holder-within : (D : Declarations) (s : Sort) (n : Bytes) → leb holderNumbers (length (holderNumbersOf D)) ≡ false → length (declare (holder s n) D .holders) ≤ 1 + holderLimit
+holder-within D s n e = omega (arith, numbers-length D, leb-false holderNumbers (length (holderNumbersOf D)) e, length-inserted (λ x. x .number) (record { number = length (D .holders); sort = s; name = n }) (D .holders))
 
 -- ---- 11
 
@@ -71,7 +75,7 @@ full-over D (attr s n t) e w = one-over attributeLimit (D .attributes) _ e (w .a
 full-over D (op n) e w = one-over operationLimit (D .operations) n e (w .operations-within)
 full-over D (atom s n a) e w = one-over pairLimit (D .pairs) _ e (w .pairs-within)
 full-over D (holder s n) e w =
-    ⊎-elim (λ h. one-over holderNumbers (D .holders) _ (rw (numbers-length D) at h) (w .holders-within)) (λ g. group-over D s n g (w .groups-within))
+    ⊎-elim (λ h. holder-over D s n h (w .holders-within)) (λ g. group-over D s n g (w .groups-within))
     (or-cases (leb holderNumbers (length (holderNumbersOf D))) (isGroup s && leb groupLimit (groups D)) e)
 full-over D (parent c g) e w = false-is-true e
 full-over D (member p g) e w = false-is-true e
@@ -100,7 +104,7 @@ still-within D (atom s n a) w e =
     within (w .attributes-within) (w .operations-within) (one-longer pairLimit (D .pairs) _ e) (w .holders-within) (w .groups-within) (w .rules-within)
 still-within D (holder s n) w e =
     let (h, g) = or-none (leb holderNumbers (length (holderNumbersOf D))) (isGroup s && leb groupLimit (groups D)) e in
-    within (w .attributes-within) (w .operations-within) (w .pairs-within) (one-longer holderNumbers (D .holders) _ (rw (numbers-length D) at h))
+    within (w .attributes-within) (w .operations-within) (w .pairs-within) (holder-within D s n h)
     (group-within D s n (w .groups-within) g) (w .rules-within)
 still-within D (parent c g) w e = w
 still-within D (member p g) w e = w
@@ -123,4 +127,4 @@ line-full S previous line e =
 pub standing-within : {S : State} → Standing S → WithinLimits (S .declared)
 standing-within {S} standing =
     let well = standing .declarations in
-    within (well .attributes .few) (well .operations .few) (well .pairs .few) (holders-fit standing) (well .holders .few-groups) (well .rules .few)
+    within (well .attributes .few) (well .operations .few) (well .pairs .few) (omega (arith, numbers-length (S .declared), well .holders .few)) (well .holders .few-groups) (well .rules .few)

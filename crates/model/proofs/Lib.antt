@@ -14,6 +14,7 @@ pub mod WordTables
 pub mod Options
 pub mod Results
 pub mod Lists
+pub mod Numbered
 -- Lines: reading is the inverse of writing.
 pub mod Cuts
 pub mod Decimals

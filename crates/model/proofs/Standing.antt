@@ -5,33 +5,45 @@ use mathlib.Core.Path.{_≡_, refl, sym, ap, subst, _∙_}
 use mathlib.Core.Logic.{_⊎_, inl, inr, ⊎-elim}
 use mathlib.Core.Bool.{true, false, _&&_, not, true≢false}
 use mathlib.Core.Option.{Option, none, some, Option·some-injective}
-use native.Mathlib.Decide.{decLt}
 use native.Mathlib.Omega.{arith}
 use lib.ListN.{length}
-use borrow.Author.Tests.{not-false}
-use Rattle.model.specs.Notation.{_>>=_, _is_, isNone, nth}
+use lib.Dec.{eqb}
+use borrow.Author.Tests.{not-false, eqb-false, ltb-true}
+use Rattle.model.specs.Notation.{_>>=_, _is_, isNone, nth, find, map}
 use Rattle.model.specs.Limits.{holderNumbers, pairLimit}
 use Rattle.model.specs.Bytes.{Bytes, same}
 use Rattle.model.specs.Attributes.{sourceWord, sources, sameSource}
 use Rattle.model.specs.Atoms.{Atom, sameAtom}
 use Rattle.model.specs.Lines.{Line, attr, op, atom, holder, parent, member, value, rule}
-use Rattle.model.specs.Declarations.{Declarations, Pair, Holder, Sort, sortWord, isSort, sameSourceAndName, holderNumber, sortOf, sourceFor, parentSort, groupSort, pairNumber, isHolder, holderNumbersOf, isGroup}
+use Rattle.model.specs.Declarations.{Declarations, Pair, Holder, Sort, sortWord, isSort, sameSourceAndName, holderNumber, holderOf, sortOf, sourceFor, parentSort, groupSort, pairNumber, isHolder, holderNumbersOf, isGroup}
 use Rattle.model.specs.Ties.{Tie, Ties, added, removed, up, Acyclic}
 use Rattle.model.specs.State.{State, empty, tieOf, tied, declare, after}
 use Rattle.model.specs.Refusals.{fits, wrongSort, tieCloses, circular}
 use Rattle.model.specs.Standing.{SortsFit, PairFits, TieFits, WellDeclared, Standing}
 use Rattle.model.proofs.WordTables.{none-is-some, false-is-true, same-word, reads-source, reads-sort, sorts}
 use Rattle.model.proofs.Options.{parts, bind-some, is-some}
-use Rattle.model.proofs.Lists.{_∈_, or-cases, or-left, or-right, nth-lt, lt-nth, nth-append, place-nth, in-below, below-in, length-below}
+use Rattle.model.proofs.Lists.{_∈_, or-cases, or-left, or-right, nth-append, place-nth, in-map, map-in}
 use Rattle.model.proofs.Ties.{added-cases, removed-stood, up-added}
-use Rattle.model.proofs.Declared.{Acceptable, declare-well, nothing-well}
+use Rattle.model.proofs.Numbered.{find-in, find-none, found-number, number-found, length-map, rising-few}
+use Rattle.model.proofs.Declared.{Acceptable, declare-well, nothing-well, next-free, holder-stays}
 use Rattle.model.proofs.Chains.{Among, first-tie, last-tie, AtOrBelow, still-acyclic, parent-acyclic, fewer-acyclic}
+
+pub numbers-length : (D : Declarations) → length (holderNumbersOf D) ≡ length (D .holders)
+unfolding holderNumbersOf
+numbers-length D = length-map (λ g. g .number) (D .holders)
 
 -- ---- the tie of a line fits, where the line's sorts do
 
-sort-lt : (D : Declarations) (k : ℕ) {s : Sort} → sortOf D k ≡ some s → k < length (D .holders)
+-- a holder's number is among the numbers, and no other is
+pub holder-number : (D : Declarations) (k : ℕ) {h : Holder} → holderOf D k ≡ some h → k ∈ holderNumbersOf D
+unfolding holderNumbersOf
+holder-number D k {h} e =
+    let (m, z) = found-number (λ g. g .number) (D .holders) k h e in
+    subst (λ (j : ℕ). j ∈ map (λ g. g .number) (D .holders)) z (map-in (λ g. g .number) m)
+
+sort-number : (D : Declarations) (k : ℕ) {s : Sort} → sortOf D k ≡ some s → k ∈ holderNumbersOf D
 unfolding sortOf
-sort-lt D k e = let r = bind-some (nth (D .holders) k) (λ h. some (h .sort)) e in nth-lt (D .holders) k (r .1)
+sort-number D k e = let r = bind-some (holderOf D k) (λ h. some (h .sort)) e in holder-number D k (r .1)
 
 sorts-fit : (above : Sort → Option Sort) (D : Declarations) (lower upper : Bytes) (h g : ℕ) → fits above D lower upper ≡ true
     → holderNumber D lower ≡ some h → holderNumber D upper ≡ some g → SortsFit above D h g
@@ -93,8 +105,7 @@ tie-fits D (rule o ts) t e w = none-is-some e
 -- the ties of a standing state are among its holders
 module _ {S : State} (standing : Standing S) where
   in-holders : (k : ℕ) {s : Sort} → sortOf (S .declared) k ≡ some s → k ∈ holderNumbersOf (S .declared)
-  unfolding holderNumbersOf
-  in-holders k e = below-in (length (S .declared .holders)) k (sort-lt (S .declared) k e)
+  in-holders k e = sort-number (S .declared) k e
 
   -- the two ends of a tie up
   up-fits : (h g : ℕ) → up (S .ties) h g ≡ true → SortsFit parentSort (S .declared) h g ⊎ SortsFit groupSort (S .declared) h g
@@ -202,14 +213,14 @@ module _ {S : State} (standing : Standing S) where
 
 -- what had a number keeps it
 record DeclaresMore (D E : Declarations) : Type 0 where
-  holders-stay : (k : ℕ) (h : Holder) → nth (D .holders) k ≡ some h → nth (E .holders) k ≡ some h
+  holders-stay : (k : ℕ) (h : Holder) → holderOf D k ≡ some h → holderOf E k ≡ some h
   pairs-stay : (k : ℕ) (p : Pair) → nth (D .pairs) k ≡ some p → nth (E .pairs) k ≡ some p
 
 module _ {D E : Declarations} (grows : DeclaresMore D E) where
   sort-stays : (k : ℕ) (s : Sort) → sortOf D k ≡ some s → sortOf E k ≡ some s
   unfolding sortOf
   sort-stays k s e =
-      let r = bind-some (nth (D .holders) k) (λ h. some (h .sort)) e in
+      let r = bind-some (holderOf D k) (λ h. some (h .sort)) e in
       ap (λ (o : Option Holder). o >>= λ h. some (h .sort)) (grows .holders-stay k (r .0) (r .1)) ∙ r .2
 
   sorts-stay : {above : Sort → Option Sort} (h g : ℕ) → SortsFit above D h g → SortsFit above E h g
@@ -250,21 +261,21 @@ tied-standing standing (some t) f e = added-standing standing t (f t refl) e
 same-declared : {D : Declarations} → DeclaresMore D D
 same-declared = record { holders-stay = λ k h e. e; pairs-stay = λ k p e. e }
 
-declared-grows : (D : Declarations) (l : Line) → DeclaresMore D (declare l D)
-declared-grows D (attr s n y) = record { holders-stay = λ k h e. e; pairs-stay = λ k p e. e }
-declared-grows D (op n) = record { holders-stay = λ k h e. e; pairs-stay = λ k p e. e }
-declared-grows D (atom s n a) = record { holders-stay = λ k h e. e; pairs-stay = λ k p e. nth-append (D .pairs) _ k e }
-declared-grows D (holder s n) = record { holders-stay = λ k h e. nth-append (D .holders) _ k e; pairs-stay = λ k p e. e }
-declared-grows D (parent c g) = same-declared
-declared-grows D (member p g) = same-declared
-declared-grows D (value h n a) = same-declared
-declared-grows D (rule o ts) = record { holders-stay = λ k h e. e; pairs-stay = λ k p e. e }
+declared-grows : (D : Declarations) (l : Line) → holderOf D (length (D .holders)) ≡ none → DeclaresMore D (declare l D)
+declared-grows D (attr s n y) f = record { holders-stay = λ k h e. e; pairs-stay = λ k p e. e }
+declared-grows D (op n) f = record { holders-stay = λ k h e. e; pairs-stay = λ k p e. e }
+declared-grows D (atom s n a) f = record { holders-stay = λ k h e. e; pairs-stay = λ k p e. nth-append (D .pairs) _ k e }
+declared-grows D (holder s n) f = record { holders-stay = holder-stays D (record { number = length (D .holders); sort = s; name = n }) f; pairs-stay = λ k p e. e }
+declared-grows D (parent c g) f = same-declared
+declared-grows D (member p g) f = same-declared
+declared-grows D (value h n a) f = same-declared
+declared-grows D (rule o ts) f = record { holders-stay = λ k h e. e; pairs-stay = λ k p e. e }
 
 pub after-standing : {S : State} (l : Line) → Standing S → Acceptable S l → circular S l ≡ false → Standing (after l S)
 unfolding after circular
 after-standing {S} l standing a c =
     let tie = tied-standing standing (tieOf (S .declared) l) (λ t e. tie-fits (S .declared) l t e (a .sorted)) c in
-    grown-standing tie (declare l (S .declared)) (declared-grows (S .declared) l) (declare-well S l (standing .declarations) a)
+    grown-standing tie (declare l (S .declared)) (declared-grows (S .declared) l (next-free (standing .declarations))) (declare-well S l (standing .declarations) a)
 
 pub empty-standing : Standing empty
 empty-standing = record {
@@ -275,39 +286,48 @@ empty-standing = record {
 
 -- ---- numbers of holders and pairs
 
-pub holders-fit : {S : State} → Standing S → length (S .declared .holders) ≤ holderNumbers
-unfolding holderNumbersOf
-holders-fit {S} standing = rw (length-below (length (S .declared .holders))) at (standing .declarations .holders .few)
-
 pub pairs-fit : {S : State} → Standing S → length (S .declared .pairs) ≤ pairLimit
 pairs-fit standing = standing .declarations .pairs .few
 
--- the holders are those of the first numbers
-pub holder-lt : (D : Declarations) (k : ℕ) → k < length (D .holders) → isHolder D k ≡ true
-holder-lt D k h = let (x, e) = lt-nth (D .holders) k h in rw e
-
-pub holder-none : (D : Declarations) (k : ℕ) → length (D .holders) ≤ k → isHolder D k ≡ false
-holder-none D k h = go (nth (D .holders) k) refl
-  where
-    go : (o : Option Holder) → nth (D .holders) k ≡ o → not (isNone o) ≡ false
-    go none e = refl
-    go (some x) e = absurd (omega (arith, nth-lt (D .holders) k e))
-
 pub holder-below : (D : Declarations) (k : ℕ) → k ∈ holderNumbersOf D → isHolder D k ≡ true
 unfolding holderNumbersOf
-holder-below D k m = holder-lt D k (in-below (length (D .holders)) m)
+holder-below D k m =
+    let (h, i, e) = in-map (λ g. g .number) (D .holders) m in
+    go (holderOf D k) refl i e
+  where
+    go : {h : Holder} (o : Option Holder) → holderOf D k ≡ o → h ∈ D .holders → k ≡ h .number → not (isNone o) ≡ true
+    go none f i e = absurd (eqb-false _ _ (find-none (λ g. eqb (g .number) k) (D .holders) f i) (sym e))
+    go (some x) f i e = refl
+
+pub holder-in : (D : Declarations) (k : ℕ) → isHolder D k ≡ true → k ∈ holderNumbersOf D
+holder-in D k e = go (holderOf D k) refl e
+  where
+    go : (o : Option Holder) → holderOf D k ≡ o → not (isNone o) ≡ true → k ∈ holderNumbersOf D
+    go none f g = false-is-true g
+    go (some x) f g = holder-number D k f
+
+-- every holder's number is one of the table's
+pub holder-fits : {S : State} → Standing S → (k : ℕ) → isHolder (S .declared) k ≡ true → k < holderNumbers
+holder-fits {S} standing k h =
+    let few = standing .declarations .holders .few in
+    let l = ltb-true k (length (S .declared .holders)) (sym (standing .declarations .holders .gapless k) ∙ h) in
+    omega (arith, numbers-length (S .declared))
 
 -- room for the number of each holder is room for as many as there are
-pub room-length : (D : Declarations) (n : ℕ) → ((k : ℕ) → isHolder D k ≡ true → k < n) → length (D .holders) ≤ n
-room-length D n room = go (length (D .holders)) refl
-  where
-    go : (m : ℕ) → length (D .holders) ≡ m → length (D .holders) ≤ n
-    go zero e = omega arith
-    go (suc m) e = omega (arith, room m (holder-lt D m (omega arith)))
+pub room-length : {S : State} → Standing S → (n : ℕ) → ((k : ℕ) → isHolder (S .declared) k ≡ true → k < n) → length (S .declared .holders) ≤ n
+unfolding holderNumbersOf
+room-length {S} standing n room =
+    rising-few (λ g. g .number) (S .declared .holders) n (standing .declarations .holders .ordered)
+    (λ h m. room (h .number) (holder-below (S .declared) (h .number) (map-in (λ g. g .number) m)))
 
-pub length-room : (D : Declarations) (n : ℕ) → length (D .holders) ≤ n → (k : ℕ) → isHolder D k ≡ true → k < n
-length-room D n few k h = go (decLt k (length (D .holders)))
-  where
-    go : Dec (k < length (D .holders)) → k < n
-    go (yes l) = omega arith
-    go (no l) = absurd (true≢false (sym h ∙ holder-none D k (omega arith)))
+-- a holder of some sort is one of the table's
+pub sorted-fits : {S : State} → Standing S → (k : ℕ) {s : Sort} → sortOf (S .declared) k ≡ some s → k < holderNumbers
+sorted-fits {S} standing k e = holder-fits standing k (holder-below (S .declared) k (sort-number (S .declared) k e))
+
+-- the holder that has a name, by its number
+pub named-holder : {D : Declarations} → WellDeclared D → (n : Bytes) (k : ℕ) → holderNumber D n ≡ some k → (h : Holder) × (holderOf D k ≡ some h) × (same (h .name) n ≡ true)
+unfolding holderNumber
+named-holder {D} well n k e =
+    let (h, f, g) = bind-some (find (λ h. same (h .name) n) (D .holders)) (λ h. some (h .number)) e in
+    let (m, z) = find-in (λ h. same (h .name) n) (D .holders) h f in
+    (h, ap (holderOf D) (sym (Option·some-injective _ _ g)) ∙ number-found (λ g. g .number) (D .holders) (well .holders .ordered) m, z)

@@ -22,7 +22,7 @@ use Rattle.model.proofs.Options.{parts, both}
 use Rattle.model.proofs.Lists.{_∈_, same-truth, nth-lt, lt-nth, in-below}
 use Rattle.model.proofs.Effective.{effective-has}
 use Rattle.model.specs.Standing.{Standing}
-use Rattle.model.proofs.Standing.{among}
+use Rattle.model.proofs.Standing.{among, holder-below}
 use Rattle.model.proofs.BitsOfWords.{bitOf, bit-none, word-lt, word-same, bit-word, same-bits}
 use Rattle.model.proofs.Table.{set-length, table-length}
 
@@ -206,10 +206,7 @@ module _ {S : State} (standing : Standing S) where
   pair-declared k p e = has-pair (has k p e)
 
   pub holder-declared : (k p : ℕ) → effectiveSet (S .declared) (S .ties) k p ≡ true → isHolder (S .declared) k ≡ true
-  unfolding holderNumbersOf
-  holder-declared k p e =
-      let r = lt-nth (S .declared .holders) k (in-below (length (S .declared .holders)) (has-holder (has k p e))) in
-      ap (λ (o : Option Holder). not (isNone o)) (r .1)
+  holder-declared k p e = holder-below (S .declared) k (has-holder (has k p e))
 
   -- so the bits of the table are the effective pairs
   pub standing-layout : (k p : ℕ) → k < holderNumbers → p < pairLimit

@@ -3,8 +3,8 @@ use Prim.Native.Nat.{ℕ}
 use mathlib.Core.Bool.{Bool, _&&_, not}
 use mathlib.Core.List.{List, [], _∷_}
 use mathlib.Core.Option.{Option, none, some}
-use lib.ListN.{length}
-use Rattle.model.specs.Notation.{_>>=_, isNone, any, place, nth, count, below}
+use lib.Dec.{eqb}
+use Rattle.model.specs.Notation.{_>>=_, isNone, any, place, nth, find, count, map}
 use Rattle.model.specs.Bytes.{Bytes, bytes, same}
 use Rattle.model.specs.Attributes.{Source, AtomType, sameSource}
 use Rattle.model.specs.Atoms.{Atom, sameAtom}
@@ -26,8 +26,9 @@ pub record Pair : Type 0 where
 pub data Sort : Type 0 where
   admin ugroup ogroup user object : Sort
 
--- a holder, by its sort and NAME
+-- a holder, by its number, sort and NAME
 pub record Holder : Type 0 where
+  pub number : ℕ
   pub sort : Sort
   pub name : Bytes
 
@@ -36,7 +37,8 @@ pub record Rule : Type 0 where
   pub operation : Bytes
   pub tokens : List Token
 
--- "declarations D of the file (the rules, by their tokens, among them)"; what is numbered is numbered by its place, from 0
+-- "declarations D of the file (the rules, by their tokens, among them)"; attributes, operations, pairs and rules are numbered by their
+-- places, from 0; holders have their numbers, and stand in the order of these
 pub record Declarations : Type 0 where
   pub attributes : List Attribute
   pub operations : List Bytes
@@ -50,7 +52,7 @@ nothingDeclared = record {
   attributes = [];
   operations = [];
   pairs = [];
-  holders = record { sort = Sort.admin; name = bytes "admin" } ∷ [];
+  holders = record { number = 0; sort = Sort.admin; name = bytes "admin" } ∷ [];
   rules = [];
 }
 
@@ -76,11 +78,11 @@ pairNumber D s n a = place (λ p. sameSourceAndName (p .source) (p .name) s n &&
 
 -- "Names are unique among holders"
 unfoldable pub holderNumber : Declarations → Bytes → Option ℕ
-holderNumber D n = place (λ h. same (h .name) n) (D .holders)
+holderNumber D n = find (λ h. same (h .name) n) (D .holders) >>= λ h. some (h .number)
 
 -- the holder of a number
 abbrev pub holderOf : Declarations → ℕ → Option Holder
-holderOf D k = nth (D .holders) k
+holderOf D k = find (λ h. eqb (h .number) k) (D .holders)
 
 -- and its sort
 unfoldable pub sortOf : Declarations → ℕ → Option Sort
@@ -92,7 +94,7 @@ isHolder D k = not (isNone (holderOf D k))
 
 -- the numbers of the holders
 unfoldable pub holderNumbersOf : Declarations → List ℕ
-holderNumbersOf D = below (length (D .holders))
+holderNumbersOf D = map (λ h. h .number) (D .holders)
 
 abbrev pub sortWord : Sort → Bytes
 sortWord Sort.admin = bytes "admin"

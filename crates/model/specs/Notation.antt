@@ -4,6 +4,7 @@ use Prim.Native.Nat.{ℕ, zero, suc}
 use mathlib.Core.Bool.{Bool, true, false}
 use mathlib.Core.List.{List, [], _∷_, _++_}
 use mathlib.Core.Option.{Option, none, some}
+use lib.Dec.{ltb}
 
 infix 0 if_then_else_
 abbrev pub if_then_else_ : {A : Type 0} → Bool → A → A → A
@@ -70,6 +71,16 @@ module _ {A : Type 0} where
   abbrev pub place : (A → Bool) → List A → Option ℕ
   place p [] = none
   place p (x ∷ xs) = if p x then some 0 else (place p xs >>= λ n. some (suc n))
+
+  -- the first element that passes
+  abbrev pub find : (A → Bool) → List A → Option A
+  find p [] = none
+  find p (x ∷ xs) = if p x then some x else find p xs
+
+  -- one more before the first whose number is greater, so that numbers rise where they rose
+  abbrev pub inserted : (A → ℕ) → A → List A → List A
+  inserted number x [] = x ∷ []
+  inserted number x (y ∷ ys) = if ltb (number x) (number y) then x ∷ y ∷ ys else y ∷ inserted number x ys
 
   -- the element of a number
   abbrev pub nth : List A → ℕ → Option A

@@ -3,9 +3,10 @@
 use Prim.Native.Nat.{ℕ, suc, _≤_}
 use mathlib.Core.Path.{_≡_}
 use mathlib.Core.Bool.{Bool, true, false, _&&_}
-use mathlib.Core.List.{List}
+use mathlib.Core.List.{List, [], _∷_}
 use mathlib.Core.Option.{Option, some}
 use lib.ListN.{length}
+use lib.Dec.{ltb}
 use Rattle.model.specs.Notation.{isNone, any, all, nth}
 use Rattle.model.specs.Limits.{attributeLimit, operationLimit, pairLimit, holderNumbers, groupLimit, ruleLimit}
 use Rattle.model.specs.Bytes.{Bytes, bytes, same}
@@ -14,7 +15,7 @@ use Rattle.model.specs.Attributes.{AtomType, fromBlock, sameType}
 use Rattle.model.specs.Atoms.{typeOf, isAtom, sameAtom}
 use Rattle.model.specs.Tokens.{isToken}
 use Rattle.model.specs.Grammar.{Policy, readPolicy, tooLarge}
-use Rattle.model.specs.Declarations.{Declarations, Attribute, Pair, Holder, Rule, Sort, sameSourceAndName, attributeOf, operationNumber, holderOf, sortOf, holderNumbersOf, groups, isSort, sourceFor, parentSort, groupSort}
+use Rattle.model.specs.Declarations.{Declarations, Attribute, Pair, Holder, Rule, Sort, sameSourceAndName, attributeOf, operationNumber, holderOf, isHolder, sortOf, holderNumbersOf, groups, isSort, sourceFor, parentSort, groupSort}
 use Rattle.model.specs.Ties.{Tie, Ties, editedHolder, Acyclic}
 use Rattle.model.specs.State.{State}
 use Rattle.model.specs.Refusals.{unknownName}
@@ -25,6 +26,11 @@ Each {A} P xs = (i : ℕ) (x : A) → nth xs i ≡ some x → P x
 
 abbrev pub Unique : {A : Type 0} → (A → A → Bool) → List A → Type 0
 Unique {A} alike xs = (i j : ℕ) (x y : A) → nth xs i ≡ some x → nth xs j ≡ some y → alike x y ≡ true → i ≡ j
+
+-- numbers rise along a list
+abbrev pub rising : {A : Type 0} → (A → ℕ) → List A → Bool
+rising number [] = true
+rising number (x ∷ xs) = all (λ y. ltb (number x) (number y)) xs && rising number xs
 
 -- attr: "env and connect are never str. At most 32 … Unique by SRC and NAME"
 pub record AttributesStand (attributes : List Attribute) : Type 0 where
@@ -55,7 +61,9 @@ pub record PairsStand (D : Declarations) : Type 0 where
 
 -- holders: "Holder 0 is `admin`, always there. Others are numbered from 1 …, at most 255, of which at most 64 groups … Names are unique"
 pub record HoldersStand (D : Declarations) : Type 0 where
-  pub admin-first : holderOf D 0 ≡ some (record { sort = Sort.admin; name = bytes "admin" })
+  pub ordered : rising (λ h. h .number) (D .holders) ≡ true
+  pub gapless : (k : ℕ) → isHolder D k ≡ ltb k (length (D .holders))
+  pub admin-first : holderOf D 0 ≡ some (record { number = 0; sort = Sort.admin; name = bytes "admin" })
   pub others : (k : ℕ) (h : Holder) → holderOf D (suc k) ≡ some h → isSort (h .sort) Sort.admin ≡ false
   pub named : (k : ℕ) (h : Holder) → holderOf D k ≡ some h → isName (h .name) ≡ true
   pub unique : (j k : ℕ) (g h : Holder) → holderOf D j ≡ some g → holderOf D k ≡ some h → same (g .name) (h .name) ≡ true → j ≡ k

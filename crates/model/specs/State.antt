@@ -1,7 +1,8 @@
 -- The state that lines and edits change.
 use mathlib.Core.List.{[], _∷_, _++_}
 use mathlib.Core.Option.{Option, none, some}
-use Rattle.model.specs.Notation.{_>>=_}
+use lib.ListN.{length}
+use Rattle.model.specs.Notation.{_>>=_, inserted}
 use Rattle.model.specs.Bytes.{Bytes}
 use Rattle.model.specs.Lines.{Line, attr, op, atom, holder, parent, member, value, rule}
 use Rattle.model.specs.Declarations.{Declarations, Attribute, Pair, Holder, Rule, nothingDeclared, holderNumber, sortOf, sourceFor, pairNumber}
@@ -42,7 +43,7 @@ abbrev pub withPair : Pair → Declarations → Declarations
 withPair p D = record { attributes = D .attributes; operations = D .operations; pairs = D .pairs ++ p ∷ []; holders = D .holders; rules = D .rules }
 
 abbrev pub withHolder : Holder → Declarations → Declarations
-withHolder h D = record { attributes = D .attributes; operations = D .operations; pairs = D .pairs; holders = D .holders ++ h ∷ []; rules = D .rules }
+withHolder h D = record { attributes = D .attributes; operations = D .operations; pairs = D .pairs; holders = inserted (λ g. g .number) h (D .holders); rules = D .rules }
 
 abbrev pub withRule : Rule → Declarations → Declarations
 withRule r D = record { attributes = D .attributes; operations = D .operations; pairs = D .pairs; holders = D .holders; rules = D .rules ++ r ∷ [] }
@@ -52,7 +53,7 @@ abbrev pub declare : Line → Declarations → Declarations
 declare (attr s n t) D = withAttribute (record { source = s; name = n; type = t }) D
 declare (op n) D = withOperation n D
 declare (atom s n a) D = withPair (record { source = s; name = n; atom = a }) D
-declare (holder s n) D = withHolder (record { sort = s; name = n }) D
+declare (holder s n) D = withHolder (record { number = length (D .holders); sort = s; name = n }) D
 declare (parent c g) D = D
 declare (member p g) D = D
 declare (value h n a) D = D

@@ -4,25 +4,27 @@ use mathlib.Core.Path.{_≡_, refl, sym, ap, ap₂, _∙_, subst}
 use mathlib.Core.Logic.{_⊎_, inl, inr, ⊎-elim}
 use mathlib.Core.Bool.{Bool, true, false, not, _&&_, _||_, Bool·beq, true≢false, or-false, and-false}
 use mathlib.Core.List.{List}
-use native.Mathlib.Nat.{eq-or-lt-of-le, le-trans, lt-of-lt-of-le}
+use native.Mathlib.Nat.{eq-or-lt-of-le, lt-of-lt-of-le}
 use native.Mathlib.Decide.{decLt}
 use native.Mathlib.Omega.{arith}
 use lib.Dec.{eqb, ltb}
 use lib.ListN.{length, getD, replicate, List·getD-eq-default, getD-replicate, length-replicate}
 use borrow.Author.Tests.{eq-eqb, eqb-true, ne-eqb, lt-ltb, not-true, not-false}
-use Rattle.model.specs.Declarations.{Declarations, holderNumbersOf}
+use Rattle.model.specs.Notation.{map}
+use Rattle.model.specs.Declarations.{Declarations, Holder, isHolder, holderNumbersOf}
 use Rattle.model.specs.Ties.{Ties}
 use Rattle.model.specs.Table.{effectiveSet}
 use Rattle.model.specs.Edits.{differs, changes}
 use Rattle.model.proofs.Options.{parts, both}
-use Rattle.model.proofs.Lists.{true-or-false, or-cases, or-left, or-right, or-none}
+use Rattle.model.proofs.Lists.{true-or-false, or-cases, or-left, or-right, or-none, _∈_, count-ext as list-ext}
+use Rattle.model.proofs.Numbered.{count-numbers}
 use Rattle.model.proofs.Effective.{same-elsewhere}
 use Rattle.model.specs.Standing.{Standing}
 use Rattle.model.proofs.Standing as model
 use Rattle.bits.specs.Bits.{bit, member, holds, anyBelow, countBelow}
 use Rattle.bits.proofs.Bits.{bit-none, bit-not}
 use Rattle.bits.proofs.Sets.{same-beq}
-use Rattle.bits.proofs.Counts.{any-ext, any-suc, any-at, any-find, find-any, count-ext, count-below-le, count-rest}
+use Rattle.bits.proofs.Counts.{any-ext, any-suc, any-at, any-find, find-any, count-ext, count-below-le}
 use Rattle.ties.specs.TieArrays.{inUse, tiedUp, meets, hasSlot, groupOf, under, Room, Under, here, over, Marks}
 use Rattle.ties.proofs.Masks.{in-use-lt}
 use Rattle.ties.proofs.Keeps.{slot-group, group-any}
@@ -224,7 +226,7 @@ module _ (ups own slots : List ℕ) (e : ℕ) (t t′ changed : List ℕ) (r : �
         none S st k p l = ⊎-elim (λ e. absurd (omega (arith, pair-declared D S st k p e))) (λ e. e) (true-or-false (effectiveSet D S k p))
 
     -- there is no other
-    unlike-none : (k : ℕ) → length (D .holders) ≤ k → unlike t t′ k ≡ false
+    unlike-none : (k : ℕ) → isHolder D k ≡ false → unlike t t′ k ≡ false
     unlike-none k l = go (decLt k (length ups))
       where
         go : Dec (k < length ups) → unlike t t′ k ≡ false
@@ -236,14 +238,19 @@ module _ (ups own slots : List ℕ) (e : ℕ) (t t′ changed : List ℕ) (r : �
     unfolding changes differs holderNumbersOf countBelow anyBelow
     counted =
         n ∙ count-ext 256 (member changed) (unlike t t′) (λ k l. b .told (edit .kept .distinct) .marks k ∙ ap (λ (x : Bool). x || unlike t t′ k) (no-numbers k))
-        ∙ count-rest (length (D .holders)) 256 (unlike t t′) (le-trans (model.room-length D (length ups) room) few) (λ k l h. unlike-none k l)
-        ∙ count-ext (length (D .holders)) (unlike t t′) (differs D T U) (λ k l. unlike-differs k (lt-of-lt-of-le l (model.room-length D (length ups) room)))
+        ∙ sym (count-numbers (λ h. h .number) (unlike t t′) (D .holders) 256 (edit .before .declarations .holders .ordered)
+        (λ k m. lt-of-lt-of-le (room k (model.holder-below D k m)) few) (λ k l out. unlike-none k (absent k out (true-or-false (isHolder D k)))))
+        ∙ list-ext (unlike t t′) (differs D T U) (holderNumbersOf D) (λ k m. unlike-differs k (room k (model.holder-below D k m)))
+      where
+        absent : (k : ℕ) → (k ∈ map (λ (h : Holder). h .number) (D .holders) → ⊥) → (isHolder D k ≡ true) ⊎ (isHolder D k ≡ false) → isHolder D k ≡ false
+        absent k out (inl e) = absurd (out (model.holder-in D k e))
+        absent k out (inr e) = e
 
   pub refreshed : Refreshed ups own slots e t t′ r
   refreshed = record {
     pairs = λ D T U edit room was. (now D T U edit room was, counted D T U edit room was);
     whole = λ D T U edit size was.
-        let room : Room D (length ups) = model.length-room D (length ups) (omega (arith, model.holders-fit (edit .before))) in
+        let room : Room D (length ups) = λ k h. omega (arith, model.holder-fits (edit .before) k h) in
         let sets = subst (λ (n : ℕ). KeepsSets n t D T) (sym size) (table-sets D T (edit .before) t was) in (
           sets-table D U (edit .after) t′ (omega arith) fit (subst (λ (n : ℕ). KeepsSets n t′ D U) size (now D T U edit room sets)),
           counted D T U edit room sets,

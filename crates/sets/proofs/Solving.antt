@@ -1,24 +1,25 @@
 -- The specification's effective sets solve the sentence over the arrays that keep the ties. Assumes nothing.
 use Prim.Native.Nat.{ℕ, zero, suc, _*_, _/_, _^_, _≤_, _<_}
 use mathlib.Core.Path.{_≡_, refl, sym, ap, ap₂, _∙_, subst}
+use mathlib.Core.Logic.{_⊎_, inl, inr}
 use mathlib.Core.Bool.{Bool, true, false, not, _&&_, _||_, or-false, true≢false}
 use mathlib.Core.List.{List}
 use native.Mathlib.Decide.{ℕ-discrete, decLt}
 use native.Mathlib.Omega.{arith}
 use lib.ListN.{length, getD}
-use Rattle.model.specs.Notation.{any, below}
-use Rattle.model.specs.Declarations.{Declarations, holderNumbersOf}
+use Rattle.model.specs.Notation.{any}
+use Rattle.model.specs.Declarations.{Declarations, isHolder, holderNumbersOf}
 use Rattle.model.specs.Ties.{Ties, up}
 use Rattle.model.specs.Ties
 use Rattle.model.specs.Effective.{effective}
 use Rattle.model.specs.Table.{effectiveSet}
 use Rattle.model.proofs.Options.{parts, both}
-use Rattle.model.proofs.Lists.{same-truth, any-in, in-any, in-filter, filter-in, in-below, below-in, length-below}
+use Rattle.model.proofs.Lists.{same-truth, any-in, in-any, in-filter, filter-in, true-or-false}
 use Rattle.model.proofs.Chains
 use Rattle.model.proofs.Chains.{acyclic-depth}
 use Rattle.model.proofs.Effective.{effective-equation}
 use Rattle.model.specs.Standing.{Standing}
-use Rattle.model.proofs.Standing.{among, holders-fit, room-length, length-room}
+use Rattle.model.proofs.Standing.{among, numbers-length, holder-in, holder-below, holder-fits, room-length}
 use Rattle.bits.specs.Bits.{bit, member, holds, anyBelow}
 use Rattle.bits.proofs.Walks.{none-left}
 use Rattle.ties.specs.TieArrays.{inUse, tiedUp, hasSlot, KeepsTies, Room}
@@ -48,17 +49,17 @@ module _ {ups own slots : List ℕ} {T : Ties} (kept : KeepsTies ups own slots T
 
 module _ (ups own slots : List ℕ) (D : Declarations) (T : Ties) (standing : Standing (record { declared = D; ties = T })) (kept : KeepsTies ups own slots T) where
   pub all-deep : Room D (length ups) → AllDeep ups slots
-  unfolding AllDeep holderNumbersOf
-  all-deep room q low u = go (decLt (getD slots q 0) (length (D .holders)))
+  unfolding AllDeep
+  all-deep room q low u = go (true-or-false (isHolder D (getD slots q 0)))
     where
       few : getD slots q 0 < length ups
       few = in-use-lt (length ups) slots q u .1
 
-      go : Dec (getD slots q 0 < length (D .holders)) → ShortChains ups slots (length ups) q
-      go (yes h) =
-          depth-kept kept (length (below (length (D .holders)))) (length ups) q (omega (arith, length-below (length (D .holders)), room-length D (length ups) room)) few
-          (acyclic-depth (below (length (D .holders))) T (among standing) (standing .acyclic) (getD slots q 0) (below-in (length (D .holders)) (getD slots q 0) h))
-      go (no n) = no-ties kept (length ups) q (omega (arith, few)) few (λ g e. n (in-below (length (D .holders)) (among standing .lower (getD slots q 0) g e)))
+      go : (isHolder D (getD slots q 0) ≡ true) ⊎ (isHolder D (getD slots q 0) ≡ false) → ShortChains ups slots (length ups) q
+      go (inl h) =
+          depth-kept kept (length (holderNumbersOf D)) (length ups) q (omega (arith, numbers-length D, room-length standing (length ups) room)) few
+          (acyclic-depth (holderNumbersOf D) T (among standing) (standing .acyclic) (getD slots q 0) (holder-in D (getD slots q 0) h))
+      go (inr n) = no-ties kept (length ups) q (omega (arith, few)) few (λ g e. true≢false (sym (holder-below D (getD slots q 0) (among standing .lower (getD slots q 0) g e)) ∙ n))
 
   -- the sentence, over slots
   inherits : (k p : ℕ) → k < length ups
@@ -158,5 +159,5 @@ module _ (ups own slots t t₁ t₂ m m₁ : List ℕ) (d d₁ : ℕ) (free : (g
   filled = record {
     pairs = all-right;
     whole = λ D T standing kept long.
-        sets-table D T standing t₂ (omega arith) fit (subst (λ (n : ℕ). KeepsSets n t₂ D T) long (all-right D T standing kept (length-room D (length ups) (omega (arith, holders-fit standing)))));
+        sets-table D T standing t₂ (omega arith) fit (subst (λ (n : ℕ). KeepsSets n t₂ D T) long (all-right D T standing kept (λ k h. omega (arith, holder-fits standing k h))));
   }

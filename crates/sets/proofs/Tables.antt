@@ -2,7 +2,7 @@
 use Prim.Native.Nat.{ℕ, zero, suc, _+_, _*_, _/_, _%_, _^_, _≤_, _<_}
 use mathlib.Core.Path.{_≡_, refl, sym, ap, ap₂, _∙_}
 use mathlib.Core.Logic.{⊎-elim}
-use mathlib.Core.Bool.{Bool, true, false}
+use mathlib.Core.Bool.{Bool, true, false, true≢false}
 use mathlib.Core.List.{List, [], _∷_, _++_, append-assoc, append-nil}
 use native.Mathlib.Nat.{eq-or-lt-of-le}
 use native.Mathlib.Decide.{decLt}
@@ -17,7 +17,7 @@ use Rattle.model.specs.Table.{word, wordsOf, effectiveSet, storedSet, table}
 use Rattle.model.proofs.Lists.{_∈_, in-below, true-or-false, nth-lt}
 use Rattle.model.proofs.Effective.{effective-has}
 use Rattle.model.specs.Standing.{Standing}
-use Rattle.model.proofs.Standing.{among, holder-lt, holder-none}
+use Rattle.model.proofs.Standing.{among, holder-below}
 use Rattle.bits.specs.Bits.{bit, holds}
 use Rattle.sets.specs.Filled.{KeepsSets}
 use Rattle.bits.proofs.Sets.{member-none}
@@ -68,30 +68,28 @@ module _ (D : Declarations) (T : Ties) (standing : Standing (record { declared =
   unfolding effectiveSet
   pair-declared k p e = has-pair (effective-has (holderNumbersOf D) T (among standing) (standing .acyclic) k p .0 e)
 
-  holder-declared : (k p : ℕ) → effectiveSet D T k p ≡ true → k < length (D .holders)
-  unfolding effectiveSet holderNumbersOf
-  holder-declared k p e = in-below (length (D .holders)) (has-holder (effective-has (holderNumbersOf D) T (among standing) (standing .acyclic) k p .0 e))
+  holder-declared : (k p : ℕ) → effectiveSet D T k p ≡ true → isHolder D k ≡ true
+  unfolding effectiveSet
+  holder-declared k p e = holder-below D k (has-holder (effective-has (holderNumbersOf D) T (among standing) (standing .acyclic) k p .0 e))
     where
       has-holder : {p h : ℕ} → Has T p h → h ∈ holderNumbersOf D
       has-holder {p} (own {h = h} e) = among standing .valued h p e
       has-holder (inherited {g = g} {h = h} e c) = among standing .lower h g e
 
-  pub no-holder : (k p : ℕ) → length (D .holders) ≤ k → effectiveSet D T k p ≡ false
-  no-holder k p h = ⊎-elim (λ e. absurd (omega (arith, holder-declared k p e))) (λ e. e) (true-or-false (effectiveSet D T k p))
+  pub no-holder : (k p : ℕ) → isHolder D k ≡ false → effectiveSet D T k p ≡ false
+  no-holder k p h = ⊎-elim (λ e. absurd (true≢false (sym (holder-declared k p e) ∙ h))) (λ e. e) (true-or-false (effectiveSet D T k p))
 
   -- unused words are those of the empty set
   pub stored-words : (k : ℕ) → storedSet D T k ≡ wordsOf (effectiveSet D T k)
   unfolding storedSet
-  stored-words k = go (decLt k (length (D .holders)))
+  stored-words k = go (isHolder D k) refl
     where
       pick : Bool → List ℕ
       pick b = elim b as (λ _. List ℕ) [ true ↦ wordsOf (effectiveSet D T k) | false ↦ replicate 4 0 ]
 
-      go : Dec (k < length (D .holders)) → pick (isHolder D k) ≡ wordsOf (effectiveSet D T k)
-      go (yes h) = ap pick (holder-lt D k h)
-      go (no h) =
-          ap pick (holder-none D k (omega arith))
-          ∙ words-are (effectiveSet D T k) (replicate 4 0) refl (λ j. empty j) (λ p l. member-none p l ∙ sym (no-holder k p (omega arith)))
+      go : (b : Bool) → isHolder D k ≡ b → pick b ≡ wordsOf (effectiveSet D T k)
+      go true h = refl
+      go false h = words-are (effectiveSet D T k) (replicate 4 0) refl (λ j. empty j) (λ p l. member-none p l ∙ sym (no-holder k p h))
         where
           empty : (j : ℕ) → getD (replicate 4 0) j 0 < 2 ^ 64
           empty zero = omega arith

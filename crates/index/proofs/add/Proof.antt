@@ -1,9 +1,8 @@
 -- `index::add` meets its contract. Assumes nothing.
-use mathlib.Core.Path.{_≡_, ap, _∙_}
 use native.Mathlib.Omega.{arith}
-use lib.ListN.{length, length-set}
-use Rattle.index.specs.Index.{rowsIn, rowAdded}
-use Rattle.index.proofs.Adding.{adds, added-length, new-row}
+use lib.ListN.{length-set}
+use Rattle.index.specs.Index.{Added}
+use Rattle.index.proofs.Relinking.{row-added}
 use borrow.Author.Needs.{needs}
 use Rattle.index.proofs.add.Statement.{statement}
 use Rattle.index.proofs.add.Tie as tie
@@ -13,6 +12,9 @@ rows-in-requires c κs = search needs
 
 hash-requires : tie.Need-hash-requires
 hash-requires c κs = search needs
+
+link-place-requires : tie.Need-link-place-requires
+link-place-requires c κs = search needs
 
 mul-before : tie.Need-mul-before
 mul-before c = search needs
@@ -36,7 +38,7 @@ mul-section-2 : tie.Need-mul-section-2
 mul-section-2 c = search needs
 
 slice-write-section-2 : tie.Need-slice-write-section-2
-slice-write-section-2 c = let h = c .before .hash .ensures .1 in rw length-set (omega arith)
+slice-write-section-2 c = rw length-set (omega (arith, c .before .link-place .ensures .within, c .before .before .before .before .before .before .pre))
 
 add-put-row : tie.Need-add-put-row
 add-put-row c = search needs
@@ -48,26 +50,17 @@ add-put-row-2 : tie.Need-add-put-row-2
 add-put-row-2 c = search needs
 
 put-row-requires : tie.Need-put-row-requires
-put-row-requires c κs =
-    let start = c .before .before .before .before .before in
-    let e = c .before .before .before .rows-in .ensures in
-    rw (length-set, length-set) (omega (arith, e, start .pre .1))
+put-row-requires c κs = rw (length-set, length-set) (omega (arith, c .before .before .before .before .before .rows-in .ensures, c .before .before .before .before .before .before .before .pre))
 
--- what is written
-wrote : (c : tie.After-slice-known3) →
-    let start = c .before .before .before .before .before .before .before .before in
-    let s = start .args .section .now in
-    c .before .before .put-row .last .0
-    ≡ rowAdded s (rowsIn (length s)) (start .args .number) (start .args .a, start .args .b, start .args .c, start .args .d)
-wrote c =
-    adds _ _ _ _ _ (c .before .before .before .before .before .hash .ensures .0) (c .before .before .before .before .before .before .rows-in .ensures)
-    (c .before .before .put-row .ensures)
+-- what is made of the section
+made : (c : tie.After-slice-known3) → Added (c .before .before .before .before .before .before .before .before .before .before .args .section .now) (c .before .before .put-row .last .0) (c .before .before .before .before .before .before .before .before .before .before .args .number) (c .before .before .before .before .before .before .before .before .before .before .args .a, c .before .before .before .before .before .before .before .before .before .before .args .b, c .before .before .before .before .before .before .before .before .before .before .args .c, c .before .before .before .before .before .before .before .before .before .before .args .d)
+made c = row-added _ _ _ _ _ _ (c .before .before .before .before .before .before .before .before .before .before .pre .1) (c .before .before .before .before .before .before .before .before .rows-in .ensures) (c .before .before .before .before .before .before .before .hash .ensures .0) (c .before .before .before .before .before .link-place .ensures) (c .before .before .put-row .ensures)
 
 same-length : tie.Need-same-length
-same-length c = ap length (wrote c) ∙ added-length (c .before .before .before .before .before .before .before .before .args .section .now) _ _ _
+same-length c = made c .long
 
 returns : tie.Need-returns
-returns c = new-row _ _ _ (c .before .before .before .before .before .before .before .before .pre .1) (wrote c)
+returns c = made c
 
 pub add-spec : {M : Type 1} → statement M
 add-spec =
@@ -75,6 +68,7 @@ add-spec =
     (tie.spec
     rows-in-requires
     hash-requires
+    link-place-requires
     mul-before
     slice-read-before
     add-section

@@ -102,8 +102,8 @@ returns-3 c =
     let D = S .declared in
     let is-a = holder-there standing held a na (start .args .lower) pa (lower .result) (lower .ensures .1) (omega arith) in
     let is-b = holder-there standing held b nb (start .args .upper) pb (upper .result) (upper .ensures .1) (omega arith) in
-    let of-a = holder-sort D a (lower .result) is-a in
-    let of-b = holder-sort D b (upper .result) is-b in
+    let of-a = holder-sort (standing .declarations) a (lower .result) is-a in
+    let of-b = holder-sort (standing .declarations) b (upper .result) is-b in
     let wanted = c .before .before .before .above .ensures (of-a .0) (sort-word standing held (lower .result) (of-a .0) (of-a .1)) in
     sorts-wrong D (aboveFor key) (tieBy key) a b (lower .result) is-a (upper .result) is-b (of-a .0) (of-b .0) (of-a .1) (of-b .1) (r .number) t
     (λ e. c .before .if3 .taken (sort-word standing held (upper .result) (of-b .0) (of-b .1) ∙ e ∙ sym wanted)) (c .refused3 .ensures))
@@ -120,8 +120,8 @@ returns-4 c =
     let D = S .declared in
     let is-a = holder-there standing held a na (start .args .lower) pa (lower .result) (lower .ensures .1) (omega arith) in
     let is-b = holder-there standing held b nb (start .args .upper) pb (upper .result) (upper .ensures .1) (omega arith) in
-    let of-a = holder-sort D a (lower .result) is-a in
-    let of-b = holder-sort D b (upper .result) is-b in
+    let of-a = holder-sort (standing .declarations) a (lower .result) is-a in
+    let of-b = holder-sort (standing .declarations) b (upper .result) is-b in
     let wanted = c .before .before .above .ensures (of-a .0) (sort-word standing held (lower .result) (of-a .0) (of-a .1)) in
     sorts-right D (aboveFor key) (tieBy key) a b (lower .result) is-a (upper .result) is-b (of-a .0) (of-b .0) (of-a .1) (of-b .1)
     (sym (sort-word standing held (upper .result) (of-b .0) (of-b .1)) ∙ c .if3 .left ∙ wanted))

@@ -1,0 +1,257 @@
+-- Lists whose elements have numbers that rise: what is found by its number, one more, one less, and counting. Assumes nothing.
+use Prim.Native.Nat.{ℕ, zero, suc, _+_, _≤_, _<_}
+use mathlib.Core.Path.{_≡_, refl, sym, ap, subst, _∙_}
+use mathlib.Core.Logic.{_⊎_, inl, inr, ⊎-elim}
+use mathlib.Core.Bool.{Bool, true, false, _&&_, not, true≢false}
+use mathlib.Core.List.{List, [], _∷_, _++_, List·Memᴰ·head as here, List·Memᴰ·tail as there}
+use mathlib.Core.Option.{Option, none, some, Option·some-injective}
+use native.Mathlib.Decide.{ℕ-discrete, decLt}
+use native.Mathlib.Omega.{arith}
+use lib.ListN.{length}
+use lib.Dec.{eqb, ltb}
+use borrow.Author.Tests.{eq-eqb, ne-eqb, eqb-true, eqb-false, ltb-true, ltb-false, lt-ltb}
+use Rattle.model.specs.Notation.{if_then_else_, isNone, all, count, find, inserted, map, below}
+use Rattle.model.specs.Standing.{rising}
+use Rattle.model.proofs.WordTables.{none-is-some, false-is-true}
+use Rattle.model.proofs.Options.{parts, both}
+use Rattle.model.proofs.Lists.{_∈_, true-or-false, all-parts, all-cons, all-by, count-last, count-ext, in-map, map-in, in-below, below-in}
+
+-- ---- the first that passes
+
+module _ {A : Type 0} (p : A → Bool) where
+  pub find-in : (xs : List A) (x : A) → find p xs ≡ some x → (x ∈ xs) × (p x ≡ true)
+  find-in [] x e = none-is-some e
+  find-in (y ∷ ys) x e = go (p y) refl e (find-in ys x)
+    where
+      go : (b : Bool) → p y ≡ b → (if b then some y else find p ys) ≡ some x
+          → (find p ys ≡ some x → (x ∈ ys) × (p x ≡ true)) → (x ∈ y ∷ ys) × (p x ≡ true)
+      go true f g more = let z : y ≡ x = Option·some-injective y x g in (here (sym z), ap p (sym z) ∙ f)
+      go false f g more = let r = more g in (there (r .0), r .1)
+
+  pub find-none : (xs : List A) {x : A} → find p xs ≡ none → x ∈ xs → p x ≡ false
+  find-none [] e m = elim m [ ]
+  find-none (y ∷ ys) {x} e m = go (p y) refl e m (λ f n. find-none ys f n)
+    where
+      go : (b : Bool) → p y ≡ b → (if b then some y else find p ys) ≡ none → x ∈ y ∷ ys
+          → (find p ys ≡ none → x ∈ ys → p x ≡ false) → p x ≡ false
+      go true f g m more = none-is-some (sym g)
+      go false f g (here z) more = ap p z ∙ f
+      go false f g (there m) more = more g m
+
+-- ---- by number
+
+module _ {A : Type 0} (number : A → ℕ) where
+  abbrev has : ℕ → A → Bool
+  has k x = eqb (number x) k
+
+  pub found-number : (xs : List A) (k : ℕ) (x : A) → find (has k) xs ≡ some x → (x ∈ xs) × (number x ≡ k)
+  found-number xs k x e = let r = find-in (has k) xs x e in (r .0, eqb-true (number x) k (r .1))
+
+  -- where numbers rise, each is found by its own
+  pub number-found : (xs : List A) {x : A} → rising number xs ≡ true → x ∈ xs → find (has (number x)) xs ≡ some x
+  number-found [] e m = elim m [ ]
+  number-found (y ∷ ys) {x} e (here z) = rw (eq-eqb (number y) (number x) (ap number (sym z)), z)
+  number-found (y ∷ ys) {x} e (there m) =
+      let (above, rest) = parts (all (λ z. ltb (number y) (number z)) ys) (rising number ys) e in
+      let l = ltb-true (number y) (number x) (all-in (λ z. ltb (number y) (number z)) ys above m) in
+      rw (ne-eqb (number y) (number x) (λ z. omega arith)) (number-found ys rest m)
+    where
+      all-in : (q : A → Bool) (zs : List A) {z : A} → all q zs ≡ true → z ∈ zs → q z ≡ true
+      all-in q [] f n = elim n [ ]
+      all-in q (u ∷ us) f (here z) = ap q z ∙ all-parts q u us f .0
+      all-in q (u ∷ us) f (there n) = all-in q us (all-parts q u us f .1) n
+
+  -- ---- one more
+
+  module _ (x : A) where
+    pub find-inserted : (xs : List A) → find (has (number x)) xs ≡ none → (k : ℕ)
+        → find (has k) (inserted number x xs) ≡ (if eqb (number x) k then some x else find (has k) xs)
+    find-inserted [] new k = refl
+    find-inserted (y ∷ ys) new k = go (ltb (number x) (number y)) (eqb (number y) (number x)) refl new (λ f. find-inserted ys f k)
+      where
+        go : (b c : Bool) → eqb (number y) (number x) ≡ c → (if c then some y else find (has (number x)) ys) ≡ none
+            → (find (has (number x)) ys ≡ none → find (has k) (inserted number x ys) ≡ (if eqb (number x) k then some x else find (has k) ys))
+            → find (has k) (if b then x ∷ y ∷ ys else y ∷ inserted number x ys) ≡ (if eqb (number x) k then some x else find (has k) (y ∷ ys))
+        go true c f g more = refl
+        go false true f g more = none-is-some (sym g)
+        go false false f g more = by (eqb (number y) k) (eqb (number x) k) refl refl (more g)
+          where
+            by : (a b : Bool) → eqb (number y) k ≡ a → eqb (number x) k ≡ b
+                → find (has k) (inserted number x ys) ≡ (if b then some x else find (has k) ys)
+                → (if a then some y else find (has k) (inserted number x ys)) ≡ (if b then some x else (if a then some y else find (has k) ys))
+            by true true u v w = absurd (eqb-false (number y) (number x) f (eqb-true (number y) k u ∙ sym (eqb-true (number x) k v)))
+            by true false u v w = refl
+            by false b u v w = w
+
+    pub length-inserted : (xs : List A) → length (inserted number x xs) ≡ suc (length xs)
+    length-inserted [] = refl
+    length-inserted (y ∷ ys) = go (ltb (number x) (number y)) (length-inserted ys)
+      where
+        go : (b : Bool) → length (inserted number x ys) ≡ suc (length ys) → length (if b then x ∷ y ∷ ys else y ∷ inserted number x ys) ≡ suc (suc (length ys))
+        go true more = refl
+        go false more = ap suc more
+
+    pub count-inserted : (p : A → Bool) (xs : List A) → count p (inserted number x xs) ≡ count p xs + (if p x then 1 else 0)
+    count-inserted p [] = go (p x)
+      where
+        go : (b : Bool) → (if b then 1 else 0) ≡ 0 + (if b then 1 else 0)
+        go true = refl
+        go false = refl
+    count-inserted p (y ∷ ys) = go (ltb (number x) (number y)) (p x) (p y) refl refl (count-inserted p ys)
+      where
+        go : (b c d : Bool) → p x ≡ c → p y ≡ d → count p (inserted number x ys) ≡ count p ys + (if p x then 1 else 0)
+            → count p (if b then x ∷ y ∷ ys else y ∷ inserted number x ys) ≡ count p (y ∷ ys) + (if p x then 1 else 0)
+        go true true true u v w = rw (u, v) (omega arith)
+        go true true false u v w = rw (u, v) (omega arith)
+        go true false true u v w = rw (u, v) (omega arith)
+        go true false false u v w = rw (u, v) (omega arith)
+        go false c true u v w = rw v (omega (arith, w))
+        go false c false u v w = rw v w
+
+    all-inserted : (q : A → Bool) (xs : List A) → q x ≡ true → all q xs ≡ true → all q (inserted number x xs) ≡ true
+    all-inserted q [] e f = all-cons q x [] e refl
+    all-inserted q (y ∷ ys) e f = go (ltb (number x) (number y)) (all-inserted q ys e)
+      where
+        go : (b : Bool) → (all q ys ≡ true → all q (inserted number x ys) ≡ true) → all q (if b then x ∷ y ∷ ys else y ∷ inserted number x ys) ≡ true
+        go true more = all-cons q x (y ∷ ys) e f
+        go false more = let (a, b) = all-parts q y ys f in all-cons q y (inserted number x ys) a (more b)
+
+    pub rising-inserted : (xs : List A) → rising number xs ≡ true → find (has (number x)) xs ≡ none → rising number (inserted number x xs) ≡ true
+    rising-inserted [] r new = refl
+    rising-inserted (y ∷ ys) r new = go (ltb (number x) (number y)) (eqb (number y) (number x)) refl refl new (rising-inserted ys)
+      where
+        above : all (λ z. ltb (number y) (number z)) ys ≡ true
+        above = parts (all (λ z. ltb (number y) (number z)) ys) (rising number ys) r .0
+
+        rest : rising number ys ≡ true
+        rest = parts (all (λ z. ltb (number y) (number z)) ys) (rising number ys) r .1
+
+        go : (b c : Bool) → ltb (number x) (number y) ≡ b → eqb (number y) (number x) ≡ c
+            → (if c then some y else find (has (number x)) ys) ≡ none
+            → (rising number ys ≡ true → find (has (number x)) ys ≡ none → rising number (inserted number x ys) ≡ true)
+            → rising number (if b then x ∷ y ∷ ys else y ∷ inserted number x ys) ≡ true
+        go true c u v g more =
+            both
+            (all-cons (λ z. ltb (number x) (number z)) y ys u
+            (all-by (λ z. ltb (number y) (number z)) (λ z. ltb (number x) (number z)) (λ z f. lt-ltb (number x) (number z) (omega (arith, ltb-true (number x) (number y) u, ltb-true (number y) (number z) f))) ys above))
+            r
+        go false true u v g more = none-is-some (sym g)
+        go false false u v g more =
+            let n = eqb-false (number y) (number x) v in
+            both (all-inserted (λ z. ltb (number y) (number z)) ys (lt-ltb (number y) (number x) (strict (ltb-false (number x) (number y) u) n)) above) (more rest g)
+          where
+            strict : {a b : ℕ} → a ≤ b → (a ≡ b → ⊥) → a < b
+            strict {a} {b} l n = near (ℕ-discrete a b)
+              where
+                near : Dec (a ≡ b) → a < b
+                near (yes e) = absurd (n e)
+                near (no e) = omega arith
+
+pub length-map : {A B : Type 0} (f : A → B) (xs : List A) → length (map f xs) ≡ length xs
+length-map f [] = refl
+length-map f (x ∷ xs) = ap suc (length-map f xs)
+
+-- ---- counting by numbers
+
+-- one number of those below n counted by itself
+count-split : (p : ℕ → Bool) (x n : ℕ) → x < n → count p (below n) ≡ (if p x then 1 else 0) + count (λ k. p k && not (eqb k x)) (below n)
+count-split p x zero l = absurd (omega arith)
+count-split p x (suc n) l = go (ℕ-discrete x n) (count-split p x n)
+  where
+    go : Dec (x ≡ n) → (x < n → count p (below n) ≡ (if p x then 1 else 0) + count (λ k. p k && not (eqb k x)) (below n)) → count p (below n ++ n ∷ []) ≡ (if p x then 1 else 0) + count (λ k. p k && not (eqb k x)) (below n ++ n ∷ [])
+    go (yes z) rest =
+        let off : (p n && not (eqb n x)) ≡ false = rw (eq-eqb n x (sym z)) (none (p n)) in
+        let same : count p (below n) ≡ count (λ k. p k && not (eqb k x)) (below n) =
+        count-ext p (λ k. p k && not (eqb k x)) (below n) (λ k m. keep (p k) (eqb k x) (ne-eqb k x (λ e. let f = in-below n m in omega arith))) in
+        let a = count-last p (below n) n in
+        let b = count-last (λ k. p k && not (eqb k x)) (below n) n in
+        a ∙ ap (λ (k : ℕ). count p (below n) + (if p k then 1 else 0)) (sym z)
+        ∙ omega (arith, same, b ∙ ap (λ (t : Bool). count (λ k. p k && not (eqb k x)) (below n) + (if t then 1 else 0)) off)
+      where
+        none : (t : Bool) → (t && false) ≡ false
+        none true = refl
+        none false = refl
+
+        keep : (t u : Bool) → u ≡ false → t ≡ (t && not u)
+        keep true u e = ap not (sym e)
+        keep false u e = refl
+    go (no z) rest =
+        let on : (p n && not (eqb n x)) ≡ p n = rw (ne-eqb n x (λ e. z (sym e))) (keep (p n)) in
+        let a = count-last p (below n) n in
+        let b = count-last (λ k. p k && not (eqb k x)) (below n) n ∙ ap (λ (t : Bool). count (λ k. p k && not (eqb k x)) (below n) + (if t then 1 else 0)) on in
+        let more = rest (omega arith) in
+        omega (arith, a, b, more)
+      where
+        keep : (t : Bool) → (t && true) ≡ t
+        keep true = refl
+        keep false = refl
+
+module _ {A : Type 0} (number : A → ℕ) where
+  -- where numbers rise and are below n, counting among them is counting below n what only they meet
+  pub count-numbers : (p : ℕ → Bool) (xs : List A) (n : ℕ) → rising number xs ≡ true → ((k : ℕ) → k ∈ map number xs → k < n)
+      → ((k : ℕ) → k < n → (k ∈ map number xs → ⊥) → p k ≡ false) → count p (map number xs) ≡ count p (below n)
+  count-numbers p [] n r few off = sym (none (below n) (λ k m. off k (in-below n m) nobody))
+    where
+      nobody : {k : ℕ} → k ∈ [] → ⊥
+      nobody m = elim m [ ]
+
+      none : (l : List ℕ) → ((k : ℕ) → k ∈ l → p k ≡ false) → count p l ≡ 0
+      none [] f = refl
+      none (k ∷ l) f = rw (f k (here refl)) (none l (λ j m. f j (there m)))
+  count-numbers p (x ∷ xs) n r few off =
+      let (above, rest) = parts (all (λ z. ltb (number x) (number z)) xs) (rising number xs) r in
+      let q : ℕ → Bool = λ k. p k && not (eqb k (number x)) in
+      let more = count-numbers q xs n rest (λ k m. few k (there m)) (λ k l out. clear k l out (ℕ-discrete k (number x))) in
+      let same : count p (map number xs) ≡ count q (map number xs) = count-ext p q (map number xs) (λ k m. keep k m above) in
+      let split = count-split p (number x) n (few (number x) (here refl)) in
+      first (p (number x)) refl (omega (arith, more, same)) split
+    where
+      first : (b : Bool) → p (number x) ≡ b → count p (map number xs) ≡ count (λ k. p k && not (eqb k (number x))) (below n)
+          → count p (below n) ≡ (if p (number x) then 1 else 0) + count (λ k. p k && not (eqb k (number x))) (below n) → count p (number x ∷ map number xs) ≡ count p (below n)
+      first true e f g = rw e (omega (arith, f, rw e at g))
+      first false e f g = rw e (omega (arith, f, rw e at g))
+
+      clear : (k : ℕ) → k < n → (k ∈ map number xs → ⊥) → Dec (k ≡ number x) → (p k && not (eqb k (number x))) ≡ false
+      clear k l out (yes z) = rw (eq-eqb k (number x) z) (none (p k))
+        where
+          none : (t : Bool) → (t && false) ≡ false
+          none true = refl
+          none false = refl
+      clear k l out (no z) = rw (off k l (λ m. not-here k m z out)) refl
+        where
+          not-here : (k : ℕ) → k ∈ number x ∷ map number xs → (k ≡ number x → ⊥) → (k ∈ map number xs → ⊥) → ⊥
+          not-here k (here e) a b = a e
+          not-here k (there m) a b = b m
+
+      keep : (k : ℕ) → k ∈ map number xs → all (λ z. ltb (number x) (number z)) xs ≡ true → p k ≡ (p k && not (eqb k (number x)))
+      keep k m above =
+          let (y, i, e) = in-map number xs m in
+          let l = ltb-true (number x) (number y) (all-at (λ z. ltb (number x) (number z)) xs above i) in
+          rw (ne-eqb k (number x) (λ z. omega arith)) (same (p k))
+        where
+          all-at : (q : A → Bool) (zs : List A) {z : A} → all q zs ≡ true → z ∈ zs → q z ≡ true
+          all-at q [] f n = elim n [ ]
+          all-at q (u ∷ us) f (here z) = ap q z ∙ all-parts q u us f .0
+          all-at q (u ∷ us) f (there n) = all-at q us (all-parts q u us f .1) n
+
+          same : (t : Bool) → t ≡ (t && true)
+          same true = refl
+          same false = refl
+
+  -- where numbers rise and are below n, there are at most n
+  rising-from : (xs : List A) (a n : ℕ) → rising number xs ≡ true → a ≤ n → ((x : A) → x ∈ xs → a ≤ number x) → ((x : A) → x ∈ xs → number x < n) → a + length xs ≤ n
+  rising-from [] a n r l low few = omega arith
+  rising-from (x ∷ xs) a n r l low few =
+      let (above, rest) = parts (all (λ z. ltb (number x) (number z)) xs) (rising number xs) r in
+      let b = few x (here refl) in
+      let c = low x (here refl) in
+      let more = rising-from xs (suc (number x)) n rest b (λ y m. ltb-true (number x) (number y) (all-at (λ z. ltb (number x) (number z)) xs above m)) (λ y m. few y (there m)) in
+      omega arith
+    where
+      all-at : (q : A → Bool) (zs : List A) {z : A} → all q zs ≡ true → z ∈ zs → q z ≡ true
+      all-at q [] f n = elim n [ ]
+      all-at q (u ∷ us) f (here z) = ap q z ∙ all-parts q u us f .0
+      all-at q (u ∷ us) f (there n) = all-at q us (all-parts q u us f .1) n
+
+  pub rising-few : (xs : List A) (n : ℕ) → rising number xs ≡ true → ((x : A) → x ∈ xs → number x < n) → length xs ≤ n
+  rising-few xs n r few = let l = rising-from xs 0 n r (omega arith) (λ x m. omega arith) few in omega arith
