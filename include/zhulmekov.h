@@ -33,35 +33,48 @@ extern "C" {
 #define ZHUL_BOOK_WORDS 5240   /* words of 64 bits of a book */
 #define ZHUL_RULES_BYTES 24576 /* bytes of a book's rules */
 
-/* Numbers: 0 done (of a request: permit), 64 deny, 65 undefined, else a refusal of document 01, 1 to 17. Of several the lowest is given, and the first
-   offending line of a file decides. zhul_pass gives the refusals of zhul_load, and after an accepted load those of zhul_decide.
+/* Numbers: 0 done (of a request: permit), 64 deny, 65 undefined, else a refusal of document 01. Of several refusals the lowest is given, but 13 comes
+   before all but 4, and the first offending line of a file decides. zhul_pass gives the refusals of zhul_load, and after an accepted load those of
+   zhul_decide. README.md says what to do about each. */
 
-   Every call:
-    1  table not of ZHUL_TABLE_WORDS words: it keeps its words, a load leaves the empty book, an edit keeps its own
+/* Every call; the table keeps its words, a load leaves the empty book, an edit keeps its own. */
+#define ZHUL_WRONG_TABLE 1 /* the lent table has not 1,024 words (any call of a host in C) */
 
-   zhul_load (carries the line, from 1, but 0 with 1 and 2; leaves the empty book and, but for 1, a table all 0):
-    2  file over 32,768 bytes
-    3  first line not rights=1 with its byte 10, or missing
+/* zhul_load, which carries the line, from 1, but 0 with 1 and 2; it leaves the empty book and, but for 1, a table all 0. */
+#define ZHUL_TOO_LONG 2 /* the file has more than 32,768 bytes */
+#define ZHUL_WRONG_FIRST_LINE 3 /* the first line is missing, or is not rights=1 with its line end */
 
-   zhul_load and zhul_edit (a refused edit changes nothing):
-    4  line over 255 bytes (sign and byte 10 not counted), no byte 10 or bytes after it, no =, unknown key (a later rights too), edit without + or -
-    5  key before its predecessor's (load only)
-    6  field count, SRC, TYPE, name, atom or policy malformed, the policy judged without the limits of 7; {} and sets of two types too
-    7  policy of more than 16 terms (those inside parentheses too), with parentheses over 8 deep or a set of more than 8 atoms (load only)
-    8  undeclared name or pair; for a value line: no such pair of the attribute source that the holder's sort fixes
-    9  parent or member of the wrong sort; env or connect attribute of type str, atom of env or connect or of the wrong type (these load only)
-   10  already declared (load only), or tie already standing; never for a - line
-   11  more than 32 attributes, 8 operations, 256 pairs, 255 holders beside admin, 64 groups of both sorts together or 32 rules (load only)
-   12  parent tie that closes a circle, a group as its own parent included; never for a - line
+/* zhul_load and zhul_edit; a refused edit changes nothing. */
+#define ZHUL_UNFRAMED 4 /* a line over 255 bytes (the line end and an edit's sign not counted), without its line end, without = or with an unknown
+   key, a second rights among them; from hosts in C also an edit without + or -, or with bytes behind its line end */
+#define ZHUL_OUT_OF_ORDER 5 /* a key that should have come earlier (files only) */
+#define ZHUL_MALFORMED 6 /* the wrong number of fields, or a source, type, name, value or policy that is malformed: a name over 12 bytes or with a
+   capital, a number over 4294967295 or with a leading zero, a string over 12 bytes, a policy that cannot be read, for {} or a set of two types
+   too */
+#define ZHUL_OVER_LIMITS 7 /* a policy that can be read, but has more than 16 terms (those in parentheses counted, the parentheses themselves not),
+   parentheses more than 8 deep or a set of more than 8 values (files only) */
+#define ZHUL_UNDECLARED 8 /* a name or a pair that is not declared; for a value line: no such pair of the source that goes with the holder (user for
+   users and their groups, object for objects and theirs, admin for admin) */
+#define ZHUL_WRONG_SORT 9 /* a parent or member of the wrong sort (a user in a group of objects), a str attribute of env or connect (files only), an
+   atom of env or connect or of the wrong type (files only) */
+#define ZHUL_REPEATED 10 /* declared already (files only), or a tie that stands already; never for a - line */
+#define ZHUL_FULL 11 /* more than 32 attributes, 8 operations, 256 pairs, 255 holders beside admin, 64 groups of both sorts together or 32 rules
+   (files only) */
+#define ZHUL_CIRCULAR 12 /* a parent line that would make a group stand above itself, also one of a group with itself; never for a - line */
 
-   zhul_edit:
-   13  known key other than parent, member and value; comes after 4, before the rest
-   14  - of a tie that does not stand
+/* zhul_edit. */
+#define ZHUL_OTHER_KEY 13 /* an edit of another known key than parent, member or value; comes after 4, before the rest */
+#define ZHUL_NOT_STANDING 14 /* - of a tie that does not stand */
 
-   zhul_decide:
-   15  byte 0 not 1, byte 8 (n) above 8, byte 9 not 0, or length not 10 + 5n
-   16  byte 1 not the number of a user, 2 of an object, 3 of an operation; entry's attribute not one of env or connect; bool entry above 1
-   17  activated bit (bytes 4 to 7) that is the number of no user attribute, or of one of which that user has no effective value */
+/* zhul_decide; nothing is written. */
+#define ZHUL_BAD_BLOCK 15 /* a pass block of the wrong form: byte 0 is not 1, byte 8 (n, the number of entries) is above 8, byte 9 is not 0, or the
+   length is not 10 + 5n */
+#define ZHUL_WRONG_NUMBER 16 /* a pass block whose byte 1 is not the number of a user, byte 2 not of an object (admin, a group and the other sort are
+   wrong too) or byte 3 not of an operation; an entry whose attribute is not one of env or connect; an entry of a bool above 1 */
+#define ZHUL_NOT_HELD 17 /* a pass block that activates a bit of no user attribute, or a user attribute of which this user has no value, neither its
+   own nor from a group */
+
+/* A request that is not refused. */
 #define ZHUL_PERMIT 0
 #define ZHUL_DENY 64
 #define ZHUL_UNDEFINED 65

@@ -22,16 +22,11 @@ four P a b c d (suc (suc zero)) h = c
 four P a b c d (suc (suc (suc zero))) h = d
 four P a b c d (suc (suc (suc (suc j)))) h = absurd (omega arith)
 
--- words that are joined one by one are sets that are joined; and so for their common part
+-- words that are joined one by one are sets that are joined
 pub member-or : (r a b : List ℕ) → ((j : ℕ) → j < 4 → getD r j 0 ≡ bitOr (getD a j 0) (getD b j 0))
     → (p : ℕ) → p < 256 → member r p ≡ (member a p || member b p)
 unfolding member
 member-or r a b e p h = ap (λ (w : ℕ). bit w (p % 64)) (e (p / 64) (omega arith)) ∙ bit-or (getD a (p / 64) 0) (getD b (p / 64) 0) (p % 64)
-
-pub member-and : (r a b : List ℕ) → ((j : ℕ) → j < 4 → getD r j 0 ≡ bitAnd (getD a j 0) (getD b j 0))
-    → (p : ℕ) → p < 256 → member r p ≡ (member a p && member b p)
-unfolding member
-member-and r a b e p h = ap (λ (w : ℕ). bit w (p % 64)) (e (p / 64) (omega arith)) ∙ bit-and (getD a (p / 64) 0) (getD b (p / 64) 0) (p % 64)
 
 -- holder k's four words, as the code lends them; and its pair p as a number of the whole list
 pub member-part : (t : List ℕ) (k p : ℕ) → p < 256 → member (take (4 * k + 4 - 4 * k) (drop (4 * k) t)) p ≡ holds t k p

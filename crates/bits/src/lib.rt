@@ -115,14 +115,6 @@ pub fn joined(a: [u64; 4], b: &[u64]) -> [u64; 4]
     [a[0] | b[0], a[1] | b[1], a[2] | b[2], a[3] | b[3]]
 }
 
-// The part of a set of four words that lies in another.
-pub fn part(a: [u64; 4], b: &[u64]) -> [u64; 4]
-    requires { ⌜ length (now b) ≡ 4 ⌝ }
-    ensures { λ r. ⌜ Numbers 256 r (λ p. member a p && member (now (b .entry)) p) ⌝ }
-{
-    [a[0] & b[0], a[1] & b[1], a[2] & b[2], a[3] & b[3]]
-}
-
 // Whether two sets of four words are not the same.
 pub fn differs(a: &[u64], b: &[u64]) -> bool
     requires { ⌜ (length (now a) ≡ 4) × (length (now b) ≡ 4) ⌝ }

@@ -11,6 +11,7 @@ use lib.ListN.{length, getD, set, length-set}
 use borrow.Author.Tests.{le-leb, lt-leb}
 use Rattle.model.specs.Notation.{isNone, nth}
 use Rattle.model.specs.Limits.{attributeLimit, pairLimit, holderNumbers}
+use Rattle.model.specs.Numbers as refusal
 use Rattle.model.specs.Bytes.{Bytes}
 use Rattle.model.specs.Names.{isName}
 use Rattle.model.specs.Attributes.{Source, AtomType, fromBlock, sameType}
@@ -35,7 +36,7 @@ use Rattle.book.specs.Held.{CountsOf, OperationRows, SortRows, RuleRows,
 use Rattle.book.specs.Declaring.{attributePlace, blockText, attributePut, AttributeStep}
 use Rattle.book.proofs.Writes.{apart, word-beside, word-inside, section-long, section-word, word-at}
 use Rattle.book.proofs.Kept.{length-more, AttributesStay, rules-kept, sorts-kept, groups-kept}
-use Rattle.book.proofs.DeclarationTests.{refused-9, refused-10, refused-11, accepted, number-there, number-nowhere, place-few}
+use Rattle.book.proofs.DeclarationTests.{test-sort, test-repeated, test-full, accepted, number-there, number-nowhere, place-few}
 
 -- ---- what is written, by sections
 
@@ -221,15 +222,15 @@ module _ (book : List ℕ) (source kind low high : ℕ) where
       → (fromBlock s && sameType t AtomType.str) ≡ b
   sorted s t b e f g = ap₂ (λ (x y : Bool). x && y) (block-source s) (text-type t) ∙ sym (g ∙ rw (e, f))
 
-  pub attribute-sorted : (b : Bool) → b ≡ blockText source kind → b ≡ true → AttributeStep book source kind low high book 9
+  pub attribute-sorted : (b : Bool) → b ≡ blockText source kind → b ≡ true → AttributeStep book source kind low high book refusal.wrongSort
   attribute-sorted b g on code s n t name from type words S standing held =
-      (refused-9 S (attr s n t) refl refl refl (sorted s t b from type g ∙ on), λ z. absurd (omega arith))
+      (test-sort S (attr s n t) refl refl refl (sorted s t b from type g ∙ on), λ z. absurd (omega arith))
 
   module _ (b : Bool) (g : b ≡ blockText source kind) (off : b ≡ false) (k : ℕ) (found : Numbered (sectionWords section.attributes book) source low high k) where
-    pub attribute-repeated : (k ≡ attributeLimit → ⊥) → AttributeStep book source kind low high book 10
+    pub attribute-repeated : (k ≡ attributeLimit → ⊥) → AttributeStep book source kind low high book refusal.repeated
     attribute-repeated other code s n t name from type words S standing held =
         let e = found .number (S .declared) (standing .declarations) (held .attributes) s n name from words in (
-          refused-10 S (attr s n t) refl refl refl (sorted s t b from type g ∙ off) (number-there attributeLimit (attributeNumber (S .declared) s n) k e other),
+          test-repeated S (attr s n t) refl refl refl (sorted s t b from type g ∙ off) (number-there attributeLimit (attributeNumber (S .declared) s n) k e other),
           λ z. absurd (omega arith),
         )
 
@@ -249,10 +250,10 @@ module _ (book : List ℕ) (source kind low high : ℕ) where
       counted : (code : Bytes) (S : State) → Holds book code S → m ≡ length (S .declared .attributes)
       counted code S held = count ∙ sym (section-word section.counts book 0 (omega arith)) ∙ held .counts .attributes
 
-      pub attribute-full : attributeLimit ≤ m → AttributeStep book source kind low high book 11
+      pub attribute-full : attributeLimit ≤ m → AttributeStep book source kind low high book refusal.full
       attribute-full over code s n t name from type words S standing held =
           let at = counted code S held in (
-            refused-11 S (attr s n t) refl refl refl (sorted s t b from type g ∙ off) (new s n name from words code S standing held)
+            test-full S (attr s n t) refl refl refl (sorted s t b from type g ∙ off) (new s n name from words code S standing held)
                 (le-leb attributeLimit (length (S .declared .attributes)) (omega arith)),
             λ z. absurd (omega arith),
           )

@@ -7,6 +7,7 @@ use mathlib.Core.Option.{Option, none, some}
 use native.Mathlib.Omega.{arith}
 use lib.ListN.{length}
 use Rattle.model.specs.Notation.{if_then_else_, _is_, isNone, place}
+use Rattle.model.specs.Numbers as refusal
 use Rattle.model.specs.Lines.{Line}
 use Rattle.model.specs.Declarations.{holderNumbersOf}
 use Rattle.model.specs.Ties.{Tie}
@@ -18,7 +19,7 @@ use Rattle.book.specs.Steps.{laterTests}
 use Rattle.book.specs.Declaring.{Keeps}
 
 in-order : (a b c d e f : Bool) → e ≡ false → f ≡ false
-    → first (7 if e ∷ 8 if a ∷ 9 if b ∷ 10 if c ∷ 11 if d ∷ 12 if f ∷ []) ≡ (if a then 8 else if b then 9 else if c then 10 else if d then 11 else 0)
+    → first (refusal.overLimits if e ∷ refusal.undeclared if a ∷ refusal.wrongSort if b ∷ refusal.repeated if c ∷ refusal.full if d ∷ refusal.circular if f ∷ []) ≡ (if a then refusal.undeclared else if b then refusal.wrongSort else if c then refusal.repeated else if d then refusal.full else 0)
 in-order true b c d e f p q = rw p
 in-order false true c d e f p q = rw p
 in-order false false true d e f p q = rw p
@@ -34,20 +35,20 @@ module _ (S : State) (l : Line) (plain : overLimits l ≡ false) (free : tieOf (
       in-order (undeclared (S .declared) l) (wrongSort (S .declared) l) (repeated S l) (full (S .declared) l) (overLimits l) (circular S l) plain
       (ap (λ (o : Option Tie). o is tieCloses (holderNumbersOf (S .declared)) (S .ties)) free)
 
-  pub refused-8 : undeclared (S .declared) l ≡ true → 8 ≡ first (laterTests S l)
-  refused-8 e = sym (tested ∙ rw e)
+  pub test-undeclared : undeclared (S .declared) l ≡ true → refusal.undeclared ≡ first (laterTests S l)
+  test-undeclared e = sym (tested ∙ rw e)
 
   module _ (known : undeclared (S .declared) l ≡ false) where
-    pub refused-9 : wrongSort (S .declared) l ≡ true → 9 ≡ first (laterTests S l)
-    refused-9 e = sym (tested ∙ rw (known, e))
+    pub test-sort : wrongSort (S .declared) l ≡ true → refusal.wrongSort ≡ first (laterTests S l)
+    test-sort e = sym (tested ∙ rw (known, e))
 
     module _ (sorted : wrongSort (S .declared) l ≡ false) where
-      pub refused-10 : repeated S l ≡ true → 10 ≡ first (laterTests S l)
-      refused-10 e = sym (tested ∙ rw (known, sorted, e))
+      pub test-repeated : repeated S l ≡ true → refusal.repeated ≡ first (laterTests S l)
+      test-repeated e = sym (tested ∙ rw (known, sorted, e))
 
       module _ (new : repeated S l ≡ false) where
-        pub refused-11 : full (S .declared) l ≡ true → 11 ≡ first (laterTests S l)
-        refused-11 e = sym (tested ∙ rw (known, sorted, new, e))
+        pub test-full : full (S .declared) l ≡ true → refusal.full ≡ first (laterTests S l)
+        test-full e = sym (tested ∙ rw (known, sorted, new, e))
 
         pub accepted : full (S .declared) l ≡ false → 0 ≡ first (laterTests S l)
         accepted e = sym (tested ∙ rw (known, sorted, new, e))

@@ -10,6 +10,7 @@ use lib.ListN.{length, length-append}
 use borrow.Author.Tests.{lt-ltb, le-ltb}
 use Rattle.model.specs.Notation.{_>>=_, _is_, isNone}
 use Rattle.model.specs.Limits.{lineBytes}
+use Rattle.model.specs.Numbers as refusal
 use Rattle.model.specs.Bytes.{Bytes}
 use Rattle.model.specs.Keys.{Key, keyWord, rank}
 use Rattle.model.specs.Lines.{Line, framed, readFields, readLine}
@@ -56,15 +57,15 @@ abbrev refusalOf : State → Option Key → Option (Key × Bytes) → ℕ
 refusalOf S p c =
     let l = c >>= λ (key, fields). readFields key fields in
     first (
-    4 if isNone c
-    ∷ 5 if (c is λ (key, fields). p is λ q. ltb (rank key) (rank q))
-    ∷ 6 if (c is λ (key, fields). isNone (readFields key fields))
-    ∷ 7 if (l is overLimits)
-    ∷ 8 if (l is undeclared (S .declared))
-    ∷ 9 if (l is wrongSort (S .declared))
-    ∷ 10 if (l is repeated S)
-    ∷ 11 if (l is full (S .declared))
-    ∷ 12 if (l is circular S)
+    refusal.unframed if isNone c
+    ∷ refusal.outOfOrder if (c is λ (key, fields). p is λ q. ltb (rank key) (rank q))
+    ∷ refusal.malformed if (c is λ (key, fields). isNone (readFields key fields))
+    ∷ refusal.overLimits if (l is overLimits)
+    ∷ refusal.undeclared if (l is undeclared (S .declared))
+    ∷ refusal.wrongSort if (l is wrongSort (S .declared))
+    ∷ refusal.repeated if (l is repeated S)
+    ∷ refusal.full if (l is full (S .declared))
+    ∷ refusal.circular if (l is circular S)
     ∷ [])
 
 by-frame : (S : State) (p : Option Key) (line : Bytes) (c : Option (Key × Bytes)) → framed line ≡ c → lineRefusal S p line ≡ refusalOf S p c
@@ -72,7 +73,7 @@ unfolding lineRefusal unframed outOfOrder malformed readLine
 by-frame S p line c e = ap (refusalOf S p) e
 
 behind-order : (S : State) (b : Bool) (o : Option Line) → b ≡ false
-    → first (5 if b ∷ 6 if isNone o ∷ 7 if (o is overLimits) ∷ 8 if (o is undeclared (S .declared)) ∷ 9 if (o is wrongSort (S .declared)) ∷ 10 if (o is repeated S) ∷ 11 if (o is full (S .declared)) ∷ 12 if (o is circular S) ∷ [])
+    → first (refusal.outOfOrder if b ∷ refusal.malformed if isNone o ∷ refusal.overLimits if (o is overLimits) ∷ refusal.undeclared if (o is undeclared (S .declared)) ∷ refusal.wrongSort if (o is wrongSort (S .declared)) ∷ refusal.repeated if (o is repeated S) ∷ refusal.full if (o is full (S .declared)) ∷ refusal.circular if (o is circular S) ∷ [])
     ≡ fieldsRefusal S o
 behind-order S b none e = rw e
 behind-order S b (some l) e = rw e
@@ -94,11 +95,11 @@ module _ (k : Key) (p : Option Key) (n m : ℕ) (here : n ≡ keyCode k) (there 
       go (some q) e = le-ltb (rank k) (rank q) (omega arith)
 
 module _ (book : List ℕ) (code line : Bytes) (previous : ℕ) (r : Framed) (told : FrameTold line r) where
-  pub line-unframed : (book′ : List ℕ) (code′ : Bytes) (key : ℕ) → r .key ≡ 0 → LineRead book code line previous book′ code′ 4 key
+  pub line-unframed : (book′ : List ℕ) (code′ : Bytes) (key : ℕ) → r .key ≡ 0 → LineRead book code line previous book′ code′ refusal.unframed key
   line-unframed book′ code′ key e S standing held p at = (sym (by-frame S p line none (not-framed line r told e)), λ z. absurd (omega arith))
 
   module _ (there : r .key ≡ 0 → ⊥) where
-    pub line-early : (book′ : List ℕ) (code′ : Bytes) (key : ℕ) → r .key < previous → LineRead book code line previous book′ code′ 5 key
+    pub line-early : (book′ : List ℕ) (code′ : Bytes) (key : ℕ) → r .key < previous → LineRead book code line previous book′ code′ refusal.outOfOrder key
     line-early book′ code′ key l S standing held p at =
         let (k, n, e) = is-framed line r told there in
         (sym (by-frame S p line (some (k, bytesBetween line (r .start) (r .end))) e ∙ rw (is-before k p (r .key) previous n at l)), λ z. absurd (omega arith))

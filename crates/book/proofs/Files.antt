@@ -11,6 +11,7 @@ use lib.Seq.{take-at, drop-drop, take-all, length-take-le}
 use borrow.Author.Tests.{eqb-true, eq-eqb, ne-eqb, lt-ltb, le-ltb, not-true, not-false}
 use Rattle.model.specs.Notation.{if_then_else_, _>>=_, isNone}
 use Rattle.model.specs.Limits.{fileBytes}
+use Rattle.model.specs.Numbers as refusal
 use Rattle.model.specs.Bytes.{Bytes, newline, cut, begun, linesOf, behind, same}
 use Rattle.model.specs.Keys.{Key}
 use Rattle.model.specs.Lines.{Line, readLine}
@@ -257,13 +258,13 @@ module _ (answer : Loaded) (book : List ℕ) (code : Bytes) (previous n at : ℕ
 pub file-long : (file : Bytes) (book : List ℕ) (code : Bytes) → fileBytes < length file → LoadedAs (load file) book code 2 0
 unfolding load tooLong
 file-long file book code l =
-    let e : load file ≡ refusedAt 2 0 = rw (lt-ltb fileBytes (length file) l) in
+    let e : load file ≡ refusedAt refusal.tooLong 0 = rw (lt-ltb fileBytes (length file) l) in
     record { number-is = ap (λ (a : Loaded). a .number) (sym e); line-is = ap (λ (a : Loaded). a .line) (sym e); holds = λ z. absurd (omega arith) }
 
 pub file-begun-wrong : (file : Bytes) (book : List ℕ) (code : Bytes) → length file ≤ fileBytes → wrongFirstLine file ≡ true → LoadedAs (load file) book code 3 1
 unfolding load tooLong
 file-begun-wrong file book code l w =
-    let e : load file ≡ refusedAt 3 1 = rw (le-ltb fileBytes (length file) l, w) in
+    let e : load file ≡ refusedAt refusal.wrongFirstLine 1 = rw (le-ltb fileBytes (length file) l, w) in
     record { number-is = ap (λ (a : Loaded). a .number) (sym e); line-is = ap (λ (a : Loaded). a .line) (sym e); holds = λ z. absurd (omega arith) }
 
 pub file-read : (file : Bytes) (book book′ : List ℕ) (code code′ : Bytes) (number line : ℕ) → length file ≤ fileBytes → wrongFirstLine file ≡ false → Holds book code empty

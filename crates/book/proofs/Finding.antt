@@ -25,9 +25,9 @@ use Rattle.model.proofs.Lists.{same-truth, all-parts, nth-lt, lt-nth}
 use Rattle.model.proofs.Declared.{same-sym, named-eq, eq-named, pair-declared}
 use Rattle.text.specs.declared.Packed.{Packed}
 use Rattle.text.specs.declared.Words.{Words}
-use Rattle.text.specs.Packing.{packedOf, twoWords, solid}
+use Rattle.text.specs.Packing.{packedOf, packedAt, twoWords, solid}
 use Rattle.text.specs.Values.{atomWords}
-use Rattle.text.proofs.Packing.{name-same, name-solid, solid-range}
+use Rattle.text.proofs.Packing.{name-same, name-solid, solid-range, named-at}
 use Rattle.text.proofs.Values.{words-injective, same-atom-eq, same-atom-refl}
 use Rattle.rows.specs.Rows.{numberOr}
 use Rattle.rows.proofs.FirstPlaces.{place-none, place-first}
@@ -35,7 +35,7 @@ use Rattle.rows.proofs.RowsOfAttributes.{number-injective}
 use Rattle.index.specs.Index.{Row, RowFound, FindsRow, rowsOf}
 use Rattle.index.proofs.Listed.{place-found, indexed-same}
 use Rattle.book.specs.Held.{OperationRows, pairRow, holderRow}
-use Rattle.book.specs.Finding.{HolderFound, OperationFound, PairFound, operationNamed}
+use Rattle.book.specs.Finding.{HolderFound, OperationFound, PairFound}
 
 -- a number below n, or n for none
 number-or : (n r : ℕ) (o : Option ℕ) → r ≤ n → o ≡ onlyIf (ltb r n) r → r ≡ numberOr n o
@@ -163,32 +163,19 @@ module _ (section : List ℕ) (k : ℕ) (words : Words) (r : ℕ) (finds : Finds
 module _ (rows : List ℕ) (low high : ℕ) (D : Declarations) (well : WellDeclared D) (held : OperationRows rows (D .operations)) (n : Bytes)
     (name : isName n ≡ true) (words : packedOf n ≡ record { low = low; high = high }) where
   -- a row has a name where its operation has
-  row-named : (i : ℕ) (m : Bytes) → nth (D .operations) i ≡ some m → operationNamed rows low high i ≡ same n m
-  unfolding operationNamed
+  row-named : (i : ℕ) (m : Bytes) → nth (D .operations) i ≡ some m → packedAt rows (2 * i) low high ≡ same n m
   row-named i m e =
-      same-truth (eqb (getD rows (2 * i) 0) low && eqb (getD rows (2 * i + 1) 0) high) (same n m)
-      (λ t.
-      let (p, q) = parts (eqb (getD rows (2 * i) 0) low) (eqb (getD rows (2 * i + 1) 0) high) t in
-      same-sym m n
-      (packed-name m n (well .operations .named i m e) name
-      (sym (held .low i m e) ∙ eqb-true _ _ p ∙ sym (ap (λ (x : Packed). x .low) words))
-      (sym (held .high i m e) ∙ eqb-true _ _ q ∙ sym (ap (λ (x : Packed). x .high) words))))
-      (λ t.
-      let z = ap packedOf (sym (same-eq n m t)) ∙ words in
-      both (eq-eqb _ _ (held .low i m e ∙ ap (λ (x : Packed). x .low) z)) (eq-eqb _ _ (held .high i m e ∙ ap (λ (x : Packed). x .high) z)))
+      named-at rows (2 * i) m n (well .operations .named i m e) name words (held .low i m e) (held .high i m e)
+      ∙ same-truth (same m n) (same n m) (same-sym m n) (same-sym n m)
 
-  row-other : (i : ℕ) → length (D .operations) ≤ i → i < operationLimit → operationNamed rows low high i ≡ false
-  unfolding operationNamed
+  row-other : (i : ℕ) → length (D .operations) ≤ i → i < operationLimit → packedAt rows (2 * i) low high ≡ false
+  unfolding packedAt
   row-other i h l =
       ap (λ (t : Bool). t && eqb (getD rows (2 * i + 1) 0) high)
       (ne-eqb (getD rows (2 * i) 0) low (λ e. name-word n name (ap (λ (x : Packed). x .low) words ∙ sym e ∙ held .other i h l)))
 
--- the last of two tests, behind one that was passed
-pub second-test : (a b c d : ℕ) → a ≡ b → eqb c d ≡ (eqb a b && eqb c d)
-second-test a b c d e = rw (eq-eqb a b e)
-
 module _ (rows : List ℕ) (low high : ℕ) where
-  pub operation-none : ((i : ℕ) → i < operationLimit → operationNamed rows low high i ≡ false) → OperationFound rows low high operationLimit
+  pub operation-none : ((i : ℕ) → i < operationLimit → packedAt rows (2 * i) low high ≡ false) → OperationFound rows low high operationLimit
   unfolding operationNumber
   operation-none f D well held n name words =
       ap (numberOr operationLimit)
@@ -199,7 +186,7 @@ module _ (rows : List ℕ) (low high : ℕ) where
       let few = well .operations .few in
       sym (row-named rows low high D well held n name words i m e) ∙ f i (omega arith))))
 
-  pub operation-at : (k : ℕ) → k < operationLimit → operationNamed rows low high k ≡ true → ((i : ℕ) → i < k → operationNamed rows low high i ≡ false)
+  pub operation-at : (k : ℕ) → k < operationLimit → packedAt rows (2 * k) low high ≡ true → ((i : ℕ) → i < k → packedAt rows (2 * i) low high ≡ false)
       → OperationFound rows low high k
   unfolding operationNumber
   operation-at k h t f D well held n name words = go (decLt k (length (D .operations)))

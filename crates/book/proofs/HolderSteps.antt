@@ -10,6 +10,7 @@ use lib.ListN.{length, getD}
 use borrow.Author.Tests.{ltb-true, lt-ltb, le-ltb, le-leb, lt-leb}
 use Rattle.model.specs.Notation.{isNone}
 use Rattle.model.specs.Limits.{holderNumbers, groupLimit}
+use Rattle.model.specs.Numbers as refusal
 use Rattle.model.specs.Bytes.{Bytes}
 use Rattle.model.specs.Names.{isName}
 use Rattle.model.specs.Declarations.{Sort, isSort, isGroup, groups, holderNumber, holderNumbersOf}
@@ -27,7 +28,7 @@ use Rattle.book.specs.Finding.{HolderFound}
 use Rattle.book.specs.Declaring.{HolderPut, groupPut, HolderStep}
 use Rattle.book.proofs.Writes.{section-word}
 use Rattle.book.proofs.Holders.{holder-held, group-held}
-use Rattle.book.proofs.DeclarationTests.{refused-10, refused-11, accepted, number-there, number-nowhere}
+use Rattle.book.proofs.DeclarationTests.{test-repeated, test-full, accepted, number-there, number-nowhere}
 
 -- groups are told by the numbers of their sorts
 group-code : (s : Sort) → isSort s Sort.admin ≡ false → isGroup s ≡ ltb (sortCode s) (sortCode Sort.user)
@@ -38,10 +39,10 @@ group-code Sort.user e = refl
 group-code Sort.object e = refl
 
 module _ (book : List ℕ) (key low high k : ℕ) (found : HolderFound (sectionWords section.holders book) low high k) where
-  pub holder-repeated : (k ≡ holderNumbers → ⊥) → HolderStep book key low high book 10
+  pub holder-repeated : (k ≡ holderNumbers → ⊥) → HolderStep book key low high book refusal.repeated
   holder-repeated other code s n sort name from words S standing held =
       let e = found (S .declared) (standing .declarations) (held .holders) n name words in
-      (refused-10 S (holder s n) refl refl refl refl (number-there holderNumbers (holderNumber (S .declared) n) k e other), λ z. absurd (omega arith))
+      (test-repeated S (holder s n) refl refl refl refl (number-there holderNumbers (holderNumber (S .declared) n) k e other), λ z. absurd (omega arith))
 
   module _ (free : k ≡ holderNumbers) (m : ℕ) (count : m ≡ getD book 3 0) where
     new : (n : Bytes) → isName n ≡ true → packedOf n ≡ record { low = low; high = high } → (code : Bytes) (S : State) → Standing S → Holds book code S
@@ -57,10 +58,10 @@ module _ (book : List ℕ) (key low high k : ℕ) (found : HolderFound (sectionW
     numbered : (code : Bytes) (S : State) → Holds book code S → m ≡ length (S .declared .holders)
     numbered code S held = counted code S held ∙ numbers-length (S .declared)
 
-    pub holder-full : holderNumbers ≤ m → HolderStep book key low high book 11
+    pub holder-full : holderNumbers ≤ m → HolderStep book key low high book refusal.full
     holder-full over code s n sort name from words S standing held =
         let at = counted code S held in (
-          refused-11 S (holder s n) refl refl refl refl (new n name words code S standing held)
+          test-full S (holder s n) refl refl refl refl (new n name words code S standing held)
               (ap (λ (t : Bool). t || (isGroup s && leb groupLimit (groups (S .declared)))) (le-leb holderNumbers (length (holderNumbersOf (S .declared))) (omega arith))),
           λ z. absurd (omega arith),
         )
@@ -100,10 +101,10 @@ module _ (book : List ℕ) (key low high k : ℕ) (found : HolderFound (sectionW
         grouped : (code : Bytes) (S : State) → Holds book code S → g ≡ groups (S .declared)
         grouped code S held = groups-are ∙ sym (section-word section.counts book 4 (omega arith)) ∙ held .counts .groups-are
 
-        pub group-full : groupLimit ≤ g → HolderStep book key low high book 11
+        pub group-full : groupLimit ≤ g → HolderStep book key low high book refusal.full
         group-full over code s n sort name from words S standing held =
             let at = grouped code S held in (
-              refused-11 S (holder s n) refl refl refl refl (new n name words code S standing held)
+              test-full S (holder s n) refl refl refl refl (new n name words code S standing held)
                   (room code s S held true (ap₂ (λ (x y : Bool). x && y) (is-group s sort from) (le-leb groupLimit (groups (S .declared)) (omega arith)))),
               λ z. absurd (omega arith),
             )

@@ -6,6 +6,7 @@ use mathlib.Core.List.{List, [], _∷_}
 use mathlib.Core.Option.{Option, none, some, Option·some-injective}
 use native.Mathlib.Omega.{arith}
 use Rattle.model.specs.Notation.{_>>=_, _is_}
+use Rattle.model.specs.Numbers as refusal
 use Rattle.model.specs.Bytes.{Bytes}
 use Rattle.model.specs.Names.{isName, readName}
 use Rattle.model.specs.Atoms.{isAtom}
@@ -52,7 +53,7 @@ module _ {A R : Type 0} {nothing : R} {numbers : A → R} {line : A → Option L
       go none f g = absurd (true≢false (sym e ∙ ap ok g ∙ off))
       go (some a) f g = (a, f, g)
 
-pub fields-unread : (book book′ : List ℕ) (code code′ : Bytes) (o : Option Line) → o ≡ none → FieldsRead book code o book′ code′ 6
+pub fields-unread : (book book′ : List ℕ) (code code′ : Bytes) (o : Option Line) → o ≡ none → FieldsRead book code o book′ code′ refusal.malformed
 fields-unread book book′ code code′ o e S standing held = (ap (fieldsRefusal S) (sym e), λ z. absurd (omega arith))
 
 pub fields-line : {book book′ : List ℕ} {code code′ : Bytes} {o : Option Line} {l : Line} {r : ℕ} → o ≡ some l → Steps book code l book′ code′ r → FieldsRead book code o book′ code′ r
@@ -60,7 +61,7 @@ fields-line {book} {book′} {code} {code′} {o} {l} {r} e step = subst (λ (x 
 
 -- ---- ties
 
-drop-full : (a b c d : Bool) → first (7 if false ∷ 8 if a ∷ 9 if b ∷ 10 if c ∷ 11 if false ∷ 12 if d ∷ []) ≡ first (8 if a ∷ 9 if b ∷ 10 if c ∷ 12 if d ∷ [])
+drop-full : (a b c d : Bool) → first (refusal.overLimits if false ∷ refusal.undeclared if a ∷ refusal.wrongSort if b ∷ refusal.repeated if c ∷ refusal.full if false ∷ refusal.circular if d ∷ []) ≡ first (refusal.undeclared if a ∷ refusal.wrongSort if b ∷ refusal.repeated if c ∷ refusal.circular if d ∷ [])
 drop-full true b c d = refl
 drop-full false true c d = refl
 drop-full false false true d = refl
@@ -69,7 +70,7 @@ drop-full false false false false = refl
 
 -- the tests of a tie line: of its names and sorts, whether it stands, whether it closes a circle
 tests-of : (S : State) (l : Line) → isTie l ≡ true
-    → first (laterTests S l) ≡ first (8 if undeclared (S .declared) l ∷ 9 if wrongSort (S .declared) l ∷ 10 if stands S l ∷ 12 if circular S l ∷ [])
+    → first (laterTests S l) ≡ first (refusal.undeclared if undeclared (S .declared) l ∷ refusal.wrongSort if wrongSort (S .declared) l ∷ refusal.repeated if stands S l ∷ refusal.circular if circular S l ∷ [])
 tests-of S (attr s n t) e = false-is-true e
 tests-of S (op n) e = false-is-true e
 tests-of S (atom s n a) e = false-is-true e
@@ -92,12 +93,12 @@ tie-after S (value h n a) t e f = rw f
 tie-after S (rule o ts) t e f = false-is-true e
 
 -- a number that is not 0 is that of the first tests, and 0 says that none of them holds
-early : (a b c d : Bool) (n : ℕ) → n ≡ first (8 if a ∷ 9 if b ∷ []) → (n ≡ 0 → ⊥) → n ≡ first (8 if a ∷ 9 if b ∷ 10 if c ∷ 12 if d ∷ [])
+early : (a b c d : Bool) (n : ℕ) → n ≡ first (refusal.undeclared if a ∷ refusal.wrongSort if b ∷ []) → (n ≡ 0 → ⊥) → n ≡ first (refusal.undeclared if a ∷ refusal.wrongSort if b ∷ refusal.repeated if c ∷ refusal.circular if d ∷ [])
 early true b c d n e z = e
 early false true c d n e z = e
 early false false c d n e z = absurd (z e)
 
-late : (a b c d : Bool) → 0 ≡ first (8 if a ∷ 9 if b ∷ []) → (b ≡ false) × (first (8 if a ∷ 9 if b ∷ 10 if c ∷ 12 if d ∷ []) ≡ first (10 if c ∷ 12 if d ∷ []))
+late : (a b c d : Bool) → 0 ≡ first (refusal.undeclared if a ∷ refusal.wrongSort if b ∷ []) → (b ≡ false) × (first (refusal.undeclared if a ∷ refusal.wrongSort if b ∷ refusal.repeated if c ∷ refusal.circular if d ∷ []) ≡ first (refusal.repeated if c ∷ refusal.circular if d ∷ []))
 late true b c d e = absurd (omega arith)
 late false true c d e = absurd (omega arith)
 late false false c d e = (refl, refl)
@@ -113,24 +114,24 @@ module _ (book : List ℕ) (number : ℕ) (t : Tie) where
     tie-is = named S code standing held .1 fine
 
     right : (wrongSort (S .declared) l ≡ false)
-        × (first (8 if undeclared (S .declared) l ∷ 9 if wrongSort (S .declared) l ∷ 10 if stands S l ∷ 12 if circular S l ∷ []) ≡ first (10 if stands S l ∷ 12 if circular S l ∷ []))
+        × (first (refusal.undeclared if undeclared (S .declared) l ∷ refusal.wrongSort if wrongSort (S .declared) l ∷ refusal.repeated if stands S l ∷ refusal.circular if circular S l ∷ []) ≡ first (refusal.repeated if stands S l ∷ refusal.circular if circular S l ∷ []))
     right = late (undeclared (S .declared) l) (wrongSort (S .declared) l) (stands S l) (circular S l) (sym fine ∙ named S code standing held .0)
 
-    left : first (laterTests S l) ≡ first (10 if S .ties t ∷ 12 if tieCloses (holderNumbersOf (S .declared)) (S .ties) t ∷ [])
+    left : first (laterTests S l) ≡ first (10 if S .ties t ∷ refusal.circular if tieCloses (holderNumbersOf (S .declared)) (S .ties) t ∷ [])
     unfolding stands circular
     left =
         tests-of S l tie ∙ right .1
-        ∙ ap (λ (x : Option Tie). first (10 if (x is S .ties) ∷ 12 if (x is tieCloses (holderNumbersOf (S .declared)) (S .ties)) ∷ [])) tie-is
+        ∙ ap (λ (x : Option Tie). first (refusal.repeated if (x is S .ties) ∷ refusal.circular if (x is tieCloses (holderNumbersOf (S .declared)) (S .ties)) ∷ [])) tie-is
 
     fits : TieFits (S .declared) t
     fits = tie-fits (S .declared) l t tie-is (right .0)
 
-  pub tie-stands : number ≡ 0 → TieStands book t true → TieAdded book number t book 10
+  pub tie-stands : number ≡ 0 → TieStands book t true → TieAdded book number t book refusal.repeated
   tie-stands fine on l tie named code S standing held =
       (sym (left fine l tie named code S standing held ∙ rw (sym (on S code standing held (fits fine l tie named code S standing held)))), λ z. absurd (omega arith))
 
   module _ (fine : number ≡ 0) (off : TieStands book t false) where
-    pub tie-circle : TieCloses book t true → TieAdded book number t book 12
+    pub tie-circle : TieCloses book t true → TieAdded book number t book refusal.circular
     tie-circle closed l tie named code S standing held = (
       sym (left fine l tie named code S standing held ∙ rw (sym (off S code standing held (fits fine l tie named code S standing held)), sym (closed S code standing held))),
       λ z. absurd (omega arith),
@@ -191,7 +192,7 @@ module _ (line : Bytes → Line) (f : Bytes) (r : NameField) (told : r ≡ coded
       go none g = absurd (true≢false (sym on ∙ ap (λ (x : NameField). x .ok) g))
       go (some m) g = (m, refl, ap (λ (x : NameField). record { low = x .low; high = x .high }) (sym g))
 
-pub op-unread : (book book′ : List ℕ) (code : Bytes) (f : Bytes) (r : NameField) → r ≡ codedName (readName f) → r .ok ≡ false → FieldsRead book code (readOp f) book′ code 6
+pub op-unread : (book book′ : List ℕ) (code : Bytes) (f : Bytes) (r : NameField) → r ≡ codedName (readName f) → r .ok ≡ false → FieldsRead book code (readOp f) book′ code refusal.malformed
 unfolding readOp
 op-unread book book′ code f r told off = fields-unread book book′ code code (readOp f) (name-unread op f r told off)
 
@@ -206,7 +207,7 @@ op-read book book′ n f r told on step code =
 name-formed : (f m : Bytes) → readName f ≡ some m → isName m ≡ true
 name-formed f m e = nameField .exact f m .0 e .0
 
-pub holder-unread : (book book′ : List ℕ) (key : ℕ) (f : Bytes) (r : NameField) → r ≡ codedName (readName f) → r .ok ≡ false → HolderRead book key f book′ 6
+pub holder-unread : (book book′ : List ℕ) (key : ℕ) (f : Bytes) (r : NameField) → r ≡ codedName (readName f) → r .ok ≡ false → HolderRead book key f book′ refusal.malformed
 unfolding readHolder
 holder-unread book book′ key f r told off s other e code = fields-unread book book′ code code (readHolder s f) (name-unread (holder s) f r told off)
 

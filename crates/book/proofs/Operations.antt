@@ -11,6 +11,7 @@ use lib.Seq.{getD-set-same, getD-set-other}
 use borrow.Author.Tests.{le-leb, lt-leb}
 use Rattle.model.specs.Notation.{isNone, nth}
 use Rattle.model.specs.Limits.{operationLimit}
+use Rattle.model.specs.Numbers as refusal
 use Rattle.model.specs.Bytes.{Bytes, same}
 use Rattle.model.specs.Names.{isName}
 use Rattle.model.specs.Declarations.{Declarations, attributeNumber, operationNumber, holderNumbersOf, groups}
@@ -30,7 +31,7 @@ use Rattle.book.specs.Finding.{OperationFound}
 use Rattle.book.specs.Declaring.{operationPlace, operationPut, OperationStep}
 use Rattle.book.proofs.Writes.{apart, word-beside, word-inside, section-long, section-word, word-at}
 use Rattle.book.proofs.Kept.{length-more, NamesKnown, rules-kept, sorts-kept, groups-kept, attributes-kept}
-use Rattle.book.proofs.DeclarationTests.{refused-10, refused-11, accepted, number-there, number-nowhere, place-few}
+use Rattle.book.proofs.DeclarationTests.{test-repeated, test-full, accepted, number-there, number-nowhere, place-few}
 
 -- what is written, by sections
 module _ (book : List ℕ) (k low high : ℕ) (few : k < operationLimit) where
@@ -163,10 +164,10 @@ operation-held book code S n k held known at few =
 
 -- the three ways of the step; k is the number that was found, m the count
 module _ (book : List ℕ) (low high k : ℕ) (found : OperationFound (sectionWords section.operations book) low high k) where
-  pub operation-repeated : (k ≡ operationLimit → ⊥) → OperationStep book low high book 10
+  pub operation-repeated : (k ≡ operationLimit → ⊥) → OperationStep book low high book refusal.repeated
   operation-repeated other code n name words S standing held =
       let e = found (S .declared) (standing .declarations) (held .operations) n name words in
-      (refused-10 S (op n) refl refl refl refl (number-there operationLimit (operationNumber (S .declared) n) k e other), λ z. absurd (omega arith))
+      (test-repeated S (op n) refl refl refl refl (number-there operationLimit (operationNumber (S .declared) n) k e other), λ z. absurd (omega arith))
 
   module _ (free : k ≡ operationLimit) (m : ℕ) (count : m ≡ getD book 1 0) where
     new : (n : Bytes) → isName n ≡ true → packedOf n ≡ record { low = low; high = high } → (code : Bytes) (S : State) → Standing S → Holds book code S
@@ -181,11 +182,11 @@ module _ (book : List ℕ) (low high k : ℕ) (found : OperationFound (sectionWo
     counted : (code : Bytes) (S : State) → Holds book code S → m ≡ length (S .declared .operations)
     counted code S held = count ∙ sym (section-word section.counts book 1 (omega arith)) ∙ held .counts .operations
 
-    pub operation-full : operationLimit ≤ m → OperationStep book low high book 11
+    pub operation-full : operationLimit ≤ m → OperationStep book low high book refusal.full
     operation-full over code n name words S standing held =
         let at = counted code S held in
         let over′ = le-leb operationLimit (length (S .declared .operations)) (omega arith) in
-        (refused-11 S (op n) refl refl refl refl (new n name words code S standing held) over′, λ z. absurd (omega arith))
+        (test-full S (op n) refl refl refl refl (new n name words code S standing held) over′, λ z. absurd (omega arith))
 
     pub operation-step : m < operationLimit → (next : List ℕ) → next ≡ operationPut book m low high → OperationStep book low high next 0
     operation-step few next e code n name words S standing held =

@@ -10,6 +10,7 @@ use lib.ListN.{length, getD}
 use borrow.Author.Tests.{le-leb, lt-leb, eq-eqb, ne-eqb}
 use Rattle.model.specs.Notation.{_>>=_, _is_, isNone, nth}
 use Rattle.model.specs.Limits.{attributeLimit, pairLimit}
+use Rattle.model.specs.Numbers as refusal
 use Rattle.model.specs.Bytes.{Bytes}
 use Rattle.model.specs.Names.{isName}
 use Rattle.model.specs.Attributes.{Source, AtomType, fromBlock, sameType}
@@ -34,7 +35,7 @@ use Rattle.book.specs.Declaring.{PairPut, PairStep}
 use Rattle.book.proofs.Writes.{section-word}
 use Rattle.book.proofs.AttributeLines.{block-source}
 use Rattle.book.proofs.PairLines.{pair-held}
-use Rattle.book.proofs.DeclarationTests.{refused-8, refused-9, refused-10, refused-11, accepted, number-there, number-nowhere, number-is, place-few}
+use Rattle.book.proofs.DeclarationTests.{test-undeclared, test-sort, test-repeated, test-full, accepted, number-there, number-nowhere, number-is, place-few}
 
 same-type-code : (t u : AtomType) → sameType t u ≡ eqb (typeCode t) (typeCode u)
 same-type-code AtomType.int AtomType.int = refl
@@ -49,12 +50,12 @@ same-type-code AtomType.bool AtomType.bool = refl
 
 -- k is the number of the attribute that was found
 module _ (book : List ℕ) (source low high : ℕ) (value : Value) (k : ℕ) (found : Numbered (sectionWords section.attributes book) source low high k) where
-  pub pair-undeclared : attributeLimit ≤ k → PairStep book source low high value book 8
+  pub pair-undeclared : attributeLimit ≤ k → PairStep book source low high value book refusal.undeclared
   unfolding attributeNumber
   pair-undeclared over code s n a name written from words atom-is S standing held =
       let e = found .number (S .declared) (standing .declarations) (held .attributes) s n name from words in
       let w = found .within in (
-        refused-8 S (atom s n a) refl refl
+        test-undeclared S (atom s n a) refl refl
             (ap (λ (o : Option ℕ). isNone o)
             (number-nowhere attributeLimit (attributeNumber (S .declared) s n) k
             (λ j f.
@@ -89,10 +90,10 @@ module _ (book : List ℕ) (source low high : ℕ) (value : Value) (k : ℕ) (fo
           kind-is = sym (section-word section.attributes book (8 * k + 1) (omega arith)) ∙ held .attributes .row k b g .type;
         }
 
-    pub pair-of-block : sourceCode Source.env ≤ source → PairStep book source low high value book 9
+    pub pair-of-block : sourceCode Source.env ≤ source → PairStep book source low high value book refusal.wrongSort
     pair-of-block block code s n a name written from words atom-is S standing held =
         let d = declared code S standing held s n name from words in (
-          refused-9 S (atom s n a) refl refl (ap isNone (d .number-is))
+          test-sort S (atom s n a) refl refl (ap isNone (d .number-is))
               (or-left (fromBlock s) _ (block-source s ∙ le-leb (sourceCode Source.env) (sourceCode s) (omega arith))),
           λ z. absurd (omega arith),
         )
@@ -105,10 +106,10 @@ module _ (book : List ℕ) (source low high : ℕ) (value : Value) (k : ℕ) (fo
           ap₂ (λ (x y : Bool). x || y) (block-source s ∙ lt-leb (sourceCode Source.env) (sourceCode s) (omega arith))
           (ap (λ (o : Option Attribute). o is λ c. not (sameType (c .type) (typeOf a))) of ∙ ap not (same-type-code (b .type) (typeOf a)) ∙ e)
 
-      pub pair-of-type : (getD book (section.attributes .start + (8 * k + 1)) 0 ≡ value .kind → ⊥) → PairStep book source low high value book 9
+      pub pair-of-type : (getD book (section.attributes .start + (8 * k + 1)) 0 ≡ value .kind → ⊥) → PairStep book source low high value book refusal.wrongSort
       pair-of-type other code s n a name written from words atom-is S standing held =
           let d = declared code S standing held s n name from words in (
-            refused-9 S (atom s n a) refl refl (ap isNone (d .number-is))
+            test-sort S (atom s n a) refl refl (ap isNone (d .number-is))
                 (sorted S s n a (d .attribute) from (d .of-name) true
                 (ap not (ne-eqb _ _ (λ z. other (d .kind-is ∙ z ∙ ap (λ (v : Value). v .kind) atom-is))))),
             λ z. absurd (omega arith),
@@ -130,10 +131,10 @@ module _ (book : List ℕ) (source low high : ℕ) (value : Value) (k : ℕ) (fo
             found-pair (S .declared) (standing .declarations) (held .pairs) s n (d .attribute) a (d .number-is) (d .attribute-is)
             (type-injective _ _ (right-type a (d .attribute) atom-is (d .kind-is))) written (ap (λ (v : Value). v .words) atom-is)
 
-        pub pair-repeated : (p ≡ pairLimit → ⊥) → PairStep book source low high value book 10
+        pub pair-repeated : (p ≡ pairLimit → ⊥) → PairStep book source low high value book refusal.repeated
         pair-repeated other code s n a name written from words atom-is S standing held =
             let d = declared code S standing held s n name from words in (
-              refused-10 S (atom s n a) refl refl (ap isNone (d .number-is)) (sorted-right S s n a code d from atom-is)
+              test-repeated S (atom s n a) refl refl (ap isNone (d .number-is)) (sorted-right S s n a code d from atom-is)
                   (number-there pairLimit (pairNumber (S .declared) s n a) p (numbered S s n a code standing held d written atom-is) other),
               λ z. absurd (omega arith),
             )
@@ -154,11 +155,11 @@ module _ (book : List ℕ) (source low high : ℕ) (value : Value) (k : ℕ) (fo
           counted : (code : Bytes) (S : State) → Holds book code S → m ≡ length (S .declared .pairs)
           counted code S held = count ∙ sym (section-word section.counts book 2 (omega arith)) ∙ held .counts .pairs
 
-          pub pair-full : pairLimit ≤ m → PairStep book source low high value book 11
+          pub pair-full : pairLimit ≤ m → PairStep book source low high value book refusal.full
           pair-full over code s n a name written from words atom-is S standing held =
               let d = declared code S standing held s n name from words in
               let at = counted code S held in (
-                refused-11 S (atom s n a) refl refl (ap isNone (d .number-is)) (sorted-right S s n a code d from atom-is) (new S s n a code standing held d written atom-is)
+                test-full S (atom s n a) refl refl (ap isNone (d .number-is)) (sorted-right S s n a code d from atom-is) (new S s n a code standing held d written atom-is)
                     (le-leb pairLimit (length (S .declared .pairs)) (omega arith)),
                 λ z. absurd (omega arith),
               )

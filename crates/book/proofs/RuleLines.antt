@@ -13,6 +13,7 @@ use borrow.Author.Tests.{leb-false, lt-leb, le-leb, eq-eqb, ne-eqb}
 use borrow.Rule.Slice.PartMut.{putMid}
 use Rattle.model.specs.Notation.{_>>=_, _is_, isNone, any, all, each, nth}
 use Rattle.model.specs.Limits.{operationLimit, ruleLimit}
+use Rattle.model.specs.Numbers as refusal
 use Rattle.model.specs.Bytes.{Bytes, same}
 use Rattle.model.specs.Names.{isName}
 use Rattle.model.specs.Attributes.{Source}
@@ -72,9 +73,9 @@ judged-beyond s rows k n code before after over j = record { number = j .number;
 -- ---- what a rule is refused for
 
 -- the tests of the policy alone, of the operation and of the number of rules are those of the line, in their order
-in-order : (large unknown missing over circle : Bool) (policy operation rules : ℕ) → policy ≡ first (7 if large ∷ 8 if unknown ∷ []) → leb operationLimit operation ≡ missing
+in-order : (large unknown missing over circle : Bool) (policy operation rules : ℕ) → policy ≡ first (refusal.overLimits if large ∷ refusal.undeclared if unknown ∷ []) → leb operationLimit operation ≡ missing
     → leb ruleLimit rules ≡ over → circle ≡ false
-    → first (ruleTests policy operation rules) ≡ first (7 if large ∷ 8 if (missing || unknown) ∷ 9 if false ∷ 10 if false ∷ 11 if over ∷ 12 if circle ∷ [])
+    → first (ruleTests policy operation rules) ≡ first (refusal.overLimits if large ∷ refusal.undeclared if (missing || unknown) ∷ refusal.wrongSort if false ∷ refusal.repeated if false ∷ refusal.full if over ∷ refusal.circular if circle ∷ [])
 in-order true unknown missing over circle policy operation rules e f g h = rw e
 in-order false true true over circle policy operation rules e f g h = rw (e, f)
 in-order false true false over circle policy operation rules e f g h = rw (e, f)
@@ -103,7 +104,7 @@ module _ (S : State) (standing : Standing S) (o p : Bytes) (policy operation rul
 
       read : (ts : List Token) → tokensOf p ≡ some ts → (q : Option Policy) → readPolicy ts ≡ q → first (ruleTests policy operation rules) ≡ fieldsRefusal S (ruleOf o p)
       read ts e none f =
-          let six : policy ≡ 6 = judge ∙ rw (e, f) in
+          let six : policy ≡ refusal.malformed = judge ∙ rw (e, f) in
           let not-read : ruleOf o p ≡ none = rw (e, f) in
           rw (six, not-read)
       read ts e (some q) f =
@@ -114,16 +115,16 @@ module _ (S : State) (standing : Standing S) (o p : Bytes) (policy operation rul
 
       go : (t : Option (List Token)) → tokensOf p ≡ t → first (ruleTests policy operation rules) ≡ fieldsRefusal S (ruleOf o p)
       go none e =
-          let six : policy ≡ 6 = judge ∙ rw e in
+          let six : policy ≡ refusal.malformed = judge ∙ rw e in
           let not-read : ruleOf o p ≡ none = rw e in
           rw (six, not-read)
       go (some ts) e = read ts e (readPolicy ts) refl
 
 -- a rule that is not refused: there can be one more
 pub rule-room : (policy operation rules : ℕ) → first (ruleTests policy operation rules) ≡ 0 → rules < ruleLimit
-rule-room policy operation rules e = go (eqb policy 6) (eqb policy 7) (leb operationLimit operation || eqb policy 8) (leb ruleLimit rules) refl e
+rule-room policy operation rules e = go (eqb policy refusal.malformed) (eqb policy refusal.overLimits) (leb operationLimit operation || eqb policy refusal.undeclared) (leb ruleLimit rules) refl e
   where
-    go : (a b c d : Bool) → leb ruleLimit rules ≡ d → first (6 if a ∷ 7 if b ∷ 8 if c ∷ 11 if d ∷ []) ≡ 0 → rules < ruleLimit
+    go : (a b c d : Bool) → leb ruleLimit rules ≡ d → first (refusal.malformed if a ∷ refusal.overLimits if b ∷ refusal.undeclared if c ∷ refusal.full if d ∷ []) ≡ 0 → rules < ruleLimit
     go true b c d f z = absurd (omega arith)
     go false true c d f z = absurd (omega arith)
     go false false true d f z = absurd (omega arith)
@@ -132,9 +133,9 @@ rule-room policy operation rules e = go (eqb policy 6) (eqb policy 7) (leb opera
 
 -- and its operation is declared
 pub rule-operation : (policy operation rules : ℕ) → first (ruleTests policy operation rules) ≡ 0 → operation < operationLimit
-rule-operation policy operation rules e = go (eqb policy 6) (eqb policy 7) (leb operationLimit operation) (eqb policy 8) refl e
+rule-operation policy operation rules e = go (eqb policy refusal.malformed) (eqb policy refusal.overLimits) (leb operationLimit operation) (eqb policy refusal.undeclared) refl e
   where
-    go : (a b c d : Bool) → leb operationLimit operation ≡ c → first (6 if a ∷ 7 if b ∷ 8 if (c || d) ∷ 11 if leb ruleLimit rules ∷ []) ≡ 0 → operation < operationLimit
+    go : (a b c d : Bool) → leb operationLimit operation ≡ c → first (refusal.malformed if a ∷ refusal.overLimits if b ∷ refusal.undeclared if (c || d) ∷ refusal.full if leb ruleLimit rules ∷ []) ≡ 0 → operation < operationLimit
     go true b c d f z = absurd (omega arith)
     go false true c d f z = absurd (omega arith)
     go false false true d f z = absurd (omega arith)
@@ -257,26 +258,26 @@ rule-held book code code′ S o ts k operation held size at few known kept here 
 
 -- the number of a rule's tests
 module _ (policy operation rules : ℕ) where
-  pub refused-policy : policy ≡ 6 → 6 ≡ first (ruleTests policy operation rules)
+  pub refused-policy : policy ≡ refusal.malformed → refusal.malformed ≡ first (ruleTests policy operation rules)
   refused-policy e = rw e
 
-  pub refused-large : policy ≡ 7 → 7 ≡ first (ruleTests policy operation rules)
+  pub refused-large : policy ≡ refusal.overLimits → refusal.overLimits ≡ first (ruleTests policy operation rules)
   refused-large e = rw e
 
-  module _ (formed : policy ≡ 6 → ⊥) (within : policy ≡ 7 → ⊥) where
-    pub refused-operation : operationLimit ≤ operation → 8 ≡ first (ruleTests policy operation rules)
-    refused-operation h = rw (ne-eqb policy 6 formed, ne-eqb policy 7 within, le-leb operationLimit operation h)
+  module _ (formed : policy ≡ refusal.malformed → ⊥) (within : policy ≡ refusal.overLimits → ⊥) where
+    pub refused-operation : operationLimit ≤ operation → refusal.undeclared ≡ first (ruleTests policy operation rules)
+    refused-operation h = rw (ne-eqb policy refusal.malformed formed, ne-eqb policy refusal.overLimits within, le-leb operationLimit operation h)
 
     module _ (known : operation < operationLimit) where
-      pub refused-name : policy ≡ 8 → 8 ≡ first (ruleTests policy operation rules)
-      refused-name e = rw (ne-eqb policy 6 formed, ne-eqb policy 7 within, lt-leb operationLimit operation known, eq-eqb policy 8 e)
+      pub refused-name : policy ≡ refusal.undeclared → refusal.undeclared ≡ first (ruleTests policy operation rules)
+      refused-name e = rw (ne-eqb policy refusal.malformed formed, ne-eqb policy refusal.overLimits within, lt-leb operationLimit operation known, eq-eqb policy refusal.undeclared e)
 
-      module _ (named : policy ≡ 8 → ⊥) where
-        pub refused-full : ruleLimit ≤ rules → 11 ≡ first (ruleTests policy operation rules)
-        refused-full h = rw (ne-eqb policy 6 formed, ne-eqb policy 7 within, lt-leb operationLimit operation known, ne-eqb policy 8 named, le-leb ruleLimit rules h)
+      module _ (named : policy ≡ refusal.undeclared → ⊥) where
+        pub refused-full : ruleLimit ≤ rules → refusal.full ≡ first (ruleTests policy operation rules)
+        refused-full h = rw (ne-eqb policy refusal.malformed formed, ne-eqb policy refusal.overLimits within, lt-leb operationLimit operation known, ne-eqb policy refusal.undeclared named, le-leb ruleLimit rules h)
 
         pub not-refused : rules < ruleLimit → 0 ≡ first (ruleTests policy operation rules)
-        not-refused h = rw (ne-eqb policy 6 formed, ne-eqb policy 7 within, lt-leb operationLimit operation known, ne-eqb policy 8 named, lt-leb ruleLimit rules h)
+        not-refused h = rw (ne-eqb policy refusal.malformed formed, ne-eqb policy refusal.overLimits within, lt-leb operationLimit operation known, ne-eqb policy refusal.undeclared named, lt-leb ruleLimit rules h)
 
 -- what the numbers of a rule's fields say
 pub rule-unread : (f : Bytes) (r : RuleFields) → RuleTold f r → r .ok ≡ false → readRule f ≡ none

@@ -5,6 +5,7 @@ use mathlib.Core.Bool.{Bool, true, false}
 use mathlib.Core.List.{List, [], _∷_}
 use mathlib.Core.Option.{Option, some}
 use native.Mathlib.Omega.{arith}
+use Rattle.model.specs.Numbers as refusal
 use Rattle.model.specs.Bytes.{Bytes}
 use Rattle.model.specs.Lines.{Line}
 use Rattle.model.specs.Ties.{Tie, added}
@@ -16,7 +17,7 @@ use Rattle.model.proofs.Standing.{tie-fits}
 use Rattle.book.specs.Held.{Holds}
 use Rattle.book.specs.TieSteps.{TieOfLine}
 
-not-wrong : (u w : Bool) → 0 ≡ first (8 if u ∷ 9 if w ∷ []) → w ≡ false
+not-wrong : (u w : Bool) → 0 ≡ first (refusal.undeclared if u ∷ refusal.wrongSort if w ∷ []) → w ≡ false
 not-wrong true w e = absurd (omega arith)
 not-wrong false true e = absurd (omega arith)
 not-wrong false false e = refl

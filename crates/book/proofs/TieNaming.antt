@@ -8,6 +8,7 @@ use native.Mathlib.Omega.{arith}
 use lib.ListN.{getD}
 use Rattle.model.specs.Notation.{_>>=_, _is_, isNone, nth}
 use Rattle.model.specs.Limits.{attributeLimit, pairLimit, holderNumbers}
+use Rattle.model.specs.Numbers as refusal
 use Rattle.model.specs.Bytes.{Bytes, same}
 use Rattle.model.specs.Names.{isName}
 use Rattle.model.specs.Attributes.{Source}
@@ -50,16 +51,16 @@ number-gone n r (some k) few e l = absurd (omega (arith, few k refl))
 -- ---- the tests of a tie line, whose tie is f and whose sorts are wrong or not
 
 abbrev pub TieTested : Option Tie → Bool → ℕ → Tie → Type 0
-TieTested f w r t = (r ≡ first (8 if isNone f ∷ 9 if w ∷ [])) × (r ≡ 0 → f ≡ some t)
+TieTested f w r t = (r ≡ first (refusal.undeclared if isNone f ∷ refusal.wrongSort if w ∷ [])) × (r ≡ 0 → f ≡ some t)
 
-pub undeclared-8 : (f : Option Tie) (w : Bool) (r : ℕ) (t : Tie) → f ≡ none → r ≡ 8 → TieTested f w r t
-undeclared-8 none w r t n e = (e, λ z. absurd (omega arith))
-undeclared-8 (some v) w r t n e = none-is-some (sym n)
+pub is-undeclared : (f : Option Tie) (w : Bool) (r : ℕ) (t : Tie) → f ≡ none → r ≡ refusal.undeclared → TieTested f w r t
+is-undeclared none w r t n e = (e, λ z. absurd (omega arith))
+is-undeclared (some v) w r t n e = none-is-some (sym n)
 
-pub wrong-9 : (f : Option Tie) (w : Bool) (r : ℕ) (t v : Tie) → f ≡ some v → w ≡ true → r ≡ 9 → TieTested f w r t
-wrong-9 none w r t v y x e = none-is-some y
-wrong-9 (some u) true r t v y x e = (e, λ z. absurd (omega arith))
-wrong-9 (some u) false r t v y x e = absurd (true≢false (sym x))
+pub is-wrong-sort : (f : Option Tie) (w : Bool) (r : ℕ) (t v : Tie) → f ≡ some v → w ≡ true → r ≡ refusal.wrongSort → TieTested f w r t
+is-wrong-sort none w r t v y x e = none-is-some y
+is-wrong-sort (some u) true r t v y x e = (e, λ z. absurd (omega arith))
+is-wrong-sort (some u) false r t v y x e = absurd (true≢false (sym x))
 
 pub accepted-0 : (f : Option Tie) (w : Bool) (t : Tie) → f ≡ some t → w ≡ false → TieTested f w 0 t
 accepted-0 none w t y x = none-is-some y
@@ -127,14 +128,14 @@ module _ (D : Declarations) (above : Sort → Option Sort) (tie : ℕ → ℕ �
   abbrev pub TwoAnswers : ℕ → Tie → Type 0
   TwoAnswers r t = TieTested twoFound (not (fits above D c g)) r t
 
-  pub lower-gone : (r : ℕ) (t : Tie) → holderNumber D c ≡ none → r ≡ 8 → TwoAnswers r t
+  pub lower-gone : (r : ℕ) (t : Tie) → holderNumber D c ≡ none → r ≡ refusal.undeclared → TwoAnswers r t
   lower-gone r t n e =
-      undeclared-8 twoFound (not (fits above D c g)) r t (ap (λ (o : Option ℕ). o >>= λ h. holderNumber D g >>= λ u. some (tie h u)) n) e
+      is-undeclared twoFound (not (fits above D c g)) r t (ap (λ (o : Option ℕ). o >>= λ h. holderNumber D g >>= λ u. some (tie h u)) n) e
 
   module _ (h : ℕ) (lower : holderNumber D c ≡ some h) where
-    pub upper-gone : (r : ℕ) (t : Tie) → holderNumber D g ≡ none → r ≡ 8 → TwoAnswers r t
+    pub upper-gone : (r : ℕ) (t : Tie) → holderNumber D g ≡ none → r ≡ refusal.undeclared → TwoAnswers r t
     upper-gone r t n e =
-        undeclared-8 twoFound (not (fits above D c g)) r t
+        is-undeclared twoFound (not (fits above D c g)) r t
         (ap (λ (o : Option ℕ). o >>= λ h. holderNumber D g >>= λ u. some (tie h u)) lower ∙ ap (λ (o : Option ℕ). o >>= λ u. some (tie h u)) n) e
 
     module _ (u : ℕ) (upper : holderNumber D g ≡ some u) where
@@ -148,8 +149,8 @@ module _ (D : Declarations) (above : Sort → Option Sort) (tie : ℕ → ℕ �
             ap (λ (o : Option Sort). (o >>= above) is λ w. (holderNumber D g >>= sortOf D) is isSort w) (ap (λ (o : Option ℕ). o >>= sortOf D) lower ∙ lower-is)
             ∙ ap (λ (o : Option Sort). above a is λ w. o is isSort w) (ap (λ (o : Option ℕ). o >>= sortOf D) upper ∙ upper-is)
 
-        pub sorts-wrong : (r : ℕ) (t : Tie) → (sortCode b ≡ coded sortCode (above a) → ⊥) → r ≡ 9 → TwoAnswers r t
-        sorts-wrong r t n e = wrong-9 twoFound (not (fits above D c g)) r t (tie h u) both-found (ap not (fits-by ∙ sort-differs (above a) b n)) e
+        pub sorts-wrong : (r : ℕ) (t : Tie) → (sortCode b ≡ coded sortCode (above a) → ⊥) → r ≡ refusal.wrongSort → TwoAnswers r t
+        sorts-wrong r t n e = is-wrong-sort twoFound (not (fits above D c g)) r t (tie h u) both-found (ap not (fits-by ∙ sort-differs (above a) b n)) e
 
         pub sorts-right : sortCode b ≡ coded sortCode (above a) → TwoAnswers 0 (tie h u)
         sorts-right e = accepted-0 twoFound (not (fits above D c g)) (tie h u) both-found (ap not (fits-by ∙ sort-fits (above a) b e))
@@ -212,9 +213,9 @@ module _ {S : State} {book : List ℕ} {code : Bytes} (standing : Standing S) (h
 -- ---- value lines
 
 module _ (D : Declarations) (h n : Bytes) (a : Atom) where
-  pub holder-gone : (r : ℕ) (t : Tie) → holderNumber D h ≡ none → r ≡ 8 → TieTested (tieOf D (Line.value h n a)) false r t
+  pub holder-gone : (r : ℕ) (t : Tie) → holderNumber D h ≡ none → r ≡ refusal.undeclared → TieTested (tieOf D (Line.value h n a)) false r t
   holder-gone r t gone e =
-      undeclared-8 (tieOf D (Line.value h n a)) false r t
+      is-undeclared (tieOf D (Line.value h n a)) false r t
       (ap (λ (o : Option ℕ). o >>= λ k. sortOf D k >>= λ sort. pairNumber D (sourceFor sort) n a >>= λ p. some (Tie.value k p)) gone) e
 
   module _ (k : ℕ) (sort : Sort) (number : holderNumber D h ≡ some k) (sort-is : sortOf D k ≡ some sort) where
@@ -223,9 +224,9 @@ module _ (D : Declarations) (h n : Bytes) (a : Atom) where
         ap (λ (o : Option ℕ). o >>= λ k. sortOf D k >>= λ sort. pairNumber D (sourceFor sort) n a >>= λ p. some (Tie.value k p)) number
         ∙ ap (λ (o : Option Sort). o >>= λ sort. pairNumber D (sourceFor sort) n a >>= λ p. some (Tie.value k p)) sort-is
 
-    pub pair-gone : (r : ℕ) (t : Tie) → pairNumber D (sourceFor sort) n a ≡ none → r ≡ 8 → TieTested (tieOf D (Line.value h n a)) false r t
+    pub pair-gone : (r : ℕ) (t : Tie) → pairNumber D (sourceFor sort) n a ≡ none → r ≡ refusal.undeclared → TieTested (tieOf D (Line.value h n a)) false r t
     pair-gone r t gone e =
-        undeclared-8 (tieOf D (Line.value h n a)) false r t (tie-by ∙ ap (λ (o : Option ℕ). o >>= λ p. some (Tie.value k p)) gone) e
+        is-undeclared (tieOf D (Line.value h n a)) false r t (tie-by ∙ ap (λ (o : Option ℕ). o >>= λ p. some (Tie.value k p)) gone) e
 
     pub pair-there : (p : ℕ) → pairNumber D (sourceFor sort) n a ≡ some p → TieTested (tieOf D (Line.value h n a)) false 0 (Tie.value k p)
     pair-there p e = accepted-0 (tieOf D (Line.value h n a)) false (Tie.value k p) (tie-by ∙ ap (λ (o : Option ℕ). o >>= λ p. some (Tie.value k p)) e) refl

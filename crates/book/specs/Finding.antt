@@ -40,7 +40,3 @@ PairFound section k words r =
     (D : Declarations) → WellDeclared D → Indexed section pairLimit (pairRow D) → (s : Source) (n : Bytes) (b : Attribute) (a : Atom)
     → attributeNumber D s n ≡ some k → nth (D .attributes) k ≡ some b → b .type ≡ typeOf a → isAtom a ≡ true → atomWords a ≡ words
     → r ≡ numberOr pairLimit (pairNumber D s n a)
-
--- the row of operation i has that name
-unfoldable pub operationNamed : List ℕ → ℕ → ℕ → ℕ → Bool
-operationNamed rows low high i = eqb (getD rows (2 * i) 0) low && eqb (getD rows (2 * i + 1) 0) high

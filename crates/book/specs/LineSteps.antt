@@ -6,6 +6,7 @@ use mathlib.Core.List.{List, [], _∷_}
 use mathlib.Core.Option.{Option, none, some}
 use lib.Dec.{eqb, leb}
 use lib.ListN.{length, take, drop, set}
+use Rattle.model.specs.Numbers as refusal
 use Rattle.model.specs.Limits.{operationLimit, ruleLimit}
 use Rattle.model.specs.Bytes.{Bytes, newline, linesOf}
 use Rattle.model.specs.Tokens.{Token, tokensOf}
@@ -32,7 +33,7 @@ use Rattle.book.specs.TieSteps.{TieOfLine}
 
 -- what a line is refused for whose fields read as `o`: 6 where they do not read
 abbrev pub fieldsRefusal : State → Option Line → ℕ
-fieldsRefusal S none = 6
+fieldsRefusal S none = refusal.malformed
 fieldsRefusal S (some l) = first (laterTests S l)
 
 -- r is what a line is refused for whose fields read as `o`, whatever standing state the book holds; where it is for nothing, the book then holds the state with it
@@ -60,7 +61,7 @@ pub record RuleJudged (s : Bytes) (rows : List ℕ) (k : ℕ) (code code′ : By
 -- the tests of a rule, by what its policy alone is refused for, its operation's number and the number of rules
 abbrev pub ruleTests : ℕ → ℕ → ℕ → List Test
 ruleTests policy operation rules =
-    6 if eqb policy 6 ∷ 7 if eqb policy 7 ∷ 8 if (leb operationLimit operation || eqb policy 8) ∷ 11 if leb ruleLimit rules ∷ []
+    refusal.malformed if eqb policy refusal.malformed ∷ refusal.overLimits if eqb policy refusal.overLimits ∷ refusal.undeclared if (leb operationLimit operation || eqb policy refusal.undeclared) ∷ refusal.full if leb ruleLimit rules ∷ []
 
 -- the operation's number of rule k, and the count with it
 unfoldable pub rulePut : List ℕ → ℕ → ℕ → List ℕ

@@ -2,6 +2,7 @@
 use Prim.Native.Nat.{ℕ}
 use mathlib.Core.Path.{_≡_}
 use mathlib.Core.List.{List, [], _∷_}
+use Rattle.model.specs.Numbers as refusal
 use Rattle.model.specs.Bytes.{Bytes}
 use Rattle.model.specs.Lines.{Line}
 use Rattle.model.specs.State.{State, after}
@@ -12,12 +13,12 @@ use Rattle.book.specs.Held.{Holds}
 -- the tests of a line that reads as l, behind those of its bytes
 abbrev pub laterTests : State → Line → List Test
 laterTests S l =
-    7 if overLimits l
-    ∷ 8 if undeclared (S .declared) l
-    ∷ 9 if wrongSort (S .declared) l
-    ∷ 10 if repeated S l
-    ∷ 11 if full (S .declared) l
-    ∷ 12 if circular S l
+    refusal.overLimits if overLimits l
+    ∷ refusal.undeclared if undeclared (S .declared) l
+    ∷ refusal.wrongSort if wrongSort (S .declared) l
+    ∷ refusal.repeated if repeated S l
+    ∷ refusal.full if full (S .declared) l
+    ∷ refusal.circular if circular S l
     ∷ []
 
 -- r is what a line that reads as l is refused for, whatever standing state the book holds; where it is for nothing, the book then holds the state with it

@@ -6,6 +6,7 @@ use mathlib.Core.List.{List, [], _∷_}
 use mathlib.Core.Option.{Option, some}
 use lib.Dec.{eqb}
 use lib.ListN.{length, getD, take, drop}
+use Rattle.model.specs.Numbers as refusal
 use Rattle.model.specs.Notation.{if_then_else_}
 use Rattle.model.specs.Limits.{pairLimit, holderNumbers, groupLimit}
 use Rattle.model.specs.Bytes.{Bytes}
@@ -38,7 +39,7 @@ tieBy key lower upper =
 
 -- the names, the pair and the sorts of a tie line: 8 or 9, or its tie
 abbrev pub tieTests : State → Line → List Test
-tieTests S l = 8 if undeclared (S .declared) l ∷ 9 if wrongSort (S .declared) l ∷ []
+tieTests S l = refusal.undeclared if undeclared (S .declared) l ∷ refusal.wrongSort if wrongSort (S .declared) l ∷ []
 
 abbrev pub TieOfLine : List ℕ → Line → ℕ → Tie → Type 0
 TieOfLine book l r t =

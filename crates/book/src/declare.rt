@@ -22,8 +22,12 @@ use crate::find::HOLDERS;
 use crate::find::OPERATIONS;
 use crate::find::PAIRS;
 use codes::ENV;
+use codes::FULL;
 use codes::KEY_USER;
+use codes::REPEATED;
 use codes::STR;
+use codes::UNDECLARED;
+use codes::WRONG_SORT;
 use rows::ATTRIBUTES;
 use text::Value;
 use text::Words;
@@ -57,11 +61,14 @@ fn put_attribute(book: &mut [u64], n: usize, source: u8, kind: u8, low: u64, hig
     requires { ⌜ (length (now book) ≡ bookWords) × (n < attributeLimit) ⌝ }
     ensures { λ _. ⌜ now (book .exit) ≡ attributePut (now (book .entry)) n source kind low high ⌝ }
 {
-    let at = ATTRIBUTES_AT + 8 * n;
-    book[at] = source as u64;
-    book[at + 1] = kind as u64;
-    book[at + 2] = low;
-    book[at + 3] = high;
+    index::put_row(
+        book,
+        ATTRIBUTES_AT + 8 * n,
+        source as u64,
+        kind as u64,
+        low,
+        high,
+    );
     book[ATTRIBUTE_COUNT] = n as u64 + 1;
 }
 
@@ -71,15 +78,15 @@ pub fn attribute(book: &mut [u64], source: u8, kind: u8, low: u64, high: u64) ->
     ensures { λ r. ⌜ Keeps r (now (book .entry)) (now (book .exit)) × AttributeStep (now (book .entry)) source kind low high (now (book .exit)) r ⌝ }
 {
     if is_block_text(source, kind) {
-        return 9;
+        return WRONG_SORT;
     }
     let k = rows::attribute_number(&book[ATTRIBUTES_AT..OPERATIONS_AT], source, low, high);
     if k != ATTRIBUTES {
-        return 10;
+        return REPEATED;
     }
     let n = wide(book[ATTRIBUTE_COUNT]);
     if n >= ATTRIBUTES {
-        return 11;
+        return FULL;
     }
     put_attribute(book, n, source, kind, low, high);
     0
@@ -103,11 +110,11 @@ pub fn operation(book: &mut [u64], low: u64, high: u64) -> u8
 {
     let k = crate::find::operation_number(&book[OPERATIONS_AT..PAIRS_AT], low, high);
     if k != OPERATIONS {
-        return 10;
+        return REPEATED;
     }
     let n = wide(book[OPERATION_COUNT]);
     if n >= OPERATIONS {
-        return 11;
+        return FULL;
     }
     put_operation(book, n, low, high);
     0
@@ -140,23 +147,23 @@ pub fn pair(book: &mut [u64], source: u8, low: u64, high: u64, value: Value) -> 
 {
     let k = rows::attribute_number(&book[ATTRIBUTES_AT..OPERATIONS_AT], source, low, high);
     if k >= ATTRIBUTES {
-        return 8;
+        return UNDECLARED;
     }
     if source >= ENV {
-        return 9;
+        return WRONG_SORT;
     }
     let kind = value.kind;
     if book[ATTRIBUTES_AT + (8 * k + 1)] != kind as u64 {
-        return 9;
+        return WRONG_SORT;
     }
     let words = value.words;
     let p = crate::find::pair_number(&book[PAIRS_AT..HOLDERS_AT], k, words);
     if p != PAIRS {
-        return 10;
+        return REPEATED;
     }
     let n = wide(book[PAIR_COUNT]);
     if n >= PAIRS {
-        return 11;
+        return FULL;
     }
     put_pair(book, n, k, words);
     0
@@ -189,11 +196,11 @@ pub fn holder(book: &mut [u64], key: u8, low: u64, high: u64) -> u8
 {
     let k = crate::find::holder_number(&book[HOLDERS_AT..SORTS_AT], low, high);
     if k != HOLDERS {
-        return 10;
+        return REPEATED;
     }
     let n = wide(book[HOLDER_COUNT]);
     if n >= HOLDERS {
-        return 11;
+        return FULL;
     }
     if key >= KEY_USER {
         put_holder(book, n, key, low, high);
@@ -201,7 +208,7 @@ pub fn holder(book: &mut [u64], key: u8, low: u64, high: u64) -> u8
     }
     let g = wide(book[GROUP_COUNT]);
     if g >= GROUPS {
-        return 11;
+        return FULL;
     }
     put_holder(book, n, key, low, high);
     put_group(book, n, g);

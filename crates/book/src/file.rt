@@ -8,6 +8,8 @@ ghost use Rattle.model.specs.Refusals.{wrongFirstLine};
 ghost use Rattle.model.specs.Load.{load};
 ghost use Rattle.book.specs.Sections.{bookWords, ruleBytes};
 ghost use Rattle.book.specs.LineSteps.{FirstLine, OthersRead, LoadedAs};
+use codes::TOO_LONG;
+use codes::WRONG_FIRST_LINE;
 
 const FILE_BYTES: usize = 32768;
 
@@ -81,10 +83,16 @@ pub fn read(book: &mut [u64], code: &mut [u8], file: &[u8]) -> Loaded
     ensures { λ r. ⌜ LoadedAs (load (now (file .entry))) (now (book .exit)) (now (code .exit)) (r .number) (r .line) ⌝ }
 {
     if file.len() > FILE_BYTES {
-        return Loaded { number: 2, line: 0 };
+        return Loaded {
+            number: TOO_LONG,
+            line: 0,
+        };
     }
     if !begins(file) {
-        return Loaded { number: 3, line: 1 };
+        return Loaded {
+            number: WRONG_FIRST_LINE,
+            line: 1,
+        };
     }
     crate::declare::clear(book);
     others(book, code, &file[FIRST..])

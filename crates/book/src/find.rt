@@ -4,7 +4,7 @@ ghost use Prim.Native.Nat.{_*_, _<_, _≤_};
 ghost use lib.ListN.{length};
 ghost use Rattle.model.specs.Limits.{attributeLimit, operationLimit, pairLimit, holderNumbers};
 ghost use Rattle.book.specs.Sections as section;
-ghost use Rattle.book.specs.Finding.{HolderFound, OperationFound, PairFound, operationNamed};
+ghost use Rattle.book.specs.Finding.{HolderFound, OperationFound, PairFound};
 use text::Words;
 
 // How many operations, pairs and holders there can be: the number of none of them.
@@ -36,25 +36,13 @@ pub fn pair_number(pairs: &[u64], attribute: usize, words: Words) -> usize
     )
 }
 
-// Whether the operation of a number has that name.
-fn is_operation(operations: &[u64], i: usize, low: u64, high: u64) -> bool
-    requires { ⌜ (length (now operations) ≡ section.operations .size) × (i < operationLimit) ⌝ }
-    ensures { λ r. ⌜ r ≡ operationNamed (now (operations .entry)) low high i ⌝ }
-{
-    let at = 2 * i;
-    if operations[at] != low {
-        return false;
-    }
-    operations[at + 1] == high
-}
-
 // The number of the operation of a name; the number of operations there can be where there is none.
 pub fn operation_number(operations: &[u64], low: u64, high: u64) -> usize
     requires { ⌜ length (now operations) ≡ section.operations .size ⌝ }
     ensures { λ r. ⌜ (r ≤ operationLimit) × OperationFound (now (operations .entry)) low high r ⌝ }
 {
     for i in 0..OPERATIONS {
-        if is_operation(operations, i, low, high) {
+        if text::is_packed_at(operations, 2 * i, low, high) {
             return i;
         }
     }

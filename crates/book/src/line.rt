@@ -12,12 +12,17 @@ ghost use Rattle.book.specs.Sections.{bookWords, ruleBytes};
 ghost use Rattle.book.specs.TieSteps.{tieBy};
 ghost use Rattle.book.specs.LineSteps.{KeyRead, TieAdded, TwoRead, HolderRead, KeyFields, FieldsOf, LineRead};
 use crate::tie::Tie;
+use codes::CIRCULAR;
 use codes::KEY_ATOM;
 use codes::KEY_ATTR;
 use codes::KEY_OP;
 use codes::KEY_PARENT;
 use codes::KEY_RULE;
 use codes::KEY_VALUE;
+use codes::MALFORMED;
+use codes::OUT_OF_ORDER;
+use codes::REPEATED;
+use codes::UNFRAMED;
 use text::Value;
 
 // What a line is refused for, 0 for nothing, and the code of its key.
@@ -36,10 +41,10 @@ fn add(book: &mut [u64], t: Tie) -> u8
         return number;
     }
     if crate::tie::stands(book, t) {
-        return 10;
+        return REPEATED;
     }
     if crate::tie::closes(book, t) {
-        return 12;
+        return CIRCULAR;
     }
     crate::tie::put(book, t);
     0
@@ -52,7 +57,7 @@ fn two(book: &mut [u64], key: u8, f: &[u8]) -> u8
 {
     let parts = fields::two_fields(f);
     if !parts.ok {
-        return 6;
+        return MALFORMED;
     }
     let lower = parts.lower;
     let upper = parts.upper;
@@ -67,7 +72,7 @@ fn value(book: &mut [u64], f: &[u8]) -> u8
 {
     let parts = fields::value_fields(f);
     if !parts.ok {
-        return 6;
+        return MALFORMED;
     }
     let holder = parts.holder;
     let name = parts.name;
@@ -87,7 +92,7 @@ fn attribute(book: &mut [u64], f: &[u8]) -> u8
 {
     let parts = fields::attr_fields(f);
     if !parts.ok {
-        return 6;
+        return MALFORMED;
     }
     crate::declare::attribute(book, parts.source, parts.kind, parts.low, parts.high)
 }
@@ -99,7 +104,7 @@ fn operation(book: &mut [u64], f: &[u8]) -> u8
 {
     let name = fields::name_field(f);
     if !name.ok {
-        return 6;
+        return MALFORMED;
     }
     crate::declare::operation(book, name.low, name.high)
 }
@@ -111,7 +116,7 @@ fn pair(book: &mut [u64], f: &[u8]) -> u8
 {
     let parts = fields::pair_fields(f);
     if !parts.ok {
-        return 6;
+        return MALFORMED;
     }
     let words = parts.words;
     let atom = Value {
@@ -128,7 +133,7 @@ fn holder(book: &mut [u64], key: u8, f: &[u8]) -> u8
 {
     let name = fields::name_field(f);
     if !name.ok {
-        return 6;
+        return MALFORMED;
     }
     crate::declare::holder(book, key, name.low, name.high)
 }
@@ -175,10 +180,16 @@ pub fn read(book: &mut [u64], code: &mut [u8], line: &[u8], end: usize, previous
     let framed = fields::frame_at(line, end);
     let key = framed.key;
     if key == 0 {
-        return LineAnswer { number: 4, key: 0 };
+        return LineAnswer {
+            number: UNFRAMED,
+            key: 0,
+        };
     }
     if key < previous {
-        return LineAnswer { number: 5, key };
+        return LineAnswer {
+            number: OUT_OF_ORDER,
+            key,
+        };
     }
     let start = framed.start;
     let stop = framed.end;

@@ -15,6 +15,10 @@ use crate::PAIRS_AT;
 use crate::RULE_COUNT;
 use crate::RULES_AT;
 use crate::find::OPERATIONS;
+use codes::FULL;
+use codes::MALFORMED;
+use codes::OVER_LIMITS;
+use codes::UNDECLARED;
 
 // How many rules there can be.
 const RULES: usize = 32;
@@ -43,20 +47,20 @@ fn judge(s: &[u8], attributes: &[u64], code: &mut [u8], k: usize) -> u8
 fn refusal(policy: u8, operation: usize, rules: usize) -> u8
     ensures { λ r. ⌜ r ≡ first (ruleTests policy operation rules) ⌝ }
 {
-    if policy == 6 {
-        return 6;
+    if policy == MALFORMED {
+        return MALFORMED;
     }
-    if policy == 7 {
-        return 7;
+    if policy == OVER_LIMITS {
+        return OVER_LIMITS;
     }
     if operation >= OPERATIONS {
-        return 8;
+        return UNDECLARED;
     }
-    if policy == 8 {
-        return 8;
+    if policy == UNDECLARED {
+        return UNDECLARED;
     }
     if rules >= RULES {
-        return 11;
+        return FULL;
     }
     0
 }
@@ -77,7 +81,7 @@ pub fn rule(book: &mut [u64], code: &mut [u8], f: &[u8]) -> u8
 {
     let parts = fields::rule_fields(f);
     if !parts.ok {
-        return 6;
+        return MALFORMED;
     }
     let start = parts.start;
     let k = wide(book[RULE_COUNT]);

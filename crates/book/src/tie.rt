@@ -20,7 +20,9 @@ use codes::ADMIN;
 use codes::KEY_PARENT;
 use codes::KEY_VALUE;
 use codes::OBJECT;
+use codes::UNDECLARED;
 use codes::USER;
+use codes::WRONG_SORT;
 use text::Packed;
 use text::Value;
 
@@ -37,11 +39,6 @@ const OGROUP_SORT: u64 = codes::KEY_OGROUP as u64;
 const USER_SORT: u64 = codes::KEY_USER as u64;
 
 const OBJECT_SORT: u64 = codes::KEY_OBJECT as u64;
-
-// The refusals.
-const UNDECLARED: u8 = 8;
-
-const WRONG_SORT: u8 = 9;
 
 // What a tie line says: the number that it is refused for, or 0; its key; the number of the edited holder; that of the group or of the pair.
 pub struct Tie {

@@ -87,3 +87,62 @@ pub const KEY_MEMBER: u8 = 9;
 pub const KEY_VALUE: u8 = 10;
 
 pub const KEY_RULE: u8 = 11;
+
+// Refusals, in the words of document 01; specs of `model`, Numbers.antt, has them by the same names. 0 is no refusal.
+// "table not 1,024 words, any call"
+pub const WRONG_TABLE: u8 = 1;
+
+// "over 32,768 bytes"
+pub const TOO_LONG: u8 = 2;
+
+// "first line, with its byte 10, wrong or missing (line 1)"
+pub const WRONG_FIRST_LINE: u8 = 3;
+
+// "line too long, no byte 10 or bytes after it, no `=`, unknown key (a later `rights` too), edit sign missing"
+pub const UNFRAMED: u8 = 4;
+
+// "key before its predecessor's (file only)"
+pub const OUT_OF_ORDER: u8 = 5;
+
+// "field count, SRC, TYPE, name, atom or policy malformed, the policy judged without the limits of 7; `{}` and sets of two types are 6"
+pub const MALFORMED: u8 = 6;
+
+// "more than 16 terms, depth over 8 or a set over 8"
+pub const OVER_LIMITS: u8 = 7;
+
+// "undeclared name or pair (for value: no such pair of the attribute source that the holder's sort fixes)"
+pub const UNDECLARED: u8 = 8;
+
+// "parent or member of the wrong sort, env or connect str, atom of env or connect or of the wrong type"
+pub const WRONG_SORT: u8 = 9;
+
+// "already declared or standing"
+pub const REPEATED: u8 = 10;
+
+// "table of that key full (file only)"
+pub const FULL: u8 = 11;
+
+// "parent tie that closes a circle, itself included"
+pub const CIRCULAR: u8 = 12;
+
+// "another known key; comes after 4, before the rest"
+pub const OTHER_KEY: u8 = 13;
+
+// "`-` of a tie not standing"
+pub const NOT_STANDING: u8 = 14;
+
+// "byte 0, 8, 9 or length wrong"
+pub const BAD_BLOCK: u8 = 15;
+
+// "unknown or wrong-sort number, entry not env or connect, bool above 1"
+pub const WRONG_NUMBER: u8 = 16;
+
+// "activated bit that is no user attribute held by that user"
+pub const NOT_HELD: u8 = 17;
+
+// Answers to a request that is not refused, as hosts in C get them.
+pub const PERMIT: u8 = 0;
+
+pub const DENY: u8 = 64;
+
+pub const UNDEFINED: u8 = 65;

@@ -12,6 +12,7 @@ use borrow.Author.Tests.{eq-eqb, ne-eqb, le-leb, lt-leb, eqb-true}
 use Rattle.model.specs.Bytes.{Bytes}
 use Rattle.model.specs.Block.{Block, isBlock, readBlock, byteAt, valueAt, entriesOf}
 use Rattle.model.proofs.Options.{parts, condition}
+use Rattle.text.proofs.LoopPlaces.{tail-part}
 use Rattle.session.specs.Entries.{EntriesOf}
 
 -- a conjunction of four, of which one does not hold
@@ -93,13 +94,10 @@ head-of s b e =
     }
 
 -- the bytes behind the head are the entries
-behind-head : (s : Bytes) → take (length s - 10) (drop 10 s) ≡ drop 10 s
-behind-head s = take-all (length s - 10) (drop 10 s) (omega (arith, length-drop 10 s))
-
 pub entries-behind : (s : Bytes) (b : Block) → readBlock s ≡ some b → ((i : ℕ) → getD s i 0 < 256) → EntriesOf b (take (length s - 10) (drop 10 s))
 entries-behind s b e small =
     let head = head-of s b e in
-    subst (EntriesOf b) (sym (behind-head s))
+    subst (EntriesOf b) (sym (tail-part 10 s))
     (record {
       count = getD s 8 0;
       long = length-drop 10 s ∙ (let z : length s ≡ 10 + 5 * getD s 8 0 = head .size in omega arith);

@@ -8,6 +8,7 @@ use native.Mathlib.Omega.{arith}
 use lib.Dec.{eqb}
 use borrow.Author.Tests.{eq-eqb, ne-eqb}
 use Rattle.model.specs.Notation.{_>>=_, _is_, isNone}
+use Rattle.model.specs.Numbers as refusal
 use Rattle.model.specs.Bytes.{Bytes}
 use Rattle.model.specs.Names.{isName}
 use Rattle.model.specs.Atoms.{isAtom}
@@ -49,7 +50,7 @@ module _ {A L R : Type 0} {nothing : R} {numbers : A → R} {line : A → Option
 
 module _ {book : List ℕ} {l : Option Line} {n : ℕ} {t : Tie} where
   -- fields that read as no line
-  unread : l ≡ none → n ≡ 6 → FieldsTie book l n t
+  unread : l ≡ none → n ≡ refusal.malformed → FieldsTie book l n t
   unread e z S code standing held = record {
     refusal = z ∙ sym (ap (λ (o : Option Line). first (fieldTests o S)) e);
     tie = λ w. absurd (omega (arith, z, w));
@@ -77,14 +78,14 @@ other-code Key.value a b c = absurd (c refl)
 other-code Key.rule a b c = refl
 
 abbrev behind : Bytes → State → List Test
-behind line S = 13 if otherKey line ∷ 6 if malformed line ∷ 8 if (readLine line is undeclared (S .declared)) ∷ 9 if (readLine line is wrongSort (S .declared)) ∷ []
+behind line S = refusal.otherKey if otherKey line ∷ refusal.malformed if malformed line ∷ refusal.undeclared if (readLine line is undeclared (S .declared)) ∷ refusal.wrongSort if (readLine line is wrongSort (S .declared)) ∷ []
 
 abbrev has-key : Framed → Bool
 has-key r = not (eqb (r .key) 0)
 
 module _ {book : List ℕ} {n : ℕ} {t : Tie} where
   -- HOLDER,NAME,ATOM
-  pub value-unread : (f : Bytes) (r : ValueFields) → ValueTold f r → r .ok ≡ false → n ≡ 6 → FieldsTie book (readFields Key.value f) n t
+  pub value-unread : (f : Bytes) (r : ValueFields) → ValueTold f r → r .ok ≡ false → n ≡ refusal.malformed → FieldsTie book (readFields Key.value f) n t
   value-unread f r told no′ z = unread (told-none told (λ (v : ValueFields). v .ok) (λ a. refl) no′) z
 
   pub value-read : (f : Bytes) (r : ValueFields) → ValueTold f r → r .ok ≡ true
@@ -97,7 +98,7 @@ module _ {book : List ℕ} {n : ℕ} {t : Tie} where
       read-as e (named h m a u v w (sym (ap (λ (x : ValueFields). x .holder) q)) (sym (ap (λ (x : ValueFields). x .name) q)) (sym atom))
 
   -- CHILD,PARENT and PARTY,GROUP
-  pub two-unread : (key : ℕ) (f : Bytes) (r : TwoFields) → TwoTold f r → r .ok ≡ false → n ≡ 6 → TwoFieldsTie book key f n t
+  pub two-unread : (key : ℕ) (f : Bytes) (r : TwoFields) → TwoTold f r → r .ok ≡ false → n ≡ refusal.malformed → TwoFieldsTie book key f n t
   two-unread key f r told no′ z = (
     λ _. unread (told-none (told Line.parent) (λ (v : TwoFields). v .ok) (λ a. refl) no′) z,
     λ _. unread (told-none (told Line.member) (λ (v : TwoFields). v .ok) (λ a. refl) no′) z,
@@ -118,14 +119,14 @@ module _ {book : List ℕ} {n : ℕ} {t : Tie} where
   -- the key of a tie, and any other
   pub tie-key : (k : Key) → isTieKey k ≡ true → {key : ℕ} (f : Bytes) → key ≡ keyCode k → FieldsTie book (readFields k f) n t → KeyTie book key f n t
   tie-key k i {key} f e told j g =
-      subst (λ (x : Key). BookTie book (λ S. 13 if not (isTieKey x) ∷ fieldTests (readFields x f) S) (readFields x f) n t) (key-injective k j (sym e ∙ g))
+      subst (λ (x : Key). BookTie book (λ S. refusal.otherKey if not (isTieKey x) ∷ fieldTests (readFields x f) S) (readFields x f) n t) (key-injective k j (sym e ∙ g))
       (λ S code standing held.
       let r = told S code standing held in
-      record { refusal = r .refusal ∙ sym (ap (λ (b : Bool). first (13 if not b ∷ fieldTests (readFields k f) S)) i); tie = r .tie })
+      record { refusal = r .refusal ∙ sym (ap (λ (b : Bool). first (refusal.otherKey if not b ∷ fieldTests (readFields k f) S)) i); tie = r .tie })
 
-  pub other-key : {key : ℕ} (f : Bytes) → (key ≡ 8 → ⊥) → (key ≡ 9 → ⊥) → (key ≡ 10 → ⊥) → n ≡ 13 → KeyTie book key f n t
+  pub other-key : {key : ℕ} (f : Bytes) → (key ≡ 8 → ⊥) → (key ≡ 9 → ⊥) → (key ≡ 10 → ⊥) → n ≡ refusal.otherKey → KeyTie book key f n t
   other-key {key} f a b c z k g S code standing held = record {
-    refusal = z ∙ sym (ap (λ (x : Bool). first (13 if not x ∷ fieldTests (readFields k f) S)) (other-code k (λ e. a (g ∙ e)) (λ e. b (g ∙ e)) (λ e. c (g ∙ e))));
+    refusal = z ∙ sym (ap (λ (x : Bool). first (refusal.otherKey if not x ∷ fieldTests (readFields k f) S)) (other-code k (λ e. a (g ∙ e)) (λ e. b (g ∙ e)) (λ e. c (g ∙ e))));
     tie = λ w. absurd (omega (arith, z, w));
   }
 
@@ -135,7 +136,7 @@ module _ {book : List ℕ} {n : ℕ} {t : Tie} where
   no-frame line r told none′ z S code standing held = record {
     refusal =
         let gone = told-none (told .frame) has-key (λ (k, start, end). ap not (ne-eqb (keyCode k) 0 (λ e. omega arith))) (ap not (eq-eqb (r .key) 0 none′)) in
-        z ∙ sym (ap (λ (o : Option (Key × Bytes)). first (4 if isNone o ∷ behind line S)) gone);
+        z ∙ sym (ap (λ (o : Option (Key × Bytes)). first (refusal.unframed if isNone o ∷ behind line S)) gone);
     tie = λ w. absurd (omega (arith, z, w));
   }
 

@@ -9,6 +9,7 @@ use lib.Dec.{eqb, ltb}
 use lib.ListN.{length, take, drop}
 use borrow.Author.Tests.{ltb-true}
 use Rattle.model.specs.Notation.{_>>=_, _or-else_, _is_, isNone, onlyIf}
+use Rattle.model.specs.Numbers as refusal
 use Rattle.model.specs.Bytes.{Bytes}
 use Rattle.model.specs.Lines.{Line, readLine}
 use Rattle.model.specs.Declarations.{holderNumbersOf}
@@ -44,21 +45,21 @@ abbrev testsOf : State → Option Bytes → Option Bytes → List Test
 testsOf S p m =
     let line = p or-else m in
     let l = line >>= readLine in
-    (4 if (isNone line || (line is unframed))
-    ∷ 13 if (line is otherKey)
-    ∷ 6 if (line is malformed)
-    ∷ 8 if (l is undeclared (S .declared))
-    ∷ 9 if (l is wrongSort (S .declared))
-    ∷ 10 if ((p >>= readLine) is repeated S)
-    ∷ 12 if ((p >>= readLine) is circular S)
-    ∷ 14 if ((m >>= readLine) is notStanding S)
+    (refusal.unframed if (isNone line || (line is unframed))
+    ∷ refusal.otherKey if (line is otherKey)
+    ∷ refusal.malformed if (line is malformed)
+    ∷ refusal.undeclared if (l is undeclared (S .declared))
+    ∷ refusal.wrongSort if (l is wrongSort (S .declared))
+    ∷ refusal.repeated if ((p >>= readLine) is repeated S)
+    ∷ refusal.circular if ((p >>= readLine) is circular S)
+    ∷ refusal.notStanding if ((m >>= readLine) is notStanding S)
     ∷ [])
 
 refusal-of : (S : State) (edit : Bytes) {p m : Option Bytes} → plusLine edit ≡ p → minusLine edit ≡ m → editRefusal S edit ≡ first (testsOf S p m)
 unfolding editRefusal
 refusal-of S edit e f = ap₂ (λ (p m : Option Bytes). first (testsOf S p m)) e f
 
-pub unsigned : (S : State) (edit : Bytes) (s : ℕ) → Signed edit s → s ≡ 0 → editRefusal S edit ≡ 4
+pub unsigned : (S : State) (edit : Bytes) (s : ℕ) → Signed edit s → s ≡ 0 → editRefusal S edit ≡ refusal.unframed
 unsigned S edit s signed e =
     refusal-of S edit (signed .plus ∙ ap (λ (n : ℕ). onlyIf (eqb n 1) (drop 1 edit)) e) (signed .minus ∙ ap (λ (n : ℕ). onlyIf (eqb n 2) (drop 1 edit)) e)
 
@@ -111,18 +112,18 @@ repeated-tie S (Line.rule o ts) t e = none-is-some e
 -- the tests behind those of the line
 abbrev tieTests : State → Bool → Bytes → List Test
 tieTests S plus line =
-    10 if ((onlyIf plus line >>= readLine) is repeated S)
-    ∷ 12 if ((onlyIf plus line >>= readLine) is circular S)
-    ∷ 14 if ((onlyIf (not plus) line >>= readLine) is notStanding S)
+    refusal.repeated if ((onlyIf plus line >>= readLine) is repeated S)
+    ∷ refusal.circular if ((onlyIf plus line >>= readLine) is circular S)
+    ∷ refusal.notStanding if ((onlyIf (not plus) line >>= readLine) is notStanding S)
     ∷ []
 
 tie-tests : (S : State) (plus : Bool) (line : Bytes) (l : Line) (t : Tie) → readLine line ≡ some l → tieOf (S .declared) l ≡ some t
     → first (tieTests S plus line) ≡ first (signTests S plus t)
 tie-tests S true line l t r e =
-    ap (λ (o : Option Line). first (10 if (o is repeated S) ∷ 12 if (o is circular S) ∷ [])) r
-    ∙ ap₂ (λ (a b : Bool). first (10 if a ∷ 12 if b ∷ [])) (repeated-tie S l t e) (circular-tie S l t e)
+    ap (λ (o : Option Line). first (refusal.repeated if (o is repeated S) ∷ refusal.circular if (o is circular S) ∷ [])) r
+    ∙ ap₂ (λ (a b : Bool). first (refusal.repeated if a ∷ refusal.circular if b ∷ [])) (repeated-tie S l t e) (circular-tie S l t e)
 tie-tests S false line l t r e =
-    ap (λ (o : Option Line). first (14 if (o is notStanding S) ∷ [])) r ∙ ap (λ (b : Bool). first (14 if b ∷ [])) (not-standing-tie S l t e)
+    ap (λ (o : Option Line). first (refusal.notStanding if (o is notStanding S) ∷ [])) r ∙ ap (λ (b : Bool). first (refusal.notStanding if b ∷ [])) (not-standing-tie S l t e)
 
 -- ---- the whole
 

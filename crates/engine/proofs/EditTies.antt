@@ -3,6 +3,7 @@ use Prim.Native.Nat.{ℕ}
 use mathlib.Core.Path.{_≡_, sym, subst}
 use mathlib.Core.Bool.{Bool, true, false}
 use mathlib.Core.List.{List}
+use Rattle.model.specs.Numbers as refusal
 use Rattle.model.specs.Ties.{Tie}
 use Rattle.model.specs.Declarations.{holderNumbersOf}
 use Rattle.model.specs.State.{State}
@@ -14,10 +15,10 @@ abbrev closes : State → Tie → Bool
 closes S t = tieCloses (holderNumbersOf (S .declared)) (S .ties) t
 
 module _ (S : State) (t : Tie) {plus : Bool} where
-  pub plus-stands : plus ≡ true → S .ties t ≡ true → 10 ≡ first (signTests S plus t)
+  pub plus-stands : plus ≡ true → S .ties t ≡ true → refusal.repeated ≡ first (signTests S plus t)
   plus-stands p s = rw (p, s)
 
-  pub plus-closes : plus ≡ true → S .ties t ≡ false → closes S t ≡ true → 12 ≡ first (signTests S plus t)
+  pub plus-closes : plus ≡ true → S .ties t ≡ false → closes S t ≡ true → refusal.circular ≡ first (signTests S plus t)
   plus-closes p s k = rw (p, s, k)
 
   pub plus-free : plus ≡ true → S .ties t ≡ false → closes S t ≡ false → 0 ≡ first (signTests S plus t)
@@ -26,7 +27,7 @@ module _ (S : State) (t : Tie) {plus : Bool} where
   pub minus-stands : plus ≡ false → S .ties t ≡ true → 0 ≡ first (signTests S plus t)
   minus-stands p s = rw (p, s)
 
-  pub minus-gone : plus ≡ false → S .ties t ≡ false → 14 ≡ first (signTests S plus t)
+  pub minus-gone : plus ≡ false → S .ties t ≡ false → refusal.notStanding ≡ first (signTests S plus t)
   minus-gone p s = rw (p, s)
 
 module _ {plus : Bool} {t : Tie} {book book′ : List ℕ} where

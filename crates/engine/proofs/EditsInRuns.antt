@@ -10,6 +10,7 @@ use lib.ListN.{length, replicate}
 use lib.Dec.{eqb}
 use Rattle.model.specs.Notation.{if_then_else_, count, below}
 use Rattle.model.specs.Limits.{holderNumbers, setWords}
+use Rattle.model.specs.Numbers as refusal
 use Rattle.model.specs.Bytes.{Bytes}
 use Rattle.model.specs.Declarations.{Declarations, isHolder}
 use Rattle.model.specs.Ties.{Tie, Ties, editedHolder, Below}
@@ -39,7 +40,7 @@ module _ (S : State) (words : List ℕ) (line : Bytes) (kept : tableAfter words 
   abbrev stepFor : Bool → Step
   stepFor b = if b then withoutTable S (Call.edit line) else withTable S (Call.edit line)
 
-  by-table : (P : Answer → List ℕ → List ℕ → Type 0) → P (ledger.edited 1 0) words words
+  by-table : (P : Answer → List ℕ → List ℕ → Type 0) → P (ledger.edited refusal.wrongTable 0) words words
       → P (ledger.edited (model.edit S line .number) (model.edit S line .changed)) (table (S .declared) (S .ties))
       (table (model.edit S line .state .declared) (model.edit S line .state .ties))
       → P (outcome S words (Call.edit line) .answer) words (outcome S words (Call.edit line) .words)

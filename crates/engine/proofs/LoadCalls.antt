@@ -9,6 +9,7 @@ use lib.Seq.{ext-getD}
 use borrow.Author.Tests.{eq-eqb, ne-eqb}
 use Rattle.model.specs.Notation.{if_then_else_}
 use Rattle.model.specs.Limits.{tableWords}
+use Rattle.model.specs.Numbers as refusal
 use Rattle.model.specs.Bytes.{Bytes}
 use Rattle.model.specs.Table.{table}
 use Rattle.model.specs.State.{State, empty}
@@ -48,7 +49,7 @@ module _ (file : Bytes) (words : List ℕ) where
   pub without-table : {book words′ : List ℕ} {code : Bytes} → (length words ≡ tableWords → ⊥) → Holds book code empty → Cleared words words′ → Loads file words 1 0 words′ book code
   unfolding outcomeBy
   without-table {book} {words′} {code} n held cleared =
-      subst (λ (o : Outcome). Gives o (loaded 1 0) words′ book code) (by-table true (wrong-is n)) (record { answered = refl; table = sym (cleared .kept n); holds = held })
+      subst (λ (o : Outcome). Gives o (loaded refusal.wrongTable 0) words′ book code) (by-table true (wrong-is n)) (record { answered = refl; table = sym (cleared .kept n); holds = held })
 
   module _ (long : length words ≡ tableWords) {book : List ℕ} {code : Bytes} (number line : ℕ) (words′ : List ℕ) where
     by-load : number ≡ model.load file .number → line ≡ model.load file .line → table (model.load file .state .declared) (model.load file .state .ties) ≡ words′

@@ -9,6 +9,7 @@ use lib.Dec.{eqb}
 use lib.ListN.{length, getD, take, drop, replicate}
 use Rattle.model.specs.Notation.{if_then_else_, _is_, isNone}
 use Rattle.model.specs.Limits.{tableWords}
+use Rattle.model.specs.Numbers as refusal
 use Rattle.model.specs.Bytes.{Bytes}
 use Rattle.model.specs.State.{State}
 use Rattle.model.specs.Block.{Block, isBlock, readBlock, valueAt}
@@ -76,10 +77,10 @@ module _ {S : State} {b : Block} {counts operations : List ℕ} {code : Bytes} {
       ∙ sym unheld
 
   abbrev Answer : model.Decision → Type 0
-  Answer d = d ≡ (if notHeld S b then model.refused 17 else model.decisionBy (verdicts S b))
+  Answer d = d ≡ (if notHeld S b then model.refused refusal.notHeld else model.decisionBy (verdicts S b))
 
-  pub not-held : r ≡ true → Answer (model.refused 17)
-  not-held on = sym (ap (λ (t : Bool). if t then model.refused 17 else model.decisionBy (verdicts S b)) (held-so ∙ on))
+  pub not-held : r ≡ true → Answer (model.refused refusal.notHeld)
+  not-held on = sym (ap (λ (t : Bool). if t then model.refused refusal.notHeld else model.decisionBy (verdicts S b)) (held-so ∙ on))
 
   rules-so : (rules : ℕ) → (getD counts 5 0 ≤ 32 → rules ≡ getD counts 5 0) → length (S .declared .rules) ≡ rules
   rules-so rules e =
@@ -92,7 +93,7 @@ module _ {S : State} {b : Block} {counts operations : List ℕ} {code : Bytes} {
       g S b
       (record { operation-is = head-of block b (of .read) .operation ∙ sym f; rule-rows = of .rule-rows; session-of = session-of })
       (rules-so rules w)
-      ∙ sym (ap (λ (t : Bool). if t then model.refused 17 else model.decisionBy (verdicts S b)) (held-so ∙ off))
+      ∙ sym (ap (λ (t : Bool). if t then model.refused refusal.notHeld else model.decisionBy (verdicts S b)) (held-so ∙ off))
 
 -- ---- a request
 
@@ -100,30 +101,30 @@ module _ (S : State) (block : Bytes) where
   -- by the block that is read
   abbrev answer : Option Block → model.Decision
   answer o =
-      let n = first (15 if isNone o ∷ 16 if (o is wrongNumber (S .declared)) ∷ 17 if (o is notHeld S) ∷ []) in
+      let n = first (refusal.badBlock if isNone o ∷ refusal.wrongNumber if (o is wrongNumber (S .declared)) ∷ refusal.notHeld if (o is notHeld S) ∷ []) in
       if eqb n 0 then judged S o else model.refused n
 
   decide-by : (o : Option Block) → readBlock block ≡ o → model.decide S block ≡ answer o
   unfolding model.decide requestRefusal badBlock
   decide-by o e = ap answer e
 
-  pub no-block : isBlock block ≡ false → model.refused 15 ≡ model.decide S block
+  pub no-block : isBlock block ≡ false → model.refused refusal.badBlock ≡ model.decide S block
   no-block e = sym (decide-by none (not-read block e))
 
   module _ (b : Block) (read : readBlock block ≡ some b) where
     abbrev byTests : Bool → Bool → model.Decision
     byTests wrong unheld =
-        let n = first (15 if false ∷ 16 if wrong ∷ 17 if unheld ∷ []) in
+        let n = first (refusal.badBlock if false ∷ refusal.wrongNumber if wrong ∷ refusal.notHeld if unheld ∷ []) in
         if eqb n 0 then model.decisionBy (verdicts S b) else model.refused n
 
-    pub wrong : true ≡ wrongNumber (S .declared) b → model.refused 16 ≡ model.decide S block
+    pub wrong : true ≡ wrongNumber (S .declared) b → model.refused refusal.wrongNumber ≡ model.decide S block
     wrong e = sym (decide-by (some b) read ∙ ap (λ (t : Bool). byTests t (notHeld S b)) (sym e))
 
     pub right : false ≡ wrongNumber (S .declared) b
-        → (if notHeld S b then model.refused 17 else model.decisionBy (verdicts S b)) ≡ model.decide S block
+        → (if notHeld S b then model.refused refusal.notHeld else model.decisionBy (verdicts S b)) ≡ model.decide S block
     right e = go (notHeld S b) ∙ sym (decide-by (some b) read ∙ ap (λ (t : Bool). byTests t (notHeld S b)) (sym e))
       where
-        go : (t : Bool) → (if t then model.refused 17 else model.decisionBy (verdicts S b)) ≡ byTests false t
+        go : (t : Bool) → (if t then model.refused refusal.notHeld else model.decisionBy (verdicts S b)) ≡ byTests false t
         go true = refl
         go false = refl
 
@@ -141,7 +142,7 @@ module _ {S : State} {book : List ℕ} {code : Bytes} (standing : Standing S) (h
   told-so : w ≡ wrongNumber (S .declared) b
   told-so = told (S .declared) b (numbers-of standing holds block b read bytes)
 
-  pub refuses-numbers : w ≡ true → model.refused 16 ≡ model.decide S block
+  pub refuses-numbers : w ≡ true → model.refused refusal.wrongNumber ≡ model.decide S block
   refuses-numbers e = wrong S block b read (sym e ∙ told-so)
 
   pub answers : w ≡ false → (t : List ℕ) → t ≡ table (S .declared) (S .ties) → (d : Decision)
@@ -153,6 +154,6 @@ pub stands-long : (S : State) {t : List ℕ} → t ≡ table (S .declared) (S .t
 stands-long S e = ap length e ∙ table-length (S .declared) (S .ties)
 
 -- ---- the promise: where the decision is the model's, so are its number and values
-pub promised : {block : Bytes} {book : List ℕ} {code : Bytes} {words : List ℕ} {r : Decision} → ((length words ≡ tableWords → ⊥) → decisionOf r ≡ model.refused 1)
+pub promised : {block : Bytes} {book : List ℕ} {code : Bytes} {words : List ℕ} {r : Decision} → ((length words ≡ tableWords → ⊥) → decisionOf r ≡ model.refused refusal.wrongTable)
     → ((S : State) → Standing S → Holds book code S → words ≡ table (S .declared) (S .ties) → decisionOf r ≡ model.decide S block) → Decides block book code words r
 promised other decision = record { other-table = other; decision = decision; numbers = λ S standing holds e. ap model.numberAndValues (decision S standing holds e) }

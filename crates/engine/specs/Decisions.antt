@@ -5,6 +5,7 @@ use mathlib.Core.List.{List}
 use lib.ListN.{length}
 use Rattle.model.specs.Notation.{if_then_else_}
 use Rattle.model.specs.Limits.{tableWords}
+use Rattle.model.specs.Numbers as refusal
 use Rattle.model.specs.Bytes.{Bytes}
 use Rattle.model.specs.State.{State}
 use Rattle.model.specs.Block.{Block}
@@ -38,11 +39,11 @@ Decided operations code attributes pairs session entries operation count r =
 abbrev pub Answered : List ℕ → List ℕ → Bytes → List ℕ → List ℕ → List ℕ → Bytes → Bytes → Decision → Type 0
 Answered counts operations code attributes pairs table block entries r =
     (S : State) (b : Block) → RequestOf S b counts operations code attributes pairs table block entries
-    → decisionOf r ≡ (if notHeld S b then model.refused 17 else model.decisionBy (model.verdicts S b))
+    → decisionOf r ≡ (if notHeld S b then model.refused refusal.notHeld else model.decisionBy (model.verdicts S b))
 
 -- r is what a request is answered: 1 on a table of another length, and as the document says on a book and a table that stand for a state, by its case
 -- and by this paper's number and values. Nothing is written
 pub record Decides (block : Bytes) (book : List ℕ) (code : Bytes) (words : List ℕ) (r : Decision) : Type 0 where
-  pub other-table : (length words ≡ tableWords → ⊥) → decisionOf r ≡ model.refused 1
+  pub other-table : (length words ≡ tableWords → ⊥) → decisionOf r ≡ model.refused refusal.wrongTable
   pub decision : (S : State) → Standing S → Holds book code S → words ≡ table (S .declared) (S .ties) → decisionOf r ≡ model.decide S block
   pub numbers : (S : State) → Standing S → Holds book code S → words ≡ table (S .declared) (S .ties) → numberAndValuesOf r ≡ model.numberAndValues (model.decide S block)

@@ -6,6 +6,7 @@ use mathlib.Core.Bool.{Bool, _&&_, not}
 use mathlib.Core.List.{List, [], _∷_}
 use mathlib.Core.Option.{Option, some}
 use lib.ListN.{length}
+use Rattle.model.specs.Numbers as refusal
 use Rattle.model.specs.Notation.{_>>=_, _is_, isNone}
 use Rattle.model.specs.Limits.{tableWords}
 use Rattle.model.specs.Bytes.{Bytes}
@@ -37,7 +38,7 @@ BookTie book tests l number t = (S : State) (code : Bytes) → Standing S → Ho
 
 -- what is read from fields: 6, 8 and 9
 abbrev pub fieldTests : Option Line → State → List Test
-fieldTests l S = 6 if isNone l ∷ 8 if (l is undeclared (S .declared)) ∷ 9 if (l is wrongSort (S .declared)) ∷ []
+fieldTests l S = refusal.malformed if isNone l ∷ refusal.undeclared if (l is undeclared (S .declared)) ∷ refusal.wrongSort if (l is wrongSort (S .declared)) ∷ []
 
 abbrev pub FieldsTie : List ℕ → Option Line → ℕ → Tie → Type 0
 FieldsTie book l number t = BookTie book (fieldTests l) l number t
@@ -50,16 +51,16 @@ TwoFieldsTie book key f number t =
 -- fields behind a known key: 13 before the rest
 abbrev pub KeyTie : List ℕ → ℕ → Bytes → ℕ → Tie → Type 0
 KeyTie book key f number t =
-    (k : Key) → key ≡ keyCode k → BookTie book (λ S. 13 if not (isTieKey k) ∷ fieldTests (readFields k f) S) (readFields k f) number t
+    (k : Key) → key ≡ keyCode k → BookTie book (λ S. refusal.otherKey if not (isTieKey k) ∷ fieldTests (readFields k f) S) (readFields k f) number t
 
 -- the line behind the sign: 4, 13, 6, 8 and 9
 abbrev pub behindSignTests : Bytes → State → List Test
 behindSignTests line S =
-    4 if unframed line
-    ∷ 13 if otherKey line
-    ∷ 6 if malformed line
-    ∷ 8 if (readLine line is undeclared (S .declared))
-    ∷ 9 if (readLine line is wrongSort (S .declared))
+    refusal.unframed if unframed line
+    ∷ refusal.otherKey if otherKey line
+    ∷ refusal.malformed if malformed line
+    ∷ refusal.undeclared if (readLine line is undeclared (S .declared))
+    ∷ refusal.wrongSort if (readLine line is wrongSort (S .declared))
     ∷ []
 
 abbrev pub LineTie : List ℕ → Bytes → ℕ → Tie → Type 0
@@ -68,9 +69,9 @@ LineTie book line number t = BookTie book (behindSignTests line) (readLine line)
 -- what a tie is refused for: 10 and 12 behind `+`, 14 behind `-`
 abbrev pub signTests : State → Bool → Tie → List Test
 signTests S plus t =
-    10 if (plus && S .ties t)
-    ∷ 12 if (plus && tieCloses (holderNumbersOf (S .declared)) (S .ties) t)
-    ∷ 14 if (not plus && not (S .ties t))
+    refusal.repeated if (plus && S .ties t)
+    ∷ refusal.circular if (plus && tieCloses (holderNumbersOf (S .declared)) (S .ties) t)
+    ∷ refusal.notStanding if (not plus && not (S .ties t))
     ∷ []
 
 abbrev pub TieJudged : List ℕ → Bool → Tie → ℕ → Type 0
@@ -104,7 +105,7 @@ pub record Untouched (book words : List ℕ) (count : ℕ) (words′ book′ : L
 -- the call. The last four hold of every book and table
 pub record EditCall (line : Bytes) (book words : List ℕ) (number count : ℕ) (words′ book′ : List ℕ) : Type 0 where
   pub edits : Edits line book words number count words′ book′
-  pub wrong-table : (length words ≡ tableWords → ⊥) → (number ≡ 1) × Untouched book words count words′ book′
+  pub wrong-table : (length words ≡ tableWords → ⊥) → (number ≡ refusal.wrongTable) × Untouched book words count words′ book′
   pub refused : (number ≡ 0 → ⊥) → Untouched book words count words′ book′
   pub table-long : length words′ ≡ length words
   pub book-long : length book′ ≡ length book

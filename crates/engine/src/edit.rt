@@ -14,27 +14,19 @@ use book::RULES_AT;
 use book::SLOTS_AT;
 use book::UPS_AT;
 use book::tie::Tie;
+use codes::CIRCULAR;
 use codes::KEY_MEMBER;
 use codes::KEY_PARENT;
 use codes::KEY_VALUE;
+use codes::MALFORMED;
+use codes::NOT_STANDING;
+use codes::OTHER_KEY;
+use codes::REPEATED;
+use codes::UNFRAMED;
+use codes::WRONG_TABLE;
 
 // The sign of an edit that adds.
 const PLUS: u8 = 1;
-
-// What an edit is refused for.
-const WRONG_TABLE: u8 = 1;
-
-const UNFRAMED: u8 = 4;
-
-const MALFORMED: u8 = 6;
-
-const STANDING: u8 = 10;
-
-const CIRCLE: u8 = 12;
-
-const OTHER_KEY: u8 = 13;
-
-const NOT_STANDING: u8 = 14;
 
 // "The answer is 0 and the number of holders whose stored set changed": 0 holders where the number is a refusal.
 pub struct Edited {
@@ -132,10 +124,10 @@ fn judged(words: &[u64], plus: bool, t: Tie) -> u8
     let stands = book::tie::stands(words, t);
     if plus {
         if stands {
-            return STANDING;
+            return REPEATED;
         }
         if book::tie::closes(words, t) {
-            return CIRCLE;
+            return CIRCULAR;
         }
         return 0;
     }

@@ -23,16 +23,20 @@ use book::RULES_AT;
 use book::SEATS_AT;
 use book::SORTS_AT;
 use codes::ADMIN;
+use codes::BAD_BLOCK;
 use codes::BOOL;
 use codes::KEY_OBJECT;
 use codes::KEY_USER;
+use codes::NOT_HELD;
+use codes::WRONG_NUMBER;
+use codes::WRONG_TABLE;
 use truth::Truth;
 
 pub mod edit;
 pub mod load;
 
 // How many words a table has.
-const TABLE_WORDS: usize = 1024;
+pub const TABLE_WORDS: usize = 1024;
 
 // "decision enum: Permit with rule number, Deny, Undefined, Refused with number."
 pub enum Decision {
@@ -251,7 +255,7 @@ fn answered(
         &mut session,
     );
     if session::unheld(attributes, &session, mask) {
-        return Decision::Refused(17);
+        return Decision::Refused(NOT_HELD);
     }
     let rules = in_room(counts[RULE_COUNT]);
     decided(
@@ -276,10 +280,10 @@ pub fn decide(
     ensures { λ r. ⌜ Decides (now (block .entry)) (now (book .entry)) (now (rules .entry)) (now (table .entry)) r ⌝ }
 {
     if table.len() != TABLE_WORDS {
-        return Decision::Refused(1);
+        return Decision::Refused(WRONG_TABLE);
     }
     if !is_block(block) {
-        return Decision::Refused(15);
+        return Decision::Refused(BAD_BLOCK);
     }
     let words = &book[..];
     let counts = &words[0..ATTRIBUTES_AT];
@@ -287,7 +291,7 @@ pub fn decide(
     let sorts = &words[SORTS_AT..SEATS_AT];
     let entries = &block[10..];
     if wrong_number(counts, sorts, attributes, block, entries) {
-        return Decision::Refused(16);
+        return Decision::Refused(WRONG_NUMBER);
     }
     let pairs = &words[PAIR_ROWS_AT..HOLDERS_AT];
     let operations = &words[RULES_AT..BOOK_WORDS];

@@ -15,6 +15,7 @@ use book::RULES_AT;
 use book::SLOTS_AT;
 use book::UPS_AT;
 use book::file::Loaded;
+use codes::WRONG_TABLE;
 
 // Fills the table from the book's ties.
 fn fill(words: &[u64], table: &mut [u64])
@@ -52,7 +53,10 @@ pub fn load(
 {
     if table.len() != TABLE_WORDS {
         refuse(book, rules, table);
-        return Loaded { number: 1, line: 0 };
+        return Loaded {
+            number: WRONG_TABLE,
+            line: 0,
+        };
     }
     let answer = book::file::read(book, rules, file);
     if answer.number != 0 {

@@ -5,7 +5,7 @@ ghost use Prim.Native.Nat.{_+_, _*_, _≤_};
 ghost use lib.ListN.{length, take};
 ghost use Rattle.io.specs.Counts.{Counts};
 ghost use Rattle.model.specs.Gate.{gate};
-ghost use Rattle.office.specs.Output.{answerBytes};
+ghost use Rattle.office.specs.Printing.{answerBytes};
 use libc::STDIN_FILENO;
 use libc::STDOUT_FILENO;
 
@@ -13,7 +13,7 @@ use libc::STDOUT_FILENO;
 const READ: usize = 65537;
 
 // The room that the output of so many bytes may need.
-const WRITTEN: usize = 1310760;
+const WRITTEN: usize = 2097216;
 
 fn input_buffer() -> [u8; READ]
     ensures { λ r. ⌜ 65537 ≡ length r ⌝ }

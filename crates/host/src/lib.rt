@@ -9,6 +9,9 @@ ghost use Rattle.engine.specs.EditSteps.{EditCall};
 ghost use Rattle.host.specs.AnswerNumbers.{high, carriedValue, Packs, RequestNumber};
 use book::BOOK_WORDS;
 use book::RULE_BYTES;
+use codes::DENY;
+use codes::PERMIT;
+use codes::UNDEFINED;
 use engine::Decision;
 
 // "0 permit, 64 deny, 65 undefined, else the refusal."
@@ -16,9 +19,9 @@ fn number_of(d: Decision) -> u32
     ensures { λ r. ⌜ r ≡ numberAndValuesOf d .0 ⌝ }
 {
     match d {
-        Decision::Permit(_) => 0,
-        Decision::Deny => 64,
-        Decision::Undefined => 65,
+        Decision::Permit(_) => PERMIT as u32,
+        Decision::Deny => DENY as u32,
+        Decision::Undefined => UNDEFINED as u32,
         Decision::Refused(n) => n as u32,
     }
 }

@@ -68,7 +68,7 @@ pub fn find(section: &[u64], a: u64, b: u64, c: u64, d: u64) -> usize
 }
 
 // Writes the four words from a place on.
-fn put_row(section: &mut [u64], place: usize, a: u64, b: u64, c: u64, d: u64)
+pub fn put_row(section: &mut [u64], place: usize, a: u64, b: u64, c: u64, d: u64)
     requires { ⌜ place + 3 < length (now section) ⌝ }
     ensures { λ _. ⌜ now (section .exit) ≡ putRow (now (section .entry)) place (a, b, c, d) ⌝ }
 {

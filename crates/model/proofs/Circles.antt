@@ -8,6 +8,7 @@ use native.Mathlib.Omega.{arith}
 use lib.Dec.{eqb}
 use borrow.Author.Tests.{eqb-true}
 use Rattle.model.specs.Notation.{_>>=_, _is_}
+use Rattle.model.specs.Numbers as refusal
 use Rattle.model.specs.Bytes.{Bytes}
 use Rattle.model.specs.Keys.{Key}
 use Rattle.model.specs.Lines.{Line, attr, op, atom, holder, parent, member, value, rule, readLine}
@@ -92,14 +93,14 @@ module _ {S : State} (standing : Standing S) where
       (t, h, e, b)
 
   -- so it is with every line of a file and every edit that are answered 12
-  pub line-circle : (previous : Option Key) (line : Bytes) → lineRefusal S previous line ≡ 12
+  pub line-circle : (previous : Option Key) (line : Bytes) → lineRefusal S previous line ≡ refusal.circular
       → (l : Line) × (t : Tie) × (h : ℕ) × (readLine line ≡ some l) × (tieOf (S .declared) l ≡ some t) × Below (added t (S .ties)) h h
   line-circle previous line e =
       let (l, r, d) = is-some (readLine line) (circular S) (line-met S previous line 12 e (λ z. omega arith)) in
       let (t, h, q, b) = circle l d in
       (l, t, h, r, q, b)
 
-  pub edit-circle : (line : Bytes) → edit S line .number ≡ 12
+  pub edit-circle : (line : Bytes) → edit S line .number ≡ refusal.circular
       → (l : Line) × (t : Tie) × (h : ℕ) × ((plusLine line >>= readLine) ≡ some l) × (tieOf (S .declared) l ≡ some t) × Below (added t (S .ties)) h h
   edit-circle line e =
       let (l, r, d) = is-some (plusLine line >>= readLine) (circular S) (edit-met S line 12 e (λ z. omega arith)) in

@@ -11,6 +11,7 @@ use lib.Dec.{leb}
 use borrow.Author.Tests.{leb-true, leb-false}
 use Rattle.model.specs.Notation.{if_then_else_}
 use Rattle.model.specs.Limits.{attributeLimit, operationLimit, pairLimit, holderLimit, holderNumbers, groupLimit, ruleLimit}
+use Rattle.model.specs.Numbers as refusal
 use Rattle.model.specs.Bytes.{Bytes}
 use Rattle.model.specs.Keys.{Key}
 use Rattle.model.specs.Lines.{Line, attr, op, atom, holder, parent, member, value, rule, readLine}
@@ -117,7 +118,7 @@ pub full-exactly : (D : Declarations) (l : Line) → WithinLimits D → (full D 
 full-exactly D l w = (full-over D l, λ over. ⊎-elim (λ e. e) (λ e. absurd (over (still-within D l w e))) (true-or-false (full D l)))
 
 -- so it is with every line of a file that is answered 11
-pub line-full : (S : State) (previous : Option Key) (line : Bytes) → lineRefusal S previous line ≡ 11
+pub line-full : (S : State) (previous : Option Key) (line : Bytes) → lineRefusal S previous line ≡ refusal.full
     → (l : Line) × (readLine line ≡ some l) × (WithinLimits (declare l (S .declared)) → ⊥)
 line-full S previous line e =
     let (l, r, f) = is-some (readLine line) (full (S .declared)) (line-met S previous line 11 e (λ z. omega arith)) in

@@ -9,6 +9,7 @@ use lib.ListN.{length}
 use borrow.Author.Tests.{lt-ltb, le-ltb}
 use Rattle.model.specs.Notation.{if_then_else_, map}
 use Rattle.model.specs.Limits.{inputBytes, tableWords}
+use Rattle.model.specs.Numbers as refusal
 use Rattle.model.specs.Bytes.{Bytes, bytes, linesOf}
 use Rattle.model.specs.Table.{table}
 use Rattle.model.specs.State.{State, empty}
@@ -64,15 +65,15 @@ pub gate-prints : (input : Bytes) (words : List ℕ) → length input ≤ inputB
     ≡ interleaved (some (Call.load (fileIn input)) ∷ commandsIn input) (answersOf (ledger words (fileIn input) (callsAmong (commandsIn input))))
 unfolding gate ledger
 gate-prints input words short e =
-    ap (λ (b : Bool). if b then printed (loaded 2 0) else output empty (some (Call.load (fileIn input)) ∷ commandsIn input))
+    ap (λ (b : Bool). if b then printed (loaded refusal.tooLong 0) else output empty (some (Call.load (fileIn input)) ∷ commandsIn input))
     (le-ltb inputBytes (length input) short)
     ∙ prints-ledger empty words (some (Call.load (fileIn input)) ∷ commandsIn input) e
 
 -- "Over 65,536 bytes: `load=2,0` alone"
-pub gate-too-long : (input : Bytes) → inputBytes < length input → gate input ≡ printed (loaded 2 0)
+pub gate-too-long : (input : Bytes) → inputBytes < length input → gate input ≡ printed (loaded refusal.tooLong 0)
 unfolding gate
 gate-too-long input long =
-    ap (λ (b : Bool). if b then printed (loaded 2 0) else output empty (some (Call.load (fileIn input)) ∷ commandsIn input))
+    ap (λ (b : Bool). if b then printed (loaded refusal.tooLong 0) else output empty (some (Call.load (fileIn input)) ∷ commandsIn input))
     (lt-ltb inputBytes (length input) long)
 
 -- each call has its answer: none of the commands is left without a line

@@ -9,6 +9,7 @@ use lib.ListN.{length}
 use lib.Dec.{eqb}
 use borrow.Author.Tests.{eqb-true, eqb-false}
 use Rattle.model.specs.Notation.{if_then_else_, _>>=_, _or-else_, _is_, isNone}
+use Rattle.model.specs.Numbers as refusal
 use Rattle.model.specs.Bytes.{Bytes, linesOf}
 use Rattle.model.specs.Keys.{Key}
 use Rattle.model.specs.Lines.{Line, readLine}
@@ -68,7 +69,7 @@ pub load-standing : (file : Bytes) → Standing (Load.load file .state)
 unfolding Load.load
 load-standing file = go (tooLong file) (wrongFirstLine file)
   where
-    go : (b c : Bool) → Standing ((elim b as (λ _. Loaded) [ true ↦ refusedAt 2 0 | false ↦ elim c as (λ _. Loaded) [ true ↦ refusedAt 3 1 | false ↦ readOn empty none 1 (otherLines (linesOf file)) ] ]) .state)
+    go : (b c : Bool) → Standing ((elim b as (λ _. Loaded) [ true ↦ refusedAt refusal.tooLong 0 | false ↦ elim c as (λ _. Loaded) [ true ↦ refusedAt refusal.wrongFirstLine 1 | false ↦ readOn empty none 1 (otherLines (linesOf file)) ] ]) .state)
     go true c = empty-standing
     go false true = empty-standing
     go false false = read-standing empty none 1 (otherLines (linesOf file)) empty-standing

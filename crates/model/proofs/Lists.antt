@@ -253,6 +253,11 @@ module _ {A : Type 0} (p : A → Bool) where
       go true q = (q, rw (all, q) at e)
       go false q = false-is-true (rw (all, q) at e)
 
+  pub all-in : (s : List A) {x : A} → all p s ≡ true → x ∈ s → p x ≡ true
+  all-in [] e m = elim m [ ]
+  all-in (y ∷ s) e (here z) = ap p z ∙ all-parts y s e .0
+  all-in (y ∷ s) e (there m) = all-in s (all-parts y s e .1) m
+
   pub all-cons : (x : A) (s : List A) → p x ≡ true → all p s ≡ true → all p (x ∷ s) ≡ true
   all-cons x s e f = rw (all, e) f
 

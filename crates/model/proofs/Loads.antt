@@ -9,6 +9,7 @@ use lib.ListN.{length}
 use lib.Dec.{eqb}
 use borrow.Author.Tests.{eqb-true, eqb-false, eq-eqb, ne-eqb}
 use Rattle.model.specs.Notation.{if_then_else_, isNone, each}
+use Rattle.model.specs.Numbers as refusal
 use Rattle.model.specs.Bytes.{Bytes, bytes, newline, behind, begun, linesOf}
 use Rattle.model.specs.Keys.{Key}
 use Rattle.model.specs.Lines.{Line, readLine}
@@ -55,8 +56,8 @@ pub record Offending (file : Bytes) (n place : ℕ) : Type 0 where
 
 -- a file that is refused: its number and its line
 pub data RefusedFile (file : Bytes) : ℕ → ℕ → Type 0 where
-  too-long : tooLong file ≡ true → RefusedFile file 2 0
-  wrong-first : tooLong file ≡ false → wrongFirstLine file ≡ true → RefusedFile file 3 1
+  too-long : tooLong file ≡ true → RefusedFile file refusal.tooLong 0
+  wrong-first : tooLong file ≡ false → wrongFirstLine file ≡ true → RefusedFile file refusal.wrongFirstLine 1
   offending : {n place : ℕ} → Offending file n place → RefusedFile file n place
 
 -- ---- lines read on
@@ -135,15 +136,15 @@ first-right file others e =
 
 module _ (file : Bytes) where
   load-cases : (P : Loaded → Type 0)
-      → (tooLong file ≡ true → P (refusedAt 2 0))
-      → (tooLong file ≡ false → wrongFirstLine file ≡ true → P (refusedAt 3 1))
+      → (tooLong file ≡ true → P (refusedAt refusal.tooLong 0))
+      → (tooLong file ≡ false → wrongFirstLine file ≡ true → P (refusedAt refusal.wrongFirstLine 1))
       → (tooLong file ≡ false → wrongFirstLine file ≡ false → P (readOn empty none 1 (otherLines (linesOf file))))
       → P (load file)
   unfolding load
   load-cases P long first rest = go (tooLong file) refl (wrongFirstLine file) refl
     where
       go : (b : Bool) → tooLong file ≡ b → (c : Bool) → wrongFirstLine file ≡ c
-          → P (if b then refusedAt 2 0 else (if c then refusedAt 3 1 else readOn empty none 1 (otherLines (linesOf file))))
+          → P (if b then refusedAt refusal.tooLong 0 else (if c then refusedAt refusal.wrongFirstLine 1 else readOn empty none 1 (otherLines (linesOf file))))
       go true p c q = long p
       go false p true q = first p q
       go false p false q = rest p q

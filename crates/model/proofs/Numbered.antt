@@ -14,7 +14,7 @@ use Rattle.model.specs.Notation.{if_then_else_, isNone, all, count, find
 use Rattle.model.specs.Standing.{rising}
 use Rattle.model.proofs.WordTables.{none-is-some, false-is-true}
 use Rattle.model.proofs.Options.{parts, both}
-use Rattle.model.proofs.Lists.{_∈_, true-or-false, all-parts, all-cons, all-by, count-last, count-ext, in-map, map-in, in-below, below-in}
+use Rattle.model.proofs.Lists.{_∈_, true-or-false, all-parts, all-in, all-cons, all-by, count-last, count-ext, in-map, map-in, in-below, below-in}
 
 -- ---- the first that passes
 
@@ -55,11 +55,6 @@ module _ {A : Type 0} (number : A → ℕ) where
       let (above, rest) = parts (all (λ z. ltb (number y) (number z)) ys) (rising number ys) e in
       let l = ltb-true (number y) (number x) (all-in (λ z. ltb (number y) (number z)) ys above m) in
       rw (ne-eqb (number y) (number x) (λ z. omega arith)) (number-found ys rest m)
-    where
-      all-in : (q : A → Bool) (zs : List A) {z : A} → all q zs ≡ true → z ∈ zs → q z ≡ true
-      all-in q [] f n = elim n [ ]
-      all-in q (u ∷ us) f (here z) = ap q z ∙ all-parts q u us f .0
-      all-in q (u ∷ us) f (there n) = all-in q us (all-parts q u us f .1) n
 
   -- ---- one more
 
@@ -226,14 +221,9 @@ module _ {A : Type 0} (number : A → ℕ) where
       keep : (k : ℕ) → k ∈ map number xs → all (λ z. ltb (number x) (number z)) xs ≡ true → p k ≡ (p k && not (eqb k (number x)))
       keep k m above =
           let (y, i, e) = in-map number xs m in
-          let l = ltb-true (number x) (number y) (all-at (λ z. ltb (number x) (number z)) xs above i) in
+          let l = ltb-true (number x) (number y) (all-in (λ z. ltb (number x) (number z)) xs above i) in
           rw (ne-eqb k (number x) (λ z. omega arith)) (same (p k))
         where
-          all-at : (q : A → Bool) (zs : List A) {z : A} → all q zs ≡ true → z ∈ zs → q z ≡ true
-          all-at q [] f n = elim n [ ]
-          all-at q (u ∷ us) f (here z) = ap q z ∙ all-parts q u us f .0
-          all-at q (u ∷ us) f (there n) = all-at q us (all-parts q u us f .1) n
-
           same : (t : Bool) → t ≡ (t && true)
           same true = refl
           same false = refl
@@ -245,13 +235,8 @@ module _ {A : Type 0} (number : A → ℕ) where
       let (above, rest) = parts (all (λ z. ltb (number x) (number z)) xs) (rising number xs) r in
       let b = few x (here refl) in
       let c = low x (here refl) in
-      let more = rising-from xs (suc (number x)) n rest b (λ y m. ltb-true (number x) (number y) (all-at (λ z. ltb (number x) (number z)) xs above m)) (λ y m. few y (there m)) in
+      let more = rising-from xs (suc (number x)) n rest b (λ y m. ltb-true (number x) (number y) (all-in (λ z. ltb (number x) (number z)) xs above m)) (λ y m. few y (there m)) in
       omega arith
-    where
-      all-at : (q : A → Bool) (zs : List A) {z : A} → all q zs ≡ true → z ∈ zs → q z ≡ true
-      all-at q [] f n = elim n [ ]
-      all-at q (u ∷ us) f (here z) = ap q z ∙ all-parts q u us f .0
-      all-at q (u ∷ us) f (there n) = all-at q us (all-parts q u us f .1) n
 
   pub rising-few : (xs : List A) (n : ℕ) → rising number xs ≡ true → ((x : A) → x ∈ xs → number x < n) → length xs ≤ n
   rising-few xs n r few = let l = rising-from xs 0 n r (omega arith) (λ x m. omega arith) few in omega arith

@@ -5,6 +5,7 @@ use mathlib.Core.List.{List, [], _∷_}
 use mathlib.Core.Option.{Option, none, some}
 use lib.Dec.{eqb}
 use Rattle.model.specs.Notation.{if_then_else_, _is_, any, map, filter, numbered, nth}
+use Rattle.model.specs.Numbers as refusal
 use Rattle.model.specs.Bytes.{Bytes, same}
 use Rattle.model.specs.Truth.{Truth}
 use Rattle.model.specs.State.{State}
@@ -53,7 +54,7 @@ decisionBy vs = elim (filter (λ (k, t). isTrue t) vs) [ [] ↦ withoutPermit vs
 
 -- the decision on a block that is not refused; what is no block is refused with 15 before, so the clause for none is never met
 abbrev pub judged : State → Option Block → Decision
-judged S none = refused 15
+judged S none = refused refusal.badBlock
 judged S (some b) = decisionBy (verdicts S b)
 
 -- a request

@@ -8,6 +8,7 @@ use lib.ListN.{length}
 use lib.Dec.{ltb}
 use Rattle.model.specs.Notation.{if_then_else_, _>>=_, _or-else_, onlyIf, map}
 use Rattle.model.specs.Limits.{inputBytes, tableWords}
+use Rattle.model.specs.Numbers as refusal
 use Rattle.model.specs.Bytes.{Bytes, bytes, same, behind, linesOf, content, inRange}
 use Rattle.model.specs.Atoms.{decimal}
 use Rattle.model.specs.State.{State, empty}
@@ -72,5 +73,5 @@ output S (some c ∷ calls) = let s = step tableWords S c in printed (s .answer)
 unfoldable pub gate : Bytes → Bytes
 gate input =
     let lines = linesOf input in
-    if ltb inputBytes (length input) then printed (loaded 2 0)
+    if ltb inputBytes (length input) then printed (loaded refusal.tooLong 0)
     else output empty (some (Call.load (fileOf lines)) ∷ map callOf (commandsOf lines))

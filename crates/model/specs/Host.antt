@@ -3,6 +3,7 @@ use Prim.Native.Nat.{ℕ}
 use mathlib.Core.List.{List}
 use lib.Dec.{eqb}
 use Rattle.model.specs.Notation.{if_then_else_}
+use Rattle.model.specs.Numbers as refusal
 use Rattle.model.specs.Bytes.{Bytes}
 use Rattle.model.specs.Refusals.{wrongTable}
 use Rattle.model.specs.Load.{load}
@@ -13,7 +14,7 @@ use Rattle.model.specs.Decision.{numberAndValues, decide}
 unfoldable pub hostCall : Bytes → Bytes → ℕ → ℕ
 hostCall file block words =
     let l = load file in
-    if wrongTable words then 1 else (if eqb (l .number) 0 then numberAndValues (decide (l .state) block) .0 else l .number)
+    if wrongTable words then refusal.wrongTable else (if eqb (l .number) 0 then numberAndValues (decide (l .state) block) .0 else l .number)
 
 -- "Table as after the load"
 unfoldable pub hostTable : Bytes → List ℕ → List ℕ

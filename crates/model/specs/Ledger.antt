@@ -3,6 +3,7 @@ use Prim.Native.Nat.{ℕ}
 use mathlib.Core.List.{List, [], _∷_}
 use lib.ListN.{length}
 use Rattle.model.specs.Notation.{if_then_else_}
+use Rattle.model.specs.Numbers as refusal
 use Rattle.model.specs.Bytes.{Bytes}
 use Rattle.model.specs.Table.{table}
 use Rattle.model.specs.State.{State, empty}
@@ -28,9 +29,9 @@ pub record Step : Type 0 where
 
 -- "1: table not 1,024 words, any call. … a load gives the empty book, an edit keeps its own"; "2 has line 0, as has 1"
 abbrev pub withoutTable : State → Call → Step
-withoutTable S (load file) = record { answer = loaded 1 0; state = empty }
-withoutTable S (edit line) = record { answer = edited 1 0; state = S }
-withoutTable S (request block) = record { answer = decided (refused 1); state = S }
+withoutTable S (load file) = record { answer = loaded refusal.wrongTable 0; state = empty }
+withoutTable S (edit line) = record { answer = edited refusal.wrongTable 0; state = S }
+withoutTable S (request block) = record { answer = decided (refused refusal.wrongTable); state = S }
 
 -- "A load gives both anew, or the empty D and T when refused"; "a refused edit or a request changes nothing"
 abbrev pub withTable : State → Call → Step

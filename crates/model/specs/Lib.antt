@@ -33,6 +33,7 @@ pub mod Decision
 -- "The ledger"
 pub mod Ledger
 -- "Numbers a caller may meet"
+pub mod Numbers
 pub mod Refusals
 -- What holds of every state in a ledger
 pub mod Standing

@@ -4,6 +4,7 @@ use mathlib.Core.List.{List, [], _∷_}
 use mathlib.Core.Option.{Option, none, some}
 use lib.Dec.{eqb}
 use Rattle.model.specs.Notation.{if_then_else_, _>>=_}
+use Rattle.model.specs.Numbers as refusal
 use Rattle.model.specs.Bytes.{Bytes, linesOf}
 use Rattle.model.specs.Keys.{Key}
 use Rattle.model.specs.Lines.{Line, framed, readLine}
@@ -44,6 +45,6 @@ otherLines (l ∷ ls) = ls
 -- "2 has line 0", "3: first line …, wrong or missing (line 1)"
 unfoldable pub load : Bytes → Loaded
 load file =
-    if tooLong file then refusedAt 2 0
-    else (if wrongFirstLine file then refusedAt 3 1
+    if tooLong file then refusedAt refusal.tooLong 0
+    else (if wrongFirstLine file then refusedAt refusal.wrongFirstLine 1
     else readOn empty none 1 (otherLines (linesOf file)))

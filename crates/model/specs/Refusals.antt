@@ -7,6 +7,7 @@ use lib.ListN.{length}
 use lib.Dec.{eqb, leb, ltb}
 use Rattle.model.specs.Notation.{_>>=_, _or-else_, _is_, isNone, any, all, nth, below}
 use Rattle.model.specs.Limits.{fileBytes, attributeLimit, operationLimit, pairLimit, ruleLimit, holderNumbers, groupLimit, tableWords, maskBits}
+use Rattle.model.specs.Numbers as refusal
 use Rattle.model.specs.Bytes.{Bytes, bytes, behind}
 use Rattle.model.specs.Attributes.{Source, AtomType, fromBlock, sameType, sameSource}
 use Rattle.model.specs.Atoms.{typeOf}
@@ -141,15 +142,15 @@ circular S l = tieOf (S .declared) l is tieCloses (holderNumbersOf (S .declared)
 abbrev pub lineTests : State → Option Key → Bytes → List Test
 lineTests S previous line =
     let l = readLine line in
-    (4 if unframed line
-    ∷ 5 if outOfOrder previous line
-    ∷ 6 if malformed line
-    ∷ 7 if (l is overLimits)
-    ∷ 8 if (l is undeclared (S .declared))
-    ∷ 9 if (l is wrongSort (S .declared))
-    ∷ 10 if (l is repeated S)
-    ∷ 11 if (l is full (S .declared))
-    ∷ 12 if (l is circular S)
+    (refusal.unframed if unframed line
+    ∷ refusal.outOfOrder if outOfOrder previous line
+    ∷ refusal.malformed if malformed line
+    ∷ refusal.overLimits if (l is overLimits)
+    ∷ refusal.undeclared if (l is undeclared (S .declared))
+    ∷ refusal.wrongSort if (l is wrongSort (S .declared))
+    ∷ refusal.repeated if (l is repeated S)
+    ∷ refusal.full if (l is full (S .declared))
+    ∷ refusal.circular if (l is circular S)
     ∷ [])
 
 -- "Lower numbers win within a line or call"
@@ -183,14 +184,14 @@ abbrev pub editTests : State → Bytes → List Test
 editTests S edit =
     let line = signedLine edit in
     let l = line >>= readLine in
-    (4 if (isNone line || (line is unframed))
-    ∷ 13 if (line is otherKey)
-    ∷ 6 if (line is malformed)
-    ∷ 8 if (l is undeclared (S .declared))
-    ∷ 9 if (l is wrongSort (S .declared))
-    ∷ 10 if ((plusLine edit >>= readLine) is repeated S)
-    ∷ 12 if ((plusLine edit >>= readLine) is circular S)
-    ∷ 14 if ((minusLine edit >>= readLine) is notStanding S)
+    (refusal.unframed if (isNone line || (line is unframed))
+    ∷ refusal.otherKey if (line is otherKey)
+    ∷ refusal.malformed if (line is malformed)
+    ∷ refusal.undeclared if (l is undeclared (S .declared))
+    ∷ refusal.wrongSort if (l is wrongSort (S .declared))
+    ∷ refusal.repeated if ((plusLine edit >>= readLine) is repeated S)
+    ∷ refusal.circular if ((plusLine edit >>= readLine) is circular S)
+    ∷ refusal.notStanding if ((minusLine edit >>= readLine) is notStanding S)
     ∷ [])
 
 -- the number of an edit; 0 where it is accepted
@@ -234,9 +235,9 @@ notHeld S b = any (λ k. activated b k && not (isHeld S b k)) (below maskBits)
 abbrev pub requestTests : State → Bytes → List Test
 requestTests S block =
     let b = readBlock block in
-    (15 if badBlock block
-    ∷ 16 if (b is wrongNumber (S .declared))
-    ∷ 17 if (b is notHeld S)
+    (refusal.badBlock if badBlock block
+    ∷ refusal.wrongNumber if (b is wrongNumber (S .declared))
+    ∷ refusal.notHeld if (b is notHeld S)
     ∷ [])
 
 unfoldable pub requestRefusal : State → Bytes → ℕ

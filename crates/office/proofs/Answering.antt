@@ -17,7 +17,7 @@ use Rattle.engine.proofs.Runs.{does-gives, together-after}
 use Rattle.engine.proofs.Promises.{line-edited, request-decided}
 use Rattle.office.specs.Command.{CommandTold}
 use Rattle.office.specs.declared.command.Command.{Command}
-use Rattle.office.specs.Output.{PutShort}
+use Rattle.office.specs.Printing.{PrintedAt}
 use Rattle.office.specs.Answers.{memory, MemoryOf, Prints, EditAnswered, RequestAnswered, CommandAnswered}
 
 -- an outcome given: its answer is printed
@@ -45,34 +45,32 @@ bad-prints S l rest stands = record { state = S; stands = stands; prints = refl 
 
 -- by what is known of the line
 pub call-answered : (line : Bytes) (c : Call) (before after : Memory) (a : Answer) {out : Bytes} {at : ℕ} {out′ : Bytes} {r : ℕ} → callOf line ≡ some c
-    → Does c before a after → length (after .words) ≡ length (before .words) → PutShort out at (printed a) out′ r → CommandAnswered line before after out at out′ r
-call-answered line c before after a e does same p = record {
+    → Does c before a after → length (before .words) ≡ tableWords → PrintedAt out at (printed a) out′ r → CommandAnswered line before after out at out′ r
+call-answered line c before after a e does long p = record {
   text = printed a;
   answer = p;
-  table-long = same;
-  goes-on = λ S rest stands long.
+  goes-on = λ S rest stands.
       subst (λ (o : Option Call). Prints S (o ∷ rest) (printed a) rest after) (sym e) (call-prints S c before after a rest does stands long);
 }
 
-pub bad-answered : (line : Bytes) (l : Memory) {out : Bytes} {at : ℕ} {out′ : Bytes} {r : ℕ} → callOf line ≡ none → PutShort out at (bytes "bad=\n") out′ r
+pub bad-answered : (line : Bytes) (l : Memory) {out : Bytes} {at : ℕ} {out′ : Bytes} {r : ℕ} → callOf line ≡ none → PrintedAt out at (bytes "bad=\n") out′ r
     → CommandAnswered line l l out at out′ r
 bad-answered line l e p = record {
   text = bytes "bad=\n";
   answer = p;
-  table-long = refl;
-  goes-on = λ S rest stands long. subst (λ (o : Option Call). Prints S (o ∷ rest) (bytes "bad=\n") rest l) (sym e) (bad-prints S l rest stands);
+  goes-on = λ S rest stands. subst (λ (o : Option Call). Prints S (o ∷ rest) (bytes "bad=\n") rest l) (sym e) (bad-prints S l rest stands);
 }
 
 pub edit-answered : (line : Bytes) (book words book′ words′ : List ℕ) (code out : Bytes) (at : ℕ) (out′ : Bytes) (r : ℕ) → callOf line ≡ some (Call.edit line)
     → EditAnswered line book words book′ words′ out at out′ r → CommandAnswered line (memory book code words) (memory book′ code words′) out at out′ r
 edit-answered line book words book′ words′ code out at out′ r e p =
     call-answered line (Call.edit line) (memory book code words) (memory book′ code words′) (edited (p .number) (p .count)) e
-    (line-edited (memory book code words) (memory book′ code words′) (p .call) refl) (p .call .table-long) (p .answer)
+    (line-edited (memory book code words) (memory book′ code words′) (p .call) refl) (p .table-long) (p .answer)
 
 pub request-answered : (line block : Bytes) (l : Memory) (out : Bytes) (at : ℕ) (out′ : Bytes) (r : ℕ) → callOf line ≡ some (Call.request block)
     → RequestAnswered block l out at out′ r → CommandAnswered line l l out at out′ r
 request-answered line block l out at out′ r e p =
-    call-answered line (Call.request block) l l (decided (decisionOf (p .decision))) e (request-decided l (p .call)) refl (p .answer)
+    call-answered line (Call.request block) l l (decided (decisionOf (p .decision))) e (request-decided l (p .call)) (p .table-long) (p .answer)
 
 pub told-as : (line block : Bytes) {k kind : Command} → CommandTold line block k → k ≡ kind → CommandTold line block kind
 told-as line block t e = subst (λ (k : Command). CommandTold line block k) e t

@@ -1,45 +1,37 @@
 -- Commands answered one after another. Assumes nothing.
 use Prim.Native.Nat.{ℕ, _+_, _*_, _≤_, _<_}
-use mathlib.Core.Path.{_≡_, refl, sym, ap, ap₂, subst, _∙_}
-use mathlib.Core.List.{List, [], _∷_, _++_, append-assoc, append-nil}
+use mathlib.Core.Path.{_≡_, refl, sym, ap, subst, _∙_}
+use mathlib.Core.List.{List, [], _∷_, _++_, append-assoc}
 use mathlib.Core.Option.{Option}
 use native.Mathlib.Omega.{arith}
-use lib.ListN.{length, take, drop, length-append, length-drop, take-append-drop}
+use lib.ListN.{length, take, drop, length-append, length-drop}
 use lib.Seq.{drop-drop}
 use Rattle.model.specs.Notation.{map}
+use Rattle.model.specs.Limits.{inputBytes}
 use Rattle.model.specs.Bytes.{Bytes, linesOf}
 use Rattle.model.specs.Ledger.{Call}
 use Rattle.model.specs.Gate.{callOf, output}
 use Rattle.engine.specs.Runs.{Memory}
-use Rattle.office.specs.Output.{PutUpTo, answerBytes}
+use Rattle.output.specs.Laid.{far}
+use Rattle.output.proofs.Laying.{laid-none, laid-on, laid-length}
+use Rattle.office.specs.Printing.{answerBytes}
 use Rattle.office.specs.declared.answer.Reached.{Reached}
 use Rattle.office.specs.Answers.{FirstAnswered, AnsweredTo}
-use Rattle.office.proofs.OutputPuts.{put-length, put-put}
-
--- nothing is put
-put-nothing : (out : Bytes) (at : ℕ) → PutUpTo out at [] out at
-put-nothing out at = let z : at ≡ at + 0 = omega arith in record {
-  is = sym (take-append-drop at out) ∙ ap₂ (λ (x : Bytes) (k : ℕ). x ++ drop k out) (sym (append-nil (take at out))) z;
-  behind = z;
-}
 
 pub none-answered : (commands : Bytes) (l : Memory) (out : Bytes) (at : ℕ) → AnsweredTo commands 0 l l out at out at
 none-answered commands l out at = record {
   within = omega arith;
   text = [];
-  put = put-nothing out at;
+  laid = laid-none out at;
   short = omega arith;
-  table-long = refl;
-  goes-on = λ S stands long. record { state = S; stands = stands; prints = refl };
+  goes-on = λ S stands. record { state = S; stands = stands; prints = refl };
 }
 
 module _ {commands : Bytes} {i : ℕ} {before middle : Memory} {out : Bytes} {at : ℕ} {out₁ : Bytes} {n : ℕ} (a : AnsweredTo commands i before middle out at out₁ n)
-    (room : at + answerBytes * length commands ≤ length out) (h : i < length commands) where
-  -- there is room for the next answer
-  pub next-room : n + answerBytes ≤ length out₁
-  next-room =
-      let l : at + length (a .text) ≤ length out = omega (arith, a .short) in
-      omega (arith, a .short, a .put .behind, put-length (a .put) l)
+    (near : at ≤ answerBytes) (few : length commands ≤ inputBytes) (h : i < length commands) where
+  -- the next answer is not too far
+  pub next-near : n + answerBytes ≤ far
+  next-near = omega (arith, a .short, a .laid .behind)
 
   module _ {after : Memory} {out₂ : Bytes} {r : Reached} (first : FirstAnswered (drop i commands) middle after out₁ n out₂ r) where
     left : 1 ≤ length (drop i commands)
@@ -63,12 +55,11 @@ module _ {commands : Bytes} {i : ℕ} {before middle : Memory} {out : Bytes} {at
         record {
           within = next-place .0;
           text = a .text ++ b .text;
-          put = put-put (a .put) (omega arith) (b .answer .put);
+          laid = laid-on (a .laid) (b .answer .laid);
           short = omega (arith, first .line .some left);
-          table-long = b .table-long ∙ a .table-long;
-          goes-on = λ S stands long.
-              let x = a .goes-on S stands long in
-              let y = b .goes-on (x .state) rest (x .stands) (a .table-long ∙ long) in
+          goes-on = λ S stands.
+              let x = a .goes-on S stands in
+              let y = b .goes-on (x .state) rest (x .stands) in
               record {
                 state = y .state;
                 stands = y .stands;
@@ -82,11 +73,8 @@ pub first-as : {commands other : Bytes} {before after : Memory} {out : Bytes} {a
 first-as {before = before} {after = after} {out = out} {at = at} {out′ = out′} {r = r} e a = subst (λ (s : Bytes). FirstAnswered s before after out at out′ r) e a
 
 module _ {commands : Bytes} {i : ℕ} {before after : Memory} {out : Bytes} {at : ℕ} {out′ : Bytes} {n : ℕ} (a : AnsweredTo commands i before after out at out′ n) where
-  pub all-length : at + answerBytes * length commands ≤ length out → length out′ ≡ length out
-  all-length room =
-      let w = a .within in
-      let z = a .short in
-      put-length (a .put) (omega arith)
+  pub all-length : length out′ ≡ length out
+  all-length = laid-length (a .laid)
 
   -- none is left
   pub all-answered : length commands ≤ i → AnsweredTo commands (length commands) before after out at out′ n

@@ -1,10 +1,7 @@
--- Laws about the lines of an input, about commands, and about bytes put one behind the other.
+-- Laws about the lines of an input, about commands, and about answers printed one behind the other.
 pub mod InputLines
 pub mod Commands
-pub mod OutputPuts
-pub mod Printing
-pub mod Digits
-pub mod Lengths
+pub mod PrintedLines
 pub mod Answering
 pub mod Answers
 pub mod Whole

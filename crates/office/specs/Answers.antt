@@ -10,6 +10,7 @@ use Rattle.model.specs.Bytes.{Bytes, linesOf}
 use Rattle.model.specs.State.{State}
 use Rattle.model.specs.Ledger.{Call, edited, decided}
 use Rattle.model.specs.Gate.{callOf, printed, output}
+use Rattle.output.specs.Laid.{Laid}
 use Rattle.engine.specs.Calls.{Together}
 use Rattle.engine.specs.EditSteps.{EditCall}
 use Rattle.engine.specs.declared.Decision.{Decision}
@@ -17,7 +18,7 @@ use Rattle.engine.specs.Decisions.{decisionOf, Decides}
 use Rattle.engine.specs.Runs.{Memory}
 use Rattle.office.specs.declared.answer.Reached.{Reached}
 use Rattle.office.specs.Input.{LineLength}
-use Rattle.office.specs.Output.{PutUpTo, answerBytes, PutShort}
+use Rattle.office.specs.Printing.{answerBytes, PrintedAt}
 
 abbrev pub memory : List ℕ → Bytes → List ℕ → Memory
 memory book code words = record { book = book; code = code; words = words }
@@ -36,21 +37,22 @@ pub record Prints (S : State) (commands : List (Option Call)) (text : Bytes) (re
 pub record EditAnswered (line : Bytes) (book words book′ words′ : List ℕ) (out : Bytes) (at : ℕ) (out′ : Bytes) (r : ℕ) : Type 0 where
   pub number : ℕ
   pub count : ℕ
+  pub table-long : length words ≡ tableWords
   pub call : EditCall line book words number count words′ book′
-  pub answer : PutShort out at (printed (edited number count)) out′ r
+  pub answer : PrintedAt out at (printed (edited number count)) out′ r
 
 -- a request decided, and its answer
 pub record RequestAnswered (block : Bytes) (l : Memory) (out : Bytes) (at : ℕ) (out′ : Bytes) (r : ℕ) : Type 0 where
   pub decision : Decision
+  pub table-long : length (l .words) ≡ tableWords
   pub call : Decides block (l .book) (l .code) (l .words) decision
-  pub answer : PutShort out at (printed (decided (decisionOf decision))) out′ r
+  pub answer : PrintedAt out at (printed (decided (decisionOf decision))) out′ r
 
 -- one command answered
 pub record CommandAnswered (line : Bytes) (before after : Memory) (out : Bytes) (at : ℕ) (out′ : Bytes) (r : ℕ) : Type 0 where
   pub text : Bytes
-  pub answer : PutShort out at text out′ r
-  pub table-long : length (after .words) ≡ length (before .words)
-  pub goes-on : (S : State) (rest : List (Option Call)) → MemoryOf S before → length (before .words) ≡ tableWords → Prints S (callOf line ∷ rest) text rest after
+  pub answer : PrintedAt out at text out′ r
+  pub goes-on : (S : State) (rest : List (Option Call)) → MemoryOf S before → Prints S (callOf line ∷ rest) text rest after
 
 -- the first of some commands answered: where the next begins, and where the output ends
 pub record FirstAnswered (commands : Bytes) (before after : Memory) (out : Bytes) (at : ℕ) (out′ : Bytes) (r : Reached) : Type 0 where
@@ -61,8 +63,6 @@ pub record FirstAnswered (commands : Bytes) (before after : Memory) (out : Bytes
 pub record AnsweredTo (commands : Bytes) (i : ℕ) (before after : Memory) (out : Bytes) (at : ℕ) (out′ : Bytes) (r : ℕ) : Type 0 where
   pub within : i ≤ length commands
   pub text : Bytes
-  pub put : PutUpTo out at text out′ r
+  pub laid : Laid out at text out′ r
   pub short : length text ≤ answerBytes * i
-  pub table-long : length (after .words) ≡ length (before .words)
-  pub goes-on : (S : State) → MemoryOf S before → length (before .words) ≡ tableWords
-      → Prints S (map callOf (linesOf commands)) text (map callOf (linesOf (drop i commands))) after
+  pub goes-on : (S : State) → MemoryOf S before → Prints S (map callOf (linesOf commands)) text (map callOf (linesOf (drop i commands))) after

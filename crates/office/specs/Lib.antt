@@ -1,4 +1,4 @@
 pub mod Input
 pub mod Command
-pub mod Output
+pub mod Printing
 pub mod Answers

@@ -1,16 +1,14 @@
 // The answers: each command's call made, and what it answers printed.
-ghost use Prim.Native.Nat.{_+_, _≤_, _*_};
+ghost use Prim.Native.Nat.{_+_, _*_, _≤_};
 ghost use lib.ListN.{length};
 ghost use Rattle.model.specs.Limits.{inputBytes};
-ghost use Rattle.model.specs.Ledger.{decided};
-ghost use Rattle.model.specs.Gate.{printed};
-ghost use Rattle.engine.specs.Decisions.{decisionOf};
-ghost use Rattle.office.specs.Output.{answerBytes, PutShort};
+ghost use Rattle.output.specs.Laid.{far};
+ghost use Rattle.office.specs.Printing.{answerBytes};
 ghost use Rattle.office.specs.Answers.{memory, EditAnswered, RequestAnswered, FirstAnswered, AnsweredTo};
 use crate::command::Command;
 use book::BOOK_WORDS;
 use book::RULE_BYTES;
-use engine::Decision;
+use engine::TABLE_WORDS;
 
 // The bytes of the longest block that an input has room for.
 const BLOCK_BYTES: usize = 32768;
@@ -21,45 +19,33 @@ pub struct Reached {
     pub end: usize,
 }
 
-pub fn put_decision(out: &mut [u8], at: usize, decision: Decision) -> usize
-    requires { ⌜ at + answerBytes ≤ length (now out) ⌝ }
-    ensures { λ r. ⌜ PutShort (now (out .entry)) at (printed (decided (decisionOf decision))) (now (out .exit)) r ⌝ }
-{
-    match decision {
-        Decision::Permit(rule) => crate::output::put_permit(out, at, rule),
-        Decision::Deny => crate::output::put_deny(out, at),
-        Decision::Undefined => crate::output::put_undefined(out, at),
-        Decision::Refused(number) => crate::output::put_refused(out, at, number),
-    }
-}
-
 pub fn answer_edit(
     line: &[u8],
     book: &mut [u64; BOOK_WORDS],
-    table: &mut [u64],
+    table: &mut [u64; TABLE_WORDS],
     out: &mut [u8],
     at: usize,
 ) -> usize
-    requires { ⌜ at + answerBytes ≤ length (now out) ⌝ }
+    requires { ⌜ at + answerBytes ≤ far ⌝ }
     ensures { λ r. ⌜ EditAnswered (now (line .entry)) (now (book .entry)) (now (table .entry)) (now (book .exit)) (now (table .exit)) (now (out .entry)) at (now (out .exit)) r ⌝ }
 {
     let edited = engine::edit::edit(line, book, table);
-    crate::output::put_edit(out, at, edited.number, edited.count)
+    crate::printing::put_pair(out, at, b"edit=", edited.number as u32, edited.count)
 }
 
 pub fn answer_request(
     block: &[u8],
     book: &[u64; BOOK_WORDS],
     rules: &[u8; RULE_BYTES],
-    table: &[u64],
+    table: &[u64; TABLE_WORDS],
     out: &mut [u8],
     at: usize,
 ) -> usize
-    requires { ⌜ at + answerBytes ≤ length (now out) ⌝ }
+    requires { ⌜ at + answerBytes ≤ far ⌝ }
     ensures { λ r. ⌜ RequestAnswered (now (block .entry)) (memory (now (book .entry)) (now (rules .entry)) (now (table .entry))) (now (out .entry)) at (now (out .exit)) r ⌝ }
 {
     let decision = engine::decide(block, book, rules, table);
-    put_decision(out, at, decision)
+    crate::printing::put_decision(out, at, decision)
 }
 
 // Answers the first of some commands. The buffer is room for its block.
@@ -68,11 +54,11 @@ pub fn answer_first(
     block: &mut [u8],
     book: &mut [u64; BOOK_WORDS],
     rules: &[u8; RULE_BYTES],
-    table: &mut [u64],
+    table: &mut [u64; TABLE_WORDS],
     out: &mut [u8],
     at: usize,
 ) -> Reached
-    requires { ⌜ (at + answerBytes ≤ length (now out)) × (length (now commands) ≤ 2 * length (now block)) ⌝ }
+    requires { ⌜ (at + answerBytes ≤ far) × (length (now commands) ≤ 2 * length (now block)) ⌝ }
     ensures { λ r. ⌜ FirstAnswered (now (commands .entry)) (memory (now (book .entry)) (now (rules .entry)) (now (table .entry))) (memory (now (book .exit)) (now (rules .entry)) (now (table .exit))) (now (out .entry)) at (now (out .exit)) r ⌝ }
 {
     let next = crate::input::line_length(commands);
@@ -88,7 +74,7 @@ pub fn answer_first(
         }
         Command::Bad => Reached {
             next,
-            end: crate::output::put_bad(out, at),
+            end: output::put(out, at, b"bad=\n"),
         },
     }
 }
@@ -98,11 +84,11 @@ pub fn answer_commands(
     commands: &[u8],
     book: &mut [u64; BOOK_WORDS],
     rules: &[u8; RULE_BYTES],
-    table: &mut [u64],
+    table: &mut [u64; TABLE_WORDS],
     out: &mut [u8],
     at: usize,
 ) -> usize
-    requires { ⌜ (at + answerBytes * length (now commands) ≤ length (now out)) × (length (now commands) ≤ inputBytes) ⌝ }
+    requires { ⌜ (at ≤ answerBytes) × (length (now commands) ≤ inputBytes) ⌝ }
     ensures { λ r. ⌜ AnsweredTo (now (commands .entry)) (length (now (commands .entry))) (memory (now (book .entry)) (now (rules .entry)) (now (table .entry))) (memory (now (book .exit)) (now (rules .entry)) (now (table .exit))) (now (out .entry)) at (now (out .exit)) r ⌝ }
 {
     let mut block: [u8; BLOCK_BYTES] = [0; BLOCK_BYTES];

@@ -1,35 +1,36 @@
 // The office program on slices: what it prints for an input.
-ghost use mathlib.Core.Path.{_≡_};
 ghost use Prim.Native.Nat.{_+_, _*_, _≤_};
-ghost use lib.ListN.{length, take};
+ghost use lib.ListN.{length};
 ghost use Rattle.model.specs.Gate.{gate};
-ghost use Rattle.office.specs.Output.{answerBytes};
+ghost use Rattle.output.specs.Laid.{Laid};
+ghost use Rattle.office.specs.Printing.{answerBytes};
 use book::BOOK_WORDS;
 use book::RULE_BYTES;
+use codes::TOO_LONG;
+use engine::TABLE_WORDS;
 
 pub mod answer;
 pub mod command;
 pub mod input;
-pub mod output;
+pub mod printing;
 
 // "Over 65,536 bytes: `load=2,0` alone."
 pub const INPUT_BYTES: usize = 65536;
 
-// Writes the output of an input, and answers how long it is. There is room for the longest answer to a load and to each byte.
+// Lays the output of an input over a buffer, and answers how long it is; what lies behind the buffer's end is counted and not written.
 pub fn run(input: &[u8], out: &mut [u8]) -> usize
-    requires { ⌜ answerBytes + answerBytes * length (now input) ≤ length (now out) ⌝ }
-    ensures { λ r. ⌜ (r ≤ length (now (out .entry))) × (take r (now (out .exit)) ≡ gate (now (input .entry))) ⌝ }
+    ensures { λ r. ⌜ Laid (now (out .entry)) 0 (gate (now (input .entry))) (now (out .exit)) r × (r ≤ answerBytes + answerBytes * length (now (input .entry))) ⌝ }
 {
     if INPUT_BYTES < input.len() {
-        return output::put_load(out, 0, 2, 0);
+        return printing::put_pair(out, 0, b"load=", TOO_LONG as u32, 0);
     }
     let places = input::split(input);
     let file = places.file;
     let commands = places.commands;
     let mut book: [u64; BOOK_WORDS] = [0; BOOK_WORDS];
     let mut rules: [u8; RULE_BYTES] = [0; RULE_BYTES];
-    let mut table: [u64; 1024] = [0; 1024];
+    let mut table: [u64; TABLE_WORDS] = [0; TABLE_WORDS];
     let loaded = engine::load::load(&input[..file], &mut book, &mut rules, &mut table);
-    let at = output::put_load(out, 0, loaded.number, loaded.line);
+    let at = printing::put_pair(out, 0, b"load=", loaded.number as u32, loaded.line);
     answer::answer_commands(&input[commands..], &mut book, &rules, &mut table, out, at)
 }

@@ -11,6 +11,7 @@ use lib.ListN.{length, getD, drop}
 use lib.Seq.{drop-drop}
 use borrow.Author.Tests.{lt-ltb, le-ltb}
 use Rattle.model.specs.Notation.{_>>=_, _is_, isNone, any, all}
+use Rattle.model.specs.Numbers as refusal
 use Rattle.model.specs.Bytes.{Bytes}
 use Rattle.model.specs.Truth as truth
 use Rattle.model.specs.Declarations.{Declarations}
@@ -103,29 +104,29 @@ module _ (x : Part) where
 -- ---- the order of the refusals
 
 module _ (r : Reading) (unknown : Bool) where
-  pub refuse-none : r ≡ Malformed → Refuses r unknown 6
+  pub refuse-none : r ≡ Malformed → Refuses r unknown refusal.malformed
   refuse-none e code L A o D ts a u = go o (subst (λ (q : Reading). WholeAnswers code L A q o) e a)
     where
-      go : (o : Option Policy) → WholeAnswers code L A Malformed o → 6 ≡ first (policyTests D (some ts) o)
+      go : (o : Option Policy) → WholeAnswers code L A Malformed o → refusal.malformed ≡ first (policyTests D (some ts) o)
       go none a = refl
       go (some p) a = absurd a
 
   module _ (x : Part) (e : r ≡ Read x) (b : Bool) (l : b ≡ over x (ltb 16 (x .terms)) (ltb 8 (x .depth)) (ltb 8 (x .largest))) where
-    refuse-read : (n : ℕ) → n ≡ first (7 if b ∷ 8 if unknown ∷ []) → Refuses r unknown n
+    refuse-read : (n : ℕ) → n ≡ first (refusal.overLimits if b ∷ refusal.undeclared if unknown ∷ []) → Refuses r unknown n
     refuse-read n f code L A o D ts a u = go o (subst (λ (q : Reading). WholeAnswers code L A q o) e a)
       where
         go : (o : Option Policy) → WholeAnswers code L A (Read x) o → n ≡ first (policyTests D (some ts) o)
         go none a = absurd a
-        go (some p) a = f ∙ ap₂ (λ (c d : Bool). first (7 if c ∷ 8 if d ∷ [])) (l ∙ large x a) u
+        go (some p) a = f ∙ ap₂ (λ (c d : Bool). first (refusal.overLimits if c ∷ refusal.undeclared if d ∷ [])) (l ∙ large x a) u
 
-    pub refuse-large : b ≡ true → Refuses r unknown 7
-    refuse-large z = refuse-read 7 (sym (ap (λ (c : Bool). first (7 if c ∷ 8 if unknown ∷ [])) z))
+    pub refuse-large : b ≡ true → Refuses r unknown refusal.overLimits
+    refuse-large z = refuse-read refusal.overLimits (sym (ap (λ (c : Bool). first (refusal.overLimits if c ∷ refusal.undeclared if unknown ∷ [])) z))
 
-    pub refuse-unknown : b ≡ false → unknown ≡ true → Refuses r unknown 8
-    refuse-unknown z u = refuse-read 8 (sym (ap₂ (λ (c d : Bool). first (7 if c ∷ 8 if d ∷ [])) z u))
+    pub refuse-unknown : b ≡ false → unknown ≡ true → Refuses r unknown refusal.undeclared
+    refuse-unknown z u = refuse-read refusal.undeclared (sym (ap₂ (λ (c d : Bool). first (refusal.overLimits if c ∷ refusal.undeclared if d ∷ [])) z u))
 
     pub accept : b ≡ false → unknown ≡ false → Refuses r unknown 0
-    accept z u = refuse-read 0 (sym (ap₂ (λ (c d : Bool). first (7 if c ∷ 8 if d ∷ [])) z u))
+    accept z u = refuse-read 0 (sym (ap₂ (λ (c d : Bool). first (refusal.overLimits if c ∷ refusal.undeclared if d ∷ [])) z u))
 
 -- ---- judging
 
@@ -141,11 +142,11 @@ module _ (s : Bytes) (rows : List ℕ) (before after : Bytes) (c : Encoded) (E :
         ∙ drop-drop (3 * length s + 3 - c .len) (c .len) before ∙ ap (λ (k : ℕ). drop k before) m;
   }
 
-  pub judge-bad : c .bad ≡ true → Judges s rows before after 6
+  pub judge-bad : c .bad ≡ true → Judges s rows before after refusal.malformed
   unfolding policyNumber
   judge-bad z = judges-by 6 (λ D ord ar. go D (tokensOf s) (sym (E .bad) ∙ z))
     where
-      go : (D : Declarations) (o : Option (List Token)) → isNone o ≡ true → 6 ≡ first (policyTests D o (o >>= readPolicy))
+      go : (D : Declarations) (o : Option (List Token)) → isNone o ≡ true → refusal.malformed ≡ first (policyTests D o (o >>= readPolicy))
       go D none e = refl
       go D (some ts) e = false-is-true e
 

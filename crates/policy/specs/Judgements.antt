@@ -5,6 +5,7 @@ use mathlib.Core.Bool.{Bool, true, false}
 use mathlib.Core.List.{List, [], _∷_, _++_}
 use mathlib.Core.Option.{Option, none, some}
 use lib.ListN.{length, drop}
+use Rattle.model.specs.Numbers as refusal
 use Rattle.model.specs.Notation.{_>>=_, _is_, isNone, any, all}
 use Rattle.model.specs.Bytes.{Bytes}
 use Rattle.model.specs.Declarations.{Declarations}
@@ -34,7 +35,7 @@ Ends code r q = (L : Lending) (A : Asked) (o : grammar.Reading) → Answers code
 
 -- the tests of a policy alone: 6 malformed, 7 over the limits, 8 a name that is not declared
 abbrev pub policyTests : Declarations → Option (List Token) → Option Policy → List Test
-policyTests D ts p = 6 if isNone p ∷ 7 if (p is tooLarge) ∷ 8 if (ts is any (unknownName D)) ∷ []
+policyTests D ts p = refusal.malformed if isNone p ∷ refusal.overLimits if (p is tooLarge) ∷ refusal.undeclared if (ts is any (unknownName D)) ∷ []
 
 unfoldable pub policyNumber : Declarations → Bytes → ℕ
 policyNumber D s = first (policyTests D (tokensOf s) (tokensOf s >>= readPolicy))

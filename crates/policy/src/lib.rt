@@ -19,13 +19,16 @@ use codes::FALSE;
 use codes::INT;
 use codes::LBRACE;
 use codes::LPAREN;
+use codes::MALFORMED;
 use codes::NAME;
 use codes::NOT;
 use codes::OR;
+use codes::OVER_LIMITS;
 use codes::RBRACE;
 use codes::RPAREN;
 use codes::STR;
 use codes::TRUE;
+use codes::UNDECLARED;
 use codes::UNDEF;
 use truth::Truth;
 use values::Operand;
@@ -591,13 +594,13 @@ fn refusal(r: Reading, unknown: bool) -> u8
     ensures { λ n. ⌜ Refuses r unknown n ⌝ }
 {
     match r {
-        Reading::Malformed => 6,
+        Reading::Malformed => MALFORMED,
         Reading::Read(x) => {
             if is_large(x) {
-                return 7;
+                return OVER_LIMITS;
             }
             if unknown {
-                return 8;
+                return UNDECLARED;
             }
             0
         }
@@ -611,7 +614,7 @@ pub fn judge(s: &[u8], attributes: &[u64], code: &mut [u8]) -> u8
 {
     let c = tokens::encode(s, attributes, code);
     if c.bad {
-        return 6;
+        return MALFORMED;
     }
     let pairs: [u64; 1024] = [0; 1024];
     let session: [u64; 128] = [0; 128];

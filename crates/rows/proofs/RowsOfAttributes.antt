@@ -20,15 +20,15 @@ use Rattle.model.proofs.Declared.{named-eq}
 use Rattle.codes.specs.Codes.{sourceCode}
 use Rattle.codes.proofs.Codes.{source-some}
 use Rattle.text.specs.declared.Packed.{Packed}
-use Rattle.text.specs.Packing.{packedOf}
-use Rattle.text.proofs.Packing.{name-same}
+use Rattle.text.specs.Packing.{packedOf, packedAt}
+use Rattle.text.proofs.Packing.{named-at}
 use Rattle.model.specs.Standing.{WellDeclared}
 use Rattle.rows.specs.Rows.{rowNamed, AttributeRows, Numbered, numberOr}
 use Rattle.rows.proofs.FirstPlaces.{place-none, place-first}
 
--- the last of three tests, behind those that were passed
-pub last-test : (a b c d e f : ℕ) → a ≡ b → c ≡ d → eqb e f ≡ (eqb a b && (eqb c d && eqb e f))
-last-test a b c d e f p q = rw (eq-eqb a b p, eq-eqb c d q)
+-- a test behind one that was passed
+pub behind-first : (a b : ℕ) (r t : Bool) → a ≡ b → r ≡ t → r ≡ (eqb a b && t)
+behind-first a b r t e f = rw (eq-eqb a b e) f
 
 source-same : (s t : Source) → eqb (sourceCode s) (sourceCode t) ≡ sameSource s t
 source-same Source.user Source.user = refl
@@ -57,14 +57,6 @@ source-same Source.connect Source.admin = refl
 source-same Source.connect Source.env = refl
 source-same Source.connect Source.connect = refl
 
-both-words : (a b c d : ℕ) → (eqb a b && eqb c d) ≡ same (a ∷ c ∷ []) (b ∷ d ∷ [])
-both-words a b c d = go (eqb a b) (eqb c d)
-  where
-    go : (s t : Bool) → (s && t) ≡ elim s as (λ _. Bool) [ true ↦ elim t as (λ _. Bool) [ true ↦ true | false ↦ false ] | false ↦ false ]
-    go true true = refl
-    go true false = refl
-    go false t = refl
-
 module _ (rows : List ℕ) (D : Declarations) (well : WellDeclared D) (ar : AttributeRows rows D)
     (s : Source) (n : Bytes) (name : isName n ≡ true) (source low high : ℕ) (from : source ≡ sourceCode s) (words : packedOf n ≡ record { low = low; high = high }) where
   -- a row has that source and name where its attribute has
@@ -74,17 +66,16 @@ module _ (rows : List ℕ) (D : Declarations) (well : WellDeclared D) (ar : Attr
       let r = ar .row i a e in
       ap₂ (λ (x y : Bool). x && y)
       (ap₂ eqb (r .source) from ∙ source-same (a .source) s)
-      (ap₂ (λ (x y : Bool). x && y)
-      (ap₂ eqb (r .low) (sym (ap (λ (p : Packed). p .low) words)))
-      (ap₂ eqb (r .high) (sym (ap (λ (p : Packed). p .high) words)))
-      ∙ both-words (packedOf (a .name) .low) (packedOf n .low) (packedOf (a .name) .high) (packedOf n .high)
-      ∙ name-same (a .name) n (well .attributes .named i a e) name)
+      (named-at rows (8 * i + 2) (a .name) n (well .attributes .named i a e) name words (r .low) (ap (λ (k : ℕ). getD rows k 0) next ∙ r .high))
+    where
+      next : 8 * i + 2 + 1 ≡ 8 * i + 3
+      next = omega arith
 
   -- a row behind the attributes has no source
   row-other : (i : ℕ) → length (D .attributes) ≤ i → i < 32 → rowNamed rows source low high i ≡ false
   unfolding rowNamed
   row-other i h l =
-      ap (λ (t : Bool). t && (eqb (getD rows (8 * i + 2) 0) low && eqb (getD rows (8 * i + 3) 0) high))
+      ap (λ (t : Bool). t && packedAt rows (8 * i + 2) low high)
       (ne-eqb (getD rows (8 * i) 0) source (λ e. source-some s (sym (sym (ar .other i h l) ∙ e ∙ from))))
 
   -- no attribute has that source and name

@@ -14,7 +14,7 @@ use Rattle.model.specs.Attributes.{Source}
 use Rattle.model.specs.Declarations.{Declarations, Attribute, Pair, attributeNumber}
 use Rattle.bits.specs.Bits.{bit}
 use Rattle.codes.specs.Codes.{sourceCode, typeCode}
-use Rattle.text.specs.Packing.{packedOf}
+use Rattle.text.specs.Packing.{packedOf, packedAt}
 use Rattle.text.specs.Values.{atomWords}
 use Rattle.model.specs.Standing.{WellDeclared}
 
@@ -58,7 +58,7 @@ pub record PairRows (rows : List ℕ) (D : Declarations) : Type 0 where
 
 -- row i of attributes has that source and name
 unfoldable pub rowNamed : List ℕ → ℕ → ℕ → ℕ → ℕ → Bool
-rowNamed rows source low high i = eqb (getD rows (8 * i) 0) source && (eqb (getD rows (8 * i + 2) 0) low && eqb (getD rows (8 * i + 3) 0) high)
+rowNamed rows source low high i = eqb (getD rows (8 * i) 0) source && packedAt rows (8 * i + 2) low high
 
 -- a number, or k where there is none
 abbrev pub numberOr : ℕ → Option ℕ → ℕ

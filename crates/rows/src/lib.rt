@@ -16,10 +16,7 @@ fn is_named(attributes: &[u64], i: usize, source: u8, low: u64, high: u64) -> bo
     if attributes[at] != source as u64 {
         return false;
     }
-    if attributes[at + 2] != low {
-        return false;
-    }
-    attributes[at + 3] == high
+    text::is_packed_at(attributes, at + 2, low, high)
 }
 
 // The number of the attribute of that source and name; the number of none where there is none.

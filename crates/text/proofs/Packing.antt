@@ -1,15 +1,15 @@
 -- Words of eight bytes tell the bytes, for any number of words. Assumes nothing.
 use Prim.Native.Nat.{ℕ, zero, suc, _+_, _-_, _*_, _^_, _≤_, _<_}
-use mathlib.Core.Path.{_≡_, refl, sym, ap, _∙_, subst}
-use mathlib.Core.Bool.{Bool, true, _&&_, _||_}
+use mathlib.Core.Path.{_≡_, refl, sym, ap, ap₂, _∙_, subst}
+use mathlib.Core.Bool.{Bool, true, false, _&&_, _||_}
 use mathlib.Core.Logic.{_⊎_, inl, inr}
-use mathlib.Core.List.{[], _∷_, _++_}
+use mathlib.Core.List.{List, [], _∷_, _++_}
 use native.Mathlib.Omega.{arith}
 use native.Mathlib.Nat.{pow-suc, pow-le-pow-right, lt-of-lt-of-le}
-use borrow.Author.Tests.{leb-true, le-leb, eqb-true}
+use borrow.Author.Tests.{leb-true, le-leb, eqb-true, eq-eqb}
 use lib.ListN.{length, getD, take, drop, take-append-drop, length-drop}
 use lib.Seq.{getD-drop}
-use lib.Dec.{leb, lit<}
+use lib.Dec.{eqb, leb, lit<}
 use Rattle.model.specs.Notation.{all}
 use Rattle.model.specs.Limits.{nameBytes, textBytes}
 use Rattle.model.specs.Bytes.{Bytes, same, inRange, isByte}
@@ -20,7 +20,8 @@ use Rattle.model.proofs.WordTables.{same-eq, same-refl}
 use Rattle.model.proofs.Options.{parts, both}
 use Rattle.model.proofs.Lists.{all-parts, all-cons, all-by, same-truth, or-cases}
 use Rattle.model.proofs.Names.{name-all}
-use Rattle.text.specs.Packing.{wordBytes, packed, packedOf, twoWords, threeWords, listOf, solid}
+use Rattle.text.specs.declared.Packed.{Packed}
+use Rattle.text.specs.Packing.{wordBytes, packed, packedOf, packedAt, twoWords, threeWords, listOf, solid}
 use Rattle.text.proofs.LoopPlaces.{next}
 
 -- the number of bytes, on the way from the end of a list to its front
@@ -162,6 +163,27 @@ name-same s t p q =
     let h = name-length s p in
     let k = name-length t q in
     packed-same 2 s t (name-solid s p) (name-solid t q) (omega arith) (omega arith)
+
+-- the last of two tests, behind one that was passed
+pub second-test : (a b c d : ℕ) → a ≡ b → eqb c d ≡ (eqb a b && eqb c d)
+second-test a b c d e = rw (eq-eqb a b e)
+
+both-words : (a b c d : ℕ) → (eqb a b && eqb c d) ≡ same (a ∷ c ∷ []) (b ∷ d ∷ [])
+both-words a b c d = go (eqb a b) (eqb c d)
+  where
+    go : (s t : Bool) → (s && t) ≡ elim s as (λ _. Bool) [ true ↦ elim t as (λ _. Bool) [ true ↦ true | false ↦ false ] | false ↦ false ]
+    go true true = refl
+    go true false = refl
+    go false t = refl
+
+-- two words that hold a name are another's where the names are the same
+pub named-at : (words : List ℕ) (at : ℕ) (m n : Bytes) {low high : ℕ} → isName m ≡ true → isName n ≡ true → packedOf n ≡ record { low = low; high = high }
+    → getD words at 0 ≡ packedOf m .low → getD words (at + 1) 0 ≡ packedOf m .high → packedAt words at low high ≡ same m n
+unfolding packedAt
+named-at words at m n p q e first second =
+    ap₂ (λ (x y : Bool). x && y) (ap₂ eqb first (sym (ap (λ (p : Packed). p .low) e))) (ap₂ eqb second (sym (ap (λ (p : Packed). p .high) e)))
+    ∙ both-words (packedOf m .low) (packedOf n .low) (packedOf m .high) (packedOf n .high)
+    ∙ name-same m n p q
 
 pub text-same : (s t : Bytes) → isText s ≡ true → isText t ≡ true → same (listOf (threeWords s)) (listOf (threeWords t)) ≡ same s t
 text-same s t p q =

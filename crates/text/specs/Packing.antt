@@ -1,9 +1,9 @@
 -- A text as numbers: words of eight bytes, low byte first.
-use Prim.Native.Nat.{ℕ, zero, suc}
+use Prim.Native.Nat.{ℕ, zero, suc, _+_}
 use mathlib.Core.Bool.{Bool, _&&_}
 use mathlib.Core.List.{List, [], _∷_}
-use lib.ListN.{take, drop}
-use lib.Dec.{leb}
+use lib.ListN.{getD, take, drop}
+use lib.Dec.{eqb, leb}
 use Rattle.model.specs.Bytes.{Bytes}
 use Rattle.model.specs.Block.{number}
 use Rattle.text.specs.declared.Packed.{Packed}
@@ -20,6 +20,10 @@ packed (suc n) s = number (take wordBytes s) ∷ packed n (drop wordBytes s)
 -- bytes in two words: the numbers of `packed 2`
 abbrev pub packedOf : Bytes → Packed
 packedOf s = record { low = number (take wordBytes s); high = number (take wordBytes (drop wordBytes s)) }
+
+-- the two words from a place on are these
+unfoldable pub packedAt : List ℕ → ℕ → ℕ → ℕ → Bool
+packedAt words at low high = eqb (getD words at 0) low && eqb (getD words (at + 1) 0) high
 
 abbrev pub twoWords : Packed → List ℕ
 twoWords p = p .low ∷ p .high ∷ []

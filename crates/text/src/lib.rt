@@ -1,7 +1,7 @@
 // Readers of the parts of a line: each takes the bytes of one part and says what the specification reads in them.
 ghost use mathlib.Core.Path.{_≡_};
 ghost use mathlib.Core.Bool.{true};
-ghost use Prim.Native.Nat.{_≤_, _/_};
+ghost use Prim.Native.Nat.{_+_, _/_, _≤_, _<_};
 ghost use lib.ListN.{length};
 ghost use Rattle.model.specs.Notation.{if_then_else_, all};
 ghost use Rattle.model.specs.Bytes.{same};
@@ -11,7 +11,7 @@ ghost use Rattle.model.specs.Block.{number};
 ghost use Rattle.model.specs.Gate.{hexDigit};
 ghost use Rattle.text.specs.Parts.{FirstAt, inClass, Quoted};
 ghost use Rattle.text.specs.ReadCodes.{sourceNumber, typeNumber, keyNumber, boolNumber, isDecimal, limited, codedInt};
-ghost use Rattle.text.specs.Packing.{packedOf, threeWords};
+ghost use Rattle.text.specs.Packing.{packedOf, packedAt, threeWords};
 ghost use Rattle.text.specs.Values.{words, value, codedAtom};
 ghost use Rattle.text.specs.Hex.{digitCode, hexPairOf, pairCode, Unhexed};
 use codes::ADMIN;
@@ -325,6 +325,17 @@ pub fn pack(s: &[u8]) -> Packed
         low: word_of(&s[..8]),
         high: word_of(&s[8..]),
     }
+}
+
+// Whether the two words from a place on are those of a packed name.
+pub fn is_packed_at(words: &[u64], at: usize, low: u64, high: u64) -> bool
+    requires { ⌜ at + 1 < length (now words) ⌝ }
+    ensures { λ r. ⌜ r ≡ packedAt (now (words .entry)) at low high ⌝ }
+{
+    if words[at] != low {
+        return false;
+    }
+    words[at + 1] == high
 }
 
 pub fn words_of(s: &[u8]) -> Words

@@ -6,7 +6,6 @@ pub mod Taken
 pub mod Seen
 pub mod RuleCode
 pub mod SameCode
-pub mod CodePuts
 pub mod Wrote
 pub mod Passed
 pub mod Bound

@@ -21,7 +21,7 @@ use Rattle.tokens.specs.declared.Written.{Written}
 use Rattle.tokens.specs.RuleCode.{encodeToken, ruleCode, size, Encodes, CodeOf}
 use Rattle.tokens.specs.TokenAt.{codeOf, placed, tokenAt, lead}
 use Rattle.tokens.specs.Writing.{TokenStands, Given, Wrote}
-use Rattle.tokens.proofs.CodePuts.{put-front, put-behind, put-length}
+use Rattle.output.proofs.Laying.{laid-front, laid-rest, laid-length}
 use Rattle.tokens.proofs.Seen.{within-enough, within-nil, CodeRoom, ReadAt, Seen, ended, refused, read, seen}
 
 -- laws of lists that are gone through from the front
@@ -148,19 +148,19 @@ module _ {s : Bytes} {attributes : List ℕ} {before code : Bytes} {at len : ℕ
       step next more n h r left known =
           let f = r .few in
           let l = p .long in
-          let e = put .len in
+          let e = put .laid .behind in
           let fits : len + length (put .bytes) ≤ length code = omega arith in
           record {
             tokens = p .tokens ++ more;
             within = subst (λ (k : ℕ). k ≤ length s) (sym n) h;
             room = subst (λ (k : ℕ). CodeRoom s k (w .len)) (sym n) r;
             left = subst (λ (k : ℕ). (i m : ℕ) → length s ≤ i → length (drop k s) ≤ m → tokensWithin i s ≡ (tokensWithin m (drop k s) >>= λ ts. some (p .tokens ++ more ++ ts))) (sym n) left;
-            long = put-length (put .put) fits ∙ l;
-            behind = ap (λ (k : ℕ). drop k after) e ∙ put-behind (put .put) fits ∙ drop-more code before len (length (put .bytes)) (p .behind) ∙ ap (λ (k : ℕ). drop k before) (sym e);
+            long = laid-length (put .laid) ∙ l;
+            behind = laid-rest (put .laid) fits ∙ ap (λ (k : ℕ). drop k code) e ∙ drop-more code before len (length (put .bytes)) (p .behind) ∙ ap (λ (k : ℕ). drop k before) (sym e);
             written = λ D ord ar.
                 let (a, b) = p .written D ord ar in
                 let (x, y) = known D ord ar in (
-                  ap (λ (k : ℕ). take k after) e ∙ put-front (put .put) fits ∙ ap₂ (λ (g i : Bytes). g ++ i) a x ∙ sym (each-append (encodeToken D) (p .tokens) more),
+                  laid-front (put .laid) fits ∙ ap₂ (λ (g i : Bytes). g ++ i) a x ∙ sym (each-append (encodeToken D) (p .tokens) more),
                   ap (λ (v : Bool). v || w .unknown) b ∙ sym y,
                 );
           }
@@ -175,7 +175,7 @@ module _ {s : Bytes} {attributes : List ℕ} {before code : Bytes} {at len : ℕ
           go : Seen s at → Passed s attributes before after (t .next) (w .len) (unknown || w .unknown)
           go (ended e f) =
               let (b, v) = put .end (ap (λ (v : Placed). v .code) (here ∙ e)) in
-              let l : w .len ≡ len = put .len ∙ omega (arith, ap length b) in
+              let l : w .len ≡ len = put .laid .behind ∙ omega (arith, ap length b) in
               let few = p .room .few in
               let h = p .within in
               let nil : drop (length s) s ≡ [] = drop-of-length-le s {i = length s} (omega arith) in
@@ -188,7 +188,7 @@ module _ {s : Bytes} {attributes : List ℕ} {before code : Bytes} {at len : ℕ
           go (refused e f) = absurd (good (ap (λ (v : Placed). v .code .kind) (here ∙ e)))
           go (read u next r) =
               let st = stands t u next here r in
-              let l : len + size u ≡ w .len = sym (put .len ∙ ap (λ (k : ℕ). len + k) (put .long u st)) in
+              let l : len + size u ≡ w .len = sym (put .laid .behind ∙ ap (λ (k : ℕ). len + k) (put .long u st)) in
               step next (u ∷ []) (ap (λ (v : Placed). v .next) (here ∙ r .code)) (r .within)
               (subst (CodeRoom s next) l (r .room len (p .room)))
               (λ n m i j. p .left n (length (drop at s)) i (omega arith)

@@ -2,9 +2,9 @@
 use Prim.Native.Nat.{ℕ, _+_, _-_, _≤_}
 use mathlib.Core.Path.{_≡_, refl, sym, ap, ap₂, _∙_}
 use mathlib.Core.Bool.{false}
-use mathlib.Core.List.{List, [], _∷_, _++_, append-nil}
+use mathlib.Core.List.{List, [], _∷_}
 use native.Mathlib.Omega.{arith}
-use lib.ListN.{length, take, drop, take-append-drop}
+use lib.ListN.{length, take, drop}
 use Rattle.model.specs.Bytes.{Bytes}
 use Rattle.model.specs.Tokens.{Token, name, int, str, truth, operator, mark, isToken}
 use Rattle.model.specs.Declarations.{Declarations}
@@ -18,7 +18,9 @@ use Rattle.tokens.specs.declared.Token.{Token as Placed}
 use Rattle.tokens.specs.declared.Written.{Written}
 use Rattle.tokens.specs.RuleCode.{lowBytes, encodeToken, size}
 use Rattle.tokens.specs.TokenAt.{plainCode, sourceIn, lowIn, highIn}
-use Rattle.tokens.specs.Writing.{upTo, Put, NamePut, TokenStands, Given, ended, token, Wrote}
+use Rattle.output.specs.Laid.{Laid}
+use Rattle.output.proofs.Laying.{laid-none}
+use Rattle.tokens.specs.Writing.{NamePut, TokenStands, Given, ended, token, Wrote}
 
 -- tokens take a byte at least
 size-some : (u : Token) → 1 ≤ size u
@@ -81,46 +83,42 @@ module _ {s : Bytes} {t : Placed} {at n : ℕ} where
 
 -- what is written
 module _ {s : Bytes} {attributes : List ℕ} {t : Placed} {before : Bytes} {at : ℕ} where
-  pub wrote-end : t .code .kind ≡ 0 → (r : Written) → r ≡ upTo at → Wrote s attributes t before at before r
-  wrote-end k r e =
-      let z : at + 0 ≡ at = omega arith in
+  pub wrote-end : t .code .kind ≡ 0 → Wrote s attributes t before at before (record { len = at; unknown = false })
+  wrote-end k =
       record {
         bytes = [];
-        put = record { is = sym (ap (λ (j : ℕ). take at before ++ [] ++ drop j before) z ∙ ap (λ (l : Bytes). l ++ drop at before) (append-nil (take at before)) ∙ take-append-drop at before) };
-        len = ap (λ (w : Written). w .len) e ∙ sym z;
-        end = λ _. (refl, ap (λ (w : Written). w .unknown) e);
+        laid = laid-none before at;
+        end = λ _. (refl, refl);
         long = λ u st. absurd (omega (arith, kind-range u, kind-is st));
         token = λ D ord ar u st. absurd (omega (arith, kind-range u, kind-is st));
       }
 
-  pub wrote-int : {after : Bytes} → t .code .kind ≡ 1 → Put before at (1 ∷ lowBytes 4 (t .code .low)) after → (r : Written) → r ≡ upTo (at + 5)
+  pub wrote-int : {after : Bytes} {r : Written} → t .code .kind ≡ 1 → Laid before at (1 ∷ lowBytes 4 (t .code .low)) after (r .len) → r .unknown ≡ false
       → Wrote s attributes t before at after r
-  wrote-int k p r e =
+  wrote-int k p e =
       record {
         bytes = 1 ∷ lowBytes 4 (t .code .low);
-        put = p;
-        len = ap (λ (w : Written). w .len) e;
+        laid = p;
         end = λ f. absurd (not-end (t .code) f (λ z. omega arith));
         long = λ u st. let (m, f) = int-kind u (kind-is st ∙ k) in sym (ap size f);
         token = λ D ord ar u st.
             let (m, f) = int-kind u (kind-is st ∙ k) in (
               ap (λ (l : ℕ). 1 ∷ lowBytes 4 l) (low-is st ∙ ap lowIn f) ∙ sym (ap (encodeToken D) f),
-              ap (λ (w : Written). w .unknown) e ∙ sym (ap (unknownName D) f),
+              e ∙ sym (ap (unknownName D) f),
             );
       }
 
-  pub wrote-text : {after : Bytes} → t .code .kind ≡ 2 → (v : Bytes) → v ≡ take (t .next - 1 - (t .next - 1 - t .code .low)) (drop (t .next - 1 - t .code .low) s)
-      → Put before at (2 ∷ length v ∷ v) after → (r : Written) → r ≡ upTo (at + (length v + 2)) → Wrote s attributes t before at after r
-  wrote-text k v q p r e =
+  pub wrote-text : {after : Bytes} {r : Written} → t .code .kind ≡ 2 → (v : Bytes) → v ≡ take (t .next - 1 - (t .next - 1 - t .code .low)) (drop (t .next - 1 - t .code .low) s)
+      → Laid before at (2 ∷ length v ∷ v) after (r .len) → r .unknown ≡ false → Wrote s attributes t before at after r
+  wrote-text k v q p e =
       record {
         bytes = 2 ∷ length v ∷ v;
-        put = p;
-        len = ap (λ (w : Written). w .len) e ∙ omega arith;
+        laid = p;
         end = λ f. absurd (not-end (t .code) f (λ z. omega arith));
         long = λ u st. let (w, f, g) = spelt u st in omega (arith, ap length g, ap size f);
         token = λ D ord ar u st.
             let (w, f, g) = spelt u st in
-            (ap (λ (l : Bytes). 2 ∷ length l ∷ l) g ∙ sym (ap (encodeToken D) f), ap (λ (w : Written). w .unknown) e ∙ sym (ap (unknownName D) f));
+            (ap (λ (l : Bytes). 2 ∷ length l ∷ l) g ∙ sym (ap (encodeToken D) f), e ∙ sym (ap (unknownName D) f));
       }
     where
       spelt : (u : Token) → TokenStands s t u → (w : Bytes) × (u ≡ str w) × (v ≡ w)
@@ -132,12 +130,11 @@ module _ {s : Bytes} {attributes : List ℕ} {t : Placed} {before : Bytes} {at :
           let y : t .next - 1 - t .code .low ≡ t .next - 1 - length w = omega arith in
           (w, f, q ∙ ap₂ (λ (i j : ℕ). take i (drop j s)) z y ∙ b)
 
-  pub wrote-name : {after : Bytes} → t .code .kind ≡ 4 → (r : Written) → NamePut attributes (t .code) before at after r → Wrote s attributes t before at after r
-  wrote-name k r p =
+  pub wrote-name : {after : Bytes} {r : Written} → t .code .kind ≡ 4 → NamePut attributes (t .code) before at after r → Wrote s attributes t before at after r
+  wrote-name k p =
       record {
         bytes = 4 ∷ p .byte ∷ [];
-        put = p .put;
-        len = p .len;
+        laid = p .laid;
         end = λ f. absurd (not-end (t .code) f (λ z. omega arith));
         long = λ u st. let (a, m, f) = name-kind u (kind-is st ∙ k) in sym (ap size f);
         token = λ D ord ar u st.
@@ -149,17 +146,16 @@ module _ {s : Bytes} {attributes : List ℕ} {t : Placed} {before : Bytes} {at :
             (ap (λ (b : ℕ). 4 ∷ b ∷ []) x ∙ sym (ap (encodeToken D) f), y ∙ sym (ap (unknownName D) f));
       }
 
-  pub wrote-kind : {after : Bytes} → (t .code .kind ≡ 0 → ⊥) → (t .code .kind ≡ 1 → ⊥) → (t .code .kind ≡ 2 → ⊥) → (t .code .kind ≡ 4 → ⊥)
-      → Put before at (t .code .kind ∷ []) after → (r : Written) → r ≡ upTo (at + 1) → Wrote s attributes t before at after r
-  wrote-kind a b c d p r e =
+  pub wrote-kind : {after : Bytes} {r : Written} → (t .code .kind ≡ 0 → ⊥) → (t .code .kind ≡ 1 → ⊥) → (t .code .kind ≡ 2 → ⊥) → (t .code .kind ≡ 4 → ⊥)
+      → Laid before at (t .code .kind ∷ []) after (r .len) → r .unknown ≡ false → Wrote s attributes t before at after r
+  wrote-kind a b c d p e =
       record {
         bytes = t .code .kind ∷ [];
-        put = p;
-        len = ap (λ (w : Written). w .len) e;
+        laid = p;
         end = λ f. absurd (not-end (t .code) f a);
         long = λ u st. let k = kind-is st in fixed-code u (λ z. b (sym k ∙ z)) (λ z. c (sym k ∙ z)) (λ z. d (sym k ∙ z)) .0;
         token = λ D ord ar u st.
             let k = kind-is st in
             let (x, y) = fixed-code u (λ z. b (sym k ∙ z)) (λ z. c (sym k ∙ z)) (λ z. d (sym k ∙ z)) .1 D in
-            (ap (λ (j : ℕ). j ∷ []) (sym k) ∙ x, ap (λ (w : Written). w .unknown) e ∙ y);
+            (ap (λ (j : ℕ). j ∷ []) (sym k) ∙ x, e ∙ y);
       }

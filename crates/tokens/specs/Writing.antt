@@ -2,7 +2,7 @@
 use Prim.Native.Nat.{ℕ, _+_, _-_, _≤_}
 use mathlib.Core.Path.{_≡_}
 use mathlib.Core.Bool.{true, false}
-use mathlib.Core.List.{List, [], _∷_, _++_}
+use mathlib.Core.List.{List, [], _∷_}
 use lib.ListN.{length, take, drop}
 use Rattle.model.specs.Notation.{isNone}
 use Rattle.model.specs.Bytes.{Bytes}
@@ -15,25 +15,17 @@ use Rattle.codes.specs.Codes.{endCode, nameCode, sourceCode}
 use Rattle.text.specs.Packing.{packedOf}
 use Rattle.model.specs.Standing.{WellDeclared}
 use Rattle.rows.specs.Rows.{AttributeRows, numberOr}
+use Rattle.output.specs.Laid.{Laid}
 use Rattle.tokens.specs.declared.Code.{Code}
 use Rattle.tokens.specs.declared.Token.{Token as Placed}
 use Rattle.tokens.specs.declared.Written.{Written}
 use Rattle.tokens.specs.RuleCode.{unknownNumber, encodeToken, size}
 use Rattle.tokens.specs.TokenAt.{plainCode, codeOf}
 
--- up to a place, and no undeclared name
-abbrev pub upTo : ℕ → Written
-upTo len = record { len = len; unknown = false }
-
--- `after` is `before` with some bytes at a place
-pub record Put (before : Bytes) (at : ℕ) (bytes after : Bytes) : Type 0 where
-  pub is : after ≡ take at before ++ bytes ++ drop (at + length bytes) before
-
 -- the name of an attribute is written by its number, whatever declarations the rows are those of
 pub record NamePut (attributes : List ℕ) (name : Code) (before : Bytes) (at : ℕ) (after : Bytes) (r : Written) : Type 0 where
   pub byte : ℕ
-  pub put : Put before at (nameCode ∷ byte ∷ []) after
-  pub len : r .len ≡ at + 2
+  pub laid : Laid before at (nameCode ∷ byte ∷ []) after (r .len)
   pub number : (D : Declarations) → WellDeclared D → AttributeRows attributes D → (s : Source) (n : Bytes) → isName n ≡ true
       → name .source ≡ sourceCode s → packedOf n ≡ record { low = name .low; high = name .high }
       → (byte ≡ numberOr unknownNumber (attributeNumber D s n)) × (r .unknown ≡ isNone (attributeNumber D s n))
@@ -53,8 +45,7 @@ pub data Given (s : Bytes) (t : Placed) (at n : ℕ) : Type 0 where
 -- the code of a token is written, and none for the end
 pub record Wrote (s : Bytes) (attributes : List ℕ) (t : Placed) (before : Bytes) (at : ℕ) (after : Bytes) (r : Written) : Type 0 where
   pub bytes : Bytes
-  pub put : Put before at bytes after
-  pub len : r .len ≡ at + length bytes
+  pub laid : Laid before at bytes after (r .len)
   pub end : t .code ≡ plainCode endCode → (bytes ≡ []) × (r .unknown ≡ false)
   pub long : (u : Token) → TokenStands s t u → length bytes ≡ size u
   pub token : (D : Declarations) → WellDeclared D → AttributeRows attributes D → (u : Token) → TokenStands s t u

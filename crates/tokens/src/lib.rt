@@ -1,7 +1,7 @@
 // The tokens of a policy, and their code.
 ghost use mathlib.Core.Path.{_≡_};
 ghost use Prim.Native.Nat.{_+_, _-_, _*_, _%_, _≤_};
-ghost use mathlib.Core.Bool.{_||_};
+ghost use mathlib.Core.Bool.{_||_, false};
 ghost use mathlib.Core.List.{[], _∷_};
 ghost use lib.ListN.{length, getD};
 ghost use lib.Dec.{eqb};
@@ -9,7 +9,8 @@ ghost use Rattle.model.specs.Notation.{if_then_else_};
 ghost use Rattle.model.specs.Tokens.{wordByte, readWord, readAttributeName, readText};
 ghost use Rattle.tokens.specs.TokenAt.{plainCode, codedToken, placed, codedRead, inRun, lead, capitalKind, wordToken, tokenIn, tokenAt};
 ghost use Rattle.tokens.specs.RuleCode.{lowBytes, Encodes};
-ghost use Rattle.tokens.specs.Writing.{upTo, Put, NamePut, Given, Wrote};
+ghost use Rattle.output.specs.Laid.{Laid};
+ghost use Rattle.tokens.specs.Writing.{NamePut, Given, Wrote};
 use codes::AND;
 use codes::AT_LEAST;
 use codes::AT_MOST;
@@ -304,22 +305,16 @@ struct Written {
     unknown: bool,
 }
 
-fn up_to(len: usize) -> Written
-    ensures { λ r. ⌜ r ≡ upTo len ⌝ }
-{
-    Written {
-        len,
-        unknown: false,
-    }
-}
-
 // A token that its kind tells.
 fn write_kind(kind: u8, code: &mut [u8], at: usize) -> Written
     requires { ⌜ at + 1 ≤ length (now code) ⌝ }
-    ensures { λ r. ⌜ Put (now (code .entry)) at (kind ∷ []) (now (code .exit)) × (r ≡ upTo (at + 1)) ⌝ }
+    ensures { λ r. ⌜ Laid (now (code .entry)) at (kind ∷ []) (now (code .exit)) (r .len) × (r .unknown ≡ false) ⌝ }
 {
     code[at] = kind;
-    up_to(at + 1)
+    Written {
+        len: at + 1,
+        unknown: false,
+    }
 }
 
 fn low_byte(n: u64) -> u8
@@ -330,7 +325,7 @@ fn low_byte(n: u64) -> u8
 
 fn write_int(n: u64, code: &mut [u8], at: usize) -> Written
     requires { ⌜ at + 5 ≤ length (now code) ⌝ }
-    ensures { λ r. ⌜ Put (now (code .entry)) at (1 ∷ lowBytes 4 n) (now (code .exit)) × (r ≡ upTo (at + 5)) ⌝ }
+    ensures { λ r. ⌜ Laid (now (code .entry)) at (1 ∷ lowBytes 4 n) (now (code .exit)) (r .len) × (r .unknown ≡ false) ⌝ }
 {
     let n1 = n / 256;
     let n2 = n1 / 256;
@@ -339,28 +334,22 @@ fn write_int(n: u64, code: &mut [u8], at: usize) -> Written
     code[at + 2] = low_byte(n1);
     code[at + 3] = low_byte(n2);
     code[at + 4] = low_byte(n2 / 256);
-    up_to(at + 5)
-}
-
-fn copy(s: &[u8], code: &mut [u8], at: usize)
-    requires { ⌜ at + length (now s) ≤ length (now code) ⌝ }
-    ensures { λ r. ⌜ Put (now (code .entry)) at (now (s .entry)) (now (code .exit)) ⌝ }
-{
-    let mut i = 0;
-    while i < s.len() {
-        code[at + i] = s[i];
-        i += 1;
+    Written {
+        len: at + 5,
+        unknown: false,
     }
 }
 
 fn write_text(s: &[u8], code: &mut [u8], at: usize) -> Written
     requires { ⌜ (at + (length (now s) + 2) ≤ length (now code)) × (length (now s) ≤ 255) ⌝ }
-    ensures { λ r. ⌜ Put (now (code .entry)) at (2 ∷ length (now (s .entry)) ∷ now (s .entry)) (now (code .exit)) × (r ≡ upTo (at + (length (now (s .entry)) + 2))) ⌝ }
+    ensures { λ r. ⌜ Laid (now (code .entry)) at (2 ∷ length (now (s .entry)) ∷ now (s .entry)) (now (code .exit)) (r .len) × (r .unknown ≡ false) ⌝ }
 {
     code[at] = STR;
     code[at + 1] = s.len() as u8;
-    copy(s, code, at + 2);
-    up_to(at + (s.len() + 2))
+    Written {
+        len: output::put(code, at + 2, s),
+        unknown: false,
+    }
 }
 
 // A name, by the number of its attribute.
@@ -372,7 +361,10 @@ fn write_name(attributes: &[u64], name: Code, code: &mut [u8], at: usize) -> Wri
     code[at] = NAME;
     if k < ATTRIBUTES {
         code[at + 1] = k as u8;
-        return up_to(at + 2);
+        return Written {
+            len: at + 2,
+            unknown: false,
+        };
     }
     code[at + 1] = UNKNOWN;
     Written {
@@ -388,7 +380,10 @@ fn write(s: &[u8], attributes: &[u64], t: Token, code: &mut [u8], at: usize) -> 
 {
     let kind = t.code.kind;
     match kind {
-        END => up_to(at),
+        END => Written {
+            len: at,
+            unknown: false,
+        },
         INT => write_int(t.code.low, code, at),
         STR => {
             let e = t.next - 1;

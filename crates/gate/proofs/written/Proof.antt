@@ -1,17 +1,20 @@
 -- `gate::written` meets its contract. Assumes nothing.
-use Prim.Native.Nat.{ℕ, _≤_}
-use mathlib.Core.Path.{_≡_, sym}
+use Prim.Native.Nat.{ℕ, _+_, _*_, _≤_}
+use mathlib.Core.Path.{_≡_, sym, ap, _∙_}
 use mathlib.Core.List.{List}
+use native.Mathlib.Omega.{arith}
 use lib.ListN.{length, take}
 use lib.Seq.{length-take-le}
 use borrow.Author.Needs.{needs}
 use Rattle.io.specs.Counts.{Counts}
+use Rattle.output.specs.Laid.{Laid}
+use Rattle.output.proofs.Laying.{laid-length, laid-front}
 use Rattle.gate.proofs.written.Statement.{statement}
 use Rattle.gate.proofs.written.Tie as tie
 
--- a number within the buffer counts the bytes of the part that it ends
-counted : (j : ℕ) (l w : List ℕ) → j ≤ length l → take j l ≡ w → Counts j l × (take j l ≡ w)
-counted j l w h e = ((h, sym (length-take-le j l h)), e)
+-- what is laid within the buffer fills the part that its length ends
+counted : {before after text : List ℕ} {r n : ℕ} → Laid before 0 text after r → r ≤ n → n ≤ length before → Counts r after × (take r after ≡ text)
+counted p short room = let l = laid-length p in ((omega arith, sym (length-take-le _ _ (omega arith))), laid-front p (omega (arith, p .behind)))
 
 run-requires : tie.Need-run-requires
 run-requires c κs = search needs
@@ -20,7 +23,7 @@ same-length : tie.Need-same-length
 same-length c = search needs
 
 returns : tie.Need-returns
-returns c = counted _ _ _ (search needs) (search needs)
+returns c = let r = c .before .before .run .ensures in counted (r .0) (r .1) (c .before .before .before .before .before .before .pre)
 
 pub written-spec : {M : Type 1} → statement M
 written-spec = tie.close (tie.spec run-requires same-length returns)

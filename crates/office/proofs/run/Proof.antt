@@ -1,7 +1,9 @@
--- `run` meets its contract: what is written is the model's output.
+-- `run` meets its contract: what is laid over the buffer is the model's output.
+use Prim.Native.Nat.{_-_}
 use mathlib.Core.Path.{sym}
 use native.Mathlib.Omega.{arith}
 use lib.Seq.{length-take-le}
+use Rattle.model.specs.Gate.{printed}
 use Rattle.text.proofs.LoopPlaces.{tail-part}
 use Rattle.office.specs.Answers.{memory}
 use Rattle.office.proofs.Whole.{commands-as, too-long, whole}
@@ -9,16 +11,21 @@ use borrow.Author.Needs.{needs}
 use Rattle.office.proofs.run.Statement.{statement}
 use Rattle.office.proofs.run.Tie as tie
 
-put-load-requires : tie.Need-put-load-requires
-put-load-requires c κs = search needs
+slice-aggregate-put-pair : tie.Need-slice-aggregate-put-pair
+slice-aggregate-put-pair c = search needs
+
+cast-put-pair : tie.Need-cast-put-pair
+cast-put-pair c = search needs
+
+put-pair-requires : tie.Need-put-pair-requires
+put-pair-requires c κs = search needs
 
 same-length : tie.Need-same-length
 same-length c = search needs
 
 returns : tie.Need-returns
-returns c =
-    let h = c .before .before .before .before .before .before .before in
-    too-long (h .args .input .now) (c .before .before .before .before .if1 .taken) (omega (arith, h .pre)) (c .before .before .put-load .ensures)
+unfolding printed
+returns c = too-long (c .before .before .before .before .before .before .before .before .args .input .now) (c .before .before .before .before .before .if1 .taken) (c .before .before .put-pair .ensures)
 
 split-requires : tie.Need-split-requires
 split-requires c κs = search needs
@@ -34,8 +41,14 @@ slice-aggregate-load-2 c = search needs
 load-requires : tie.Need-load-requires
 load-requires c κs = search needs
 
-put-load-requires-2 : tie.Need-put-load-requires-2
-put-load-requires-2 c κs = search needs
+slice-aggregate-put-pair-2 : tie.Need-slice-aggregate-put-pair-2
+slice-aggregate-put-pair-2 c = search needs
+
+cast-put-pair-2 : tie.Need-cast-put-pair-2
+cast-put-pair-2 c = search needs
+
+put-pair-requires-2 : tie.Need-put-pair-requires-2
+put-pair-requires-2 c κs = search needs
 
 sub-answer-commands : tie.Need-sub-answer-commands
 sub-answer-commands c = search needs
@@ -46,9 +59,6 @@ part-answer-commands-start c = search needs
 part-answer-commands-end : tie.Need-part-answer-commands-end
 part-answer-commands-end c = search needs
 
-slice-aggregate-answer-commands : tie.Need-slice-aggregate-answer-commands
-slice-aggregate-answer-commands c = search needs
-
 answer-commands-requires : tie.Need-answer-commands-requires
 answer-commands-requires c κs = search needs
 
@@ -56,30 +66,34 @@ same-length-2 : tie.Need-same-length-2
 same-length-2 c = search needs
 
 returns-2 : tie.Need-returns-2
+unfolding printed
 returns-2 c =
-    let h = c .before .before .before .before .before .before .before .before .before .before .before .before .before .before .before .before .before .before .before .before .before .before .before in
-    let p = c .before .before .before .before .before .before .before .before .before .before .before .before .before .before .before .before .before .before .before .split in
-    let l = c .before .before .before .before .before .before .before .before .before .before .before .before .before .before .load in
-    whole (h .args .input .now) (p .result) (omega (arith, c .before .before .before .before .before .before .before .before .before .before .before .before .before .before .before .before .before .before .before .before .if1 .left)) (p .ensures) (h .pre) _ (sym (slice-aggregate-load-2 (c .before .before .before .before .before .before .before .before .before .before .before .before .before .before .before)))
-    (memory (l .last .1 .0) (l .last .1 .1 .0) (l .last .1 .1 .1 .0)) (l .ensures) (c .before .before .before .before .before .before .before .before .before .before .before .put-load2 .ensures)
-    (commands-as (tail-part (p .result .commands) (h .args .input .now)) (c .before .before .before .answer-commands .ensures))
+    let a = c .before .before .before .before .before .before .before .before .before .before .before .before .before .before .before .before .before .before .before .before .before .before .before .before .args in
+    let p = c .before .before .before .before .before .before .before .before .before .before .before .before .before .before .before .before .before .before .before .before .split in
+    let l = c .before .before .before .before .before .before .before .before .before .before .before .before .before .before .before .load in
+    whole (a .input .now) (p .result) (omega (arith, c .before .before .before .before .before .before .before .before .before .before .before .before .before .before .before .before .before .before .before .before .before .if1 .left)) (p .ensures) _ (sym (slice-aggregate-load-2 (c .before .before .before .before .before .before .before .before .before .before .before .before .before .before .before .before)))
+    (memory (l .last .1 .0) (l .last .1 .1 .0) (l .last .1 .1 .1 .0)) (l .ensures) (c .before .before .before .before .before .before .before .before .before .before .put-pair2 .ensures)
+    (commands-as (tail-part (p .result .commands) (a .input .now)) (c .before .before .answer-commands .ensures))
 
 pub run-spec : {M : Type 1} → statement M
 run-spec =
     tie.close
     (tie.spec
-    put-load-requires
+    slice-aggregate-put-pair
+    cast-put-pair
+    put-pair-requires
     same-length
     returns
     split-requires
     slice-aggregate-load
     slice-aggregate-load-2
     load-requires
-    put-load-requires-2
+    slice-aggregate-put-pair-2
+    cast-put-pair-2
+    put-pair-requires-2
     sub-answer-commands
     part-answer-commands-start
     part-answer-commands-end
-    slice-aggregate-answer-commands
     answer-commands-requires
     same-length-2
     returns-2)

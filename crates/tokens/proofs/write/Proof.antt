@@ -7,9 +7,6 @@ use borrow.Author.Needs.{needs}
 use Rattle.tokens.proofs.write.Statement.{statement}
 use Rattle.tokens.proofs.write.Tie as tie
 
-up-to-requires : tie.Need-up-to-requires
-up-to-requires c κs = search needs
-
 write-int-requires : tie.Need-write-int-requires
 write-int-requires c κs = room-int (c .before .before .before .before .before .pre .1) (c .before .match .keys2)
 
@@ -38,25 +35,25 @@ write-kind-requires : tie.Need-write-kind-requires
 write-kind-requires c κs = room-some (c .before .before .before .before .before .pre .1) (c .before .match .rest .0 .0 .0 .1)
 
 returns : tie.Need-returns
-returns c = wrote-end (c .before .match .keys1) (c .up-to .result) (c .up-to .ensures)
+returns c = wrote-end (c .match .keys1)
 
 same-length : tie.Need-same-length
 same-length c = search needs
 
 returns-2 : tie.Need-returns-2
-returns-2 c = let w = c .before .before .write-int in wrote-int (c .before .before .before .before .match .keys2) (w .ensures .0) (w .result) (w .ensures .1)
+returns-2 c = let w = c .before .before .write-int in wrote-int (c .before .before .before .before .match .keys2) (w .ensures .0) (w .ensures .1)
 
 same-length-2 : tie.Need-same-length-2
 same-length-2 c = search needs
 
 returns-3 : tie.Need-returns-3
-returns-3 c = let w = c .before .before .write-text in wrote-text (c .before .before .before .before .before .before .match .keys3) _ refl (w .ensures .0) (w .result) (w .ensures .1)
+returns-3 c = let w = c .before .before .write-text in wrote-text (c .before .before .before .before .before .before .match .keys3) _ refl (w .ensures .0) (w .ensures .1)
 
 same-length-3 : tie.Need-same-length-3
 same-length-3 c = search needs
 
 returns-4 : tie.Need-returns-4
-returns-4 c = let w = c .before .before .write-name in wrote-name (c .before .before .before .before .match .keys4) (w .result) (w .ensures)
+returns-4 c = let w = c .before .before .write-name in wrote-name (c .before .before .before .before .match .keys4) (w .ensures)
 
 same-length-4 : tie.Need-same-length-4
 same-length-4 c = search needs
@@ -65,13 +62,12 @@ returns-5 : tie.Need-returns-5
 returns-5 c =
     let w = c .before .before .write-kind in
     let r = c .before .before .before .before .match .rest in
-    wrote-kind (r .0 .0 .0 .1) (r .0 .0 .1) (r .0 .1) (r .1) (w .ensures .0) (w .result) (w .ensures .1)
+    wrote-kind (r .0 .0 .0 .1) (r .0 .0 .1) (r .0 .1) (r .1) (w .ensures .0) (w .ensures .1)
 
 pub write-spec : {M : Type 1} → statement M
 write-spec =
     tie.close
     (tie.spec
-    up-to-requires
     write-int-requires
     sub-e
     sub-a

@@ -1,16 +1,15 @@
 -- `tokens::write_name` meets its contract.
-use Prim.Native.Nat.{ℕ, _<_, _≤_}
-use mathlib.Core.Path.{_≡_, refl, sym, ap, _∙_}
+use Prim.Native.Nat.{ℕ, _+_, _<_, _≤_}
+use mathlib.Core.Path.{_≡_, refl, sym}
 use mathlib.Core.Bool.{true, false}
 use mathlib.Core.Option.{Option, none, some}
 use native.Mathlib.Omega.{arith}
 use lib.ListN.{length-set}
 use Rattle.model.specs.Notation.{isNone}
-use Rattle.tokens.specs.declared.Written.{Written}
 use Rattle.model.specs.Declarations.{attributeNumber}
 use Rattle.rows.specs.Rows.{numberOr}
 use Rattle.rows.proofs.RowsOfAttributes.{number-small}
-use Rattle.tokens.proofs.CodePuts.{put-two}
+use Rattle.output.proofs.Laying.{laid-one, laid-more}
 use borrow.Author.Needs.{needs}
 use Rattle.tokens.proofs.write_name.Statement.{statement}
 use Rattle.tokens.proofs.write_name.Tie as tie
@@ -39,26 +38,22 @@ add-code c = search needs
 slice-write-code-2 : tie.Need-slice-write-code-2
 slice-write-code-2 c = simp length-set (omega arith)
 
-add-up-to : tie.Need-add-up-to
-add-up-to c = search needs
-
-up-to-requires : tie.Need-up-to-requires
-up-to-requires c κs = search needs
+add-t9 : tie.Need-add-t9
+add-t9 c = search needs
 
 same-length : tie.Need-same-length
 same-length c = search needs
 
 returns : tie.Need-returns
 returns c =
-    let a = c .before .before .before .before .before .args in
-    let r = c .before .before .attribute-number in
+    let a = c .before .before .before .before .args in
+    let r = c .before .attribute-number in
     record {
       byte = r .result;
-      put = put-two (a .code .now) (a .at) 4 (r .result) (omega arith);
-      len = ap (λ (w : Written). w .len) (c .up-to .ensures);
+      laid = laid-more (r .result) (a .at + 1) (laid-one (a .code .now) (a .at) 4) refl;
       number = λ D ord ar s n name from words.
-          let (x, y) = below (attributeNumber D s n) (r .result) (r .ensures .number D ord ar s n name from words) (c .before .if1 .taken) in
-          (x, ap (λ (w : Written). w .unknown) (c .up-to .ensures) ∙ sym y);
+          let (x, y) = below (attributeNumber D s n) (r .result) (r .ensures .number D ord ar s n name from words) (c .if1 .taken) in
+          (x, sym y);
     }
 
 add-code-2 : tie.Need-add-code-2
@@ -79,8 +74,7 @@ returns-2 c =
     let r = c .before .attribute-number in
     record {
       byte = 255;
-      put = put-two (a .code .now) (a .at) 4 255 (omega arith);
-      len = refl;
+      laid = laid-more 255 (a .at + 1) (laid-one (a .code .now) (a .at) 4) refl;
       number = λ D ord ar s n name from words.
           above (attributeNumber D s n) (r .result) (r .ensures .number D ord ar s n name from words) (c .if1 .left) (number-small D (a .attributes .now) ar s n);
     }
@@ -94,8 +88,7 @@ write-name-spec =
     cast-code
     add-code
     slice-write-code-2
-    add-up-to
-    up-to-requires
+    add-t9
     same-length
     returns
     add-code-2

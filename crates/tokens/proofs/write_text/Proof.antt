@@ -1,9 +1,9 @@
 -- `tokens::write_text` meets its contract.
 use Prim.Native.Nat.{_+_}
-use mathlib.Core.Path.{refl}
+use mathlib.Core.Path.{refl, _∙_}
 use native.Mathlib.Omega.{arith}
 use lib.ListN.{length, length-set}
-use Rattle.tokens.proofs.CodePuts.{put-two, put-put, put-length}
+use Rattle.output.proofs.Laying.{laid-one, laid-more, laid-on, laid-length}
 use borrow.Author.Needs.{needs}
 use Rattle.tokens.proofs.write_text.Statement.{statement}
 use Rattle.tokens.proofs.write_text.Tie as tie
@@ -20,30 +20,19 @@ add-code c = search needs
 slice-write-code-2 : tie.Need-slice-write-code-2
 slice-write-code-2 c = simp length-set (omega arith)
 
-add-copy : tie.Need-add-copy
-add-copy c = search needs
+add-put : tie.Need-add-put
+add-put c = search needs
 
-copy-requires : tie.Need-copy-requires
-copy-requires c κs = simp length-set (omega arith)
-
-add-up-to : tie.Need-add-up-to
-add-up-to c = search needs
-
-add-up-to-2 : tie.Need-add-up-to-2
-add-up-to-2 c = search needs
-
-up-to-requires : tie.Need-up-to-requires
-up-to-requires c κs = search needs
+put-requires : tie.Need-put-requires
+put-requires c κs = search needs
 
 same-length : tie.Need-same-length
-same-length c =
-    let a = c .before .before .before .before .before .before .before .args in
-    put-length (put-put (a .at + 2) (put-two (a .code .now) (a .at) 2 (length (a .s .now)) (omega arith)) refl (omega arith) (c .before .before .before .copy .ensures)) (omega arith)
+same-length c = laid-length (c .before .before .put .ensures) ∙ simp length-set
 
 returns : tie.Need-returns
 returns c =
-    let a = c .before .before .before .before .before .before .before .args in
-    (put-put (a .at + 2) (put-two (a .code .now) (a .at) 2 (length (a .s .now)) (omega arith)) refl (omega arith) (c .before .before .before .copy .ensures), c .up-to .ensures)
+    let a = c .before .before .before .before .before .before .args in
+    (laid-on (laid-more (length (a .s .now)) (a .at + 1) (laid-one (a .code .now) (a .at) 2) refl) (c .before .before .put .ensures), refl)
 
 pub write-text-spec : {M : Type 1} → statement M
 write-text-spec =
@@ -53,10 +42,7 @@ write-text-spec =
     cast-code
     add-code
     slice-write-code-2
-    add-copy
-    copy-requires
-    add-up-to
-    add-up-to-2
-    up-to-requires
+    add-put
+    put-requires
     same-length
     returns)

@@ -1,83 +1,43 @@
 -- `book::declare::put_attribute` meets its contract. Assumes nothing.
-use mathlib.Core.Path.{refl}
-use native.Mathlib.Omega.{arith}
-use lib.ListN.{length-set}
-use Rattle.index.specs.Index.{putRow}
-use Rattle.book.specs.Declaring.{attributePut}
+use Prim.Native.Nat.{ℕ, _+_}
+use mathlib.Core.Path.{ap}
+use mathlib.Core.List.{List}
+use lib.ListN.{set}
 use borrow.Author.Needs.{needs}
+use Rattle.book.specs.Declaring.{attributePut}
 use Rattle.book.proofs.declare.put_attribute.Statement.{statement}
 use Rattle.book.proofs.declare.put_attribute.Tie as tie
 
-mul-at : tie.Need-mul-at
-mul-at c = search needs
+mul-put-row : tie.Need-mul-put-row
+mul-put-row c = search needs
 
-add-at : tie.Need-add-at
-add-at c = search needs
+add-put-row : tie.Need-add-put-row
+add-put-row c = search needs
 
-mul-book : tie.Need-mul-book
-mul-book c = search needs
-
-slice-write-book : tie.Need-slice-write-book
-slice-write-book c = search needs
+put-row-requires : tie.Need-put-row-requires
+put-row-requires c κs = search needs
 
 add-book : tie.Need-add-book
 add-book c = search needs
 
-mul-book-2 : tie.Need-mul-book-2
-mul-book-2 c = search needs
-
-slice-write-book-2 : tie.Need-slice-write-book-2
-slice-write-book-2 c = simp length-set (omega arith)
-
-add-book-2 : tie.Need-add-book-2
-add-book-2 c = search needs
-
-mul-book-3 : tie.Need-mul-book-3
-mul-book-3 c = search needs
-
-slice-write-book-3 : tie.Need-slice-write-book-3
-slice-write-book-3 c = simp length-set (omega arith)
-
-add-book-3 : tie.Need-add-book-3
-add-book-3 c = search needs
-
-mul-book-4 : tie.Need-mul-book-4
-mul-book-4 c = search needs
-
-slice-write-book-4 : tie.Need-slice-write-book-4
-slice-write-book-4 c = simp length-set (omega arith)
-
-add-book-4 : tie.Need-add-book-4
-add-book-4 c = search needs
-
-slice-write-book-5 : tie.Need-slice-write-book-5
-slice-write-book-5 c = simp length-set (omega arith)
+slice-write-book : tie.Need-slice-write-book
+slice-write-book c = search needs
 
 same-length : tie.Need-same-length
 same-length c = search needs
 
 returns : tie.Need-returns
-unfolding attributePut putRow
-returns c = refl
+unfolding attributePut
+returns c = ap (λ (l : List ℕ). set l 0 (c .before .before .before .before .before .args .n + 1)) (c .before .before .put-row .ensures)
 
 pub put-attribute-spec : {M : Type 1} → statement M
 put-attribute-spec =
     tie.close
     (tie.spec
-    mul-at
-    add-at
-    mul-book
-    slice-write-book
+    mul-put-row
+    add-put-row
+    put-row-requires
     add-book
-    mul-book-2
-    slice-write-book-2
-    add-book-2
-    mul-book-3
-    slice-write-book-3
-    add-book-3
-    mul-book-4
-    slice-write-book-4
-    add-book-4
-    slice-write-book-5
+    slice-write-book
     same-length
     returns)

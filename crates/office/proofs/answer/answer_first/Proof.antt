@@ -1,10 +1,10 @@
 -- `answer::answer_first` meets its contract, by the kind of command.
 use mathlib.Core.Path.{sym}
 use native.Mathlib.Omega.{arith}
-use borrow.Author.Needs.{needs}
 use lib.Seq.{length-take-le}
 use Rattle.office.specs.Answers.{memory}
 use Rattle.office.proofs.Answering.{told-as, edit-answered, request-answered, bad-answered}
+use borrow.Author.Needs.{needs}
 use Rattle.office.proofs.answer.answer_first.Statement.{statement}
 use Rattle.office.proofs.answer.answer_first.Tie as tie
 
@@ -14,12 +14,12 @@ line-length-requires c κs = search needs
 slice-aggregate-line : tie.Need-slice-aggregate-line
 slice-aggregate-line c =
     let l = c .before .line-length in
-    sym (length-take-le (l .result) (c .before .before .before .before .before .before .args .commands .now) (l .ensures .within))
+    sym (length-take-le (l .result) (c .before .before .before .before .before .args .commands .now) (l .ensures .within))
 
 read-requires : tie.Need-read-requires
 read-requires c κs =
     let l = c .before .before .line-length in
-    let a = c .before .before .before .before .before .before .before in
+    let a = c .before .before .before .before .before .before in
     omega (arith, length-take-le (l .result) (a .args .commands .now) (l .ensures .within), l .ensures .within, a .pre .1)
 
 enum-told : tie.Need-enum-told
@@ -43,8 +43,11 @@ answer-request-requires c κs = search needs
 enum-told-2 : tie.Need-enum-told-2
 enum-told-2 c = search needs
 
-put-bad-requires : tie.Need-put-bad-requires
-put-bad-requires c κs = search needs
+slice-aggregate-put : tie.Need-slice-aggregate-put
+slice-aggregate-put c = search needs
+
+put-requires : tie.Need-put-requires
+put-requires c κs = search needs
 
 same-length : tie.Need-same-length
 same-length c = search needs
@@ -52,19 +55,27 @@ same-length c = search needs
 same-length-2 : tie.Need-same-length-2
 same-length-2 c = search needs
 
+returns : tie.Need-returns
+returns c =
+    let a = c .before .before .before .before .before .before .before .before .before .before .before .before .before .before .before .before .before .args in
+    record {
+      line = c .before .before .before .before .before .before .before .before .before .before .before .before .before .line-length .ensures;
+      answered = edit-answered _ _ _ _ _ (a .rules .now) _ _ _ _ (told-as _ _ (c .before .before .before .before .before .before .before .before .before .before .read .ensures) (c .before .before .before .before .before .before .enum-told .given .1)) (c .before .before .answer-edit .ensures);
+    }
+
 same-length-3 : tie.Need-same-length-3
 same-length-3 c = search needs
 
-returns : tie.Need-returns
-returns c =
-    let a = c .before .before .before .before .before .before .before .before .before .before .before .before .before .before .before .before .before .before .before .before .args in
-    record {
-      line = c .before .before .before .before .before .before .before .before .before .before .before .before .before .before .before .line-length .ensures;
-      answered = edit-answered _ _ _ _ _ (a .rules .now) _ _ _ _ (told-as _ _ (c .before .before .before .before .before .before .before .before .before .before .before .before .read .ensures) (c .before .before .before .before .before .before .before .before .enum-told .given .1)) (c .before .before .before .before .answer-edit .ensures);
-    }
-
 same-length-4 : tie.Need-same-length-4
 same-length-4 c = search needs
+
+returns-2 : tie.Need-returns-2
+returns-2 c =
+    let a = c .before .before .before .before .before .before .before .before .before .before .before .before .before .before .before .before .before .before .before .args in
+    record {
+      line = c .before .before .before .before .before .before .before .before .before .before .before .before .before .before .before .line-length .ensures;
+      answered = request-answered _ _ (memory (a .book .now) (a .rules .now) (a .table .now)) _ _ _ _ (told-as _ _ (c .before .before .before .before .before .before .before .before .before .before .before .before .read .ensures) (c .before .before .before .before .before .before .before .before .n .given .1) .1) (c .before .before .answer-request .ensures);
+    }
 
 same-length-5 : tie.Need-same-length-5
 same-length-5 c = search needs
@@ -72,26 +83,13 @@ same-length-5 c = search needs
 same-length-6 : tie.Need-same-length-6
 same-length-6 c = search needs
 
-returns-2 : tie.Need-returns-2
-returns-2 c =
-    let a = c .before .before .before .before .before .before .before .before .before .before .before .before .before .before .before .before .before .before .before .before .args in
-    record {
-      line = c .before .before .before .before .before .before .before .before .before .before .before .before .before .before .before .line-length .ensures;
-      answered = request-answered _ _ (memory (a .book .now) (a .rules .now) (a .table .now)) _ _ _ _ (told-as _ _ (c .before .before .before .before .before .before .before .before .before .before .before .before .read .ensures) (c .before .before .before .before .before .before .before .before .n .given .1) .1) (c .before .before .answer-request .ensures);
-    }
-
-same-length-7 : tie.Need-same-length-7
-same-length-7 c = search needs
-
-same-length-8 : tie.Need-same-length-8
-same-length-8 c = search needs
-
 returns-3 : tie.Need-returns-3
 returns-3 c =
     let a = c .before .before .before .before .before .before .before .before .before .before .before .before .before .before .before .before .args in
     record {
-      line = c .before .before .before .before .before .before .before .before .before .before .before .line-length .ensures;
-      answered = bad-answered _ (memory (a .book .now) (a .rules .now) (a .table .now)) (told-as _ _ (c .before .before .before .before .before .before .before .before .read .ensures) (c .before .before .before .before .enum-told2 .given .1)) (c .before .before .put-bad .ensures);
+      line = c .before .before .before .before .before .before .before .before .before .before .before .before .line-length .ensures;
+      answered = bad-answered _ (memory (a .book .now) (a .rules .now) (a .table .now)) (told-as _ _ (c .before .before .before .before .before .before .before .before .before .read .ensures) (c .before .before .before .before .before .enum-told2 .given .1))
+          (record { laid = c .before .before .put .ensures; short = omega arith });
     }
 
 pub answer-first-spec : {M : Type 1} → statement M
@@ -108,15 +106,14 @@ answer-first-spec =
     slice-aggregate-answer-request
     answer-request-requires
     enum-told-2
-    put-bad-requires
+    slice-aggregate-put
+    put-requires
     same-length
     same-length-2
-    same-length-3
     returns
+    same-length-3
     same-length-4
+    returns-2
     same-length-5
     same-length-6
-    returns-2
-    same-length-7
-    same-length-8
     returns-3)
