@@ -4,10 +4,11 @@
    is lent. No argument may be a null pointer, and no two buffers that a call is lent may overlap. A file, an edit line and a block are bytes with
    their length; the table is words with their number, which has to be ZHUL_TABLE_WORDS (else every call answers 1 and the table keeps its words).
 
-   The book, the rules and the table may hold anything before a load. Between calls they are the library's: a host may copy, keep and compare them as
-   plain memory, and must not write to them. An edit must be lent the book and the table that the last load or edit left, a request these two and the
-   rules that the last load left. On other contents an edit or a request still ends and stays in bounds, but what it answers, and what an edit writes
-   to the book and the table, is not fixed.
+   The book, the rules and the table may hold anything before a load. Between calls they are the library's: a host may copy and keep them as plain
+   memory, and must not write to them. The table's words may be read (see ZHUL_TABLE_WORDS) and compared; the book and the rules may not, since words
+   that a book does not use are free: two books of one state can differ there, and a refused load leaves old bytes in the rules. An edit must be lent
+   the book and the table that the last load or edit left, a request these two and the rules that the last load left. On other contents an edit or a
+   request still ends and stays in bounds, but what it answers, and what an edit writes to the book and the table, is not fixed.
 
    Before the first load there is no book to lend. A host that may be asked earlier starts with the empty book: it loads a file of 0 bytes. This load
    answers 3 with line 1, as for every file without its first line, and makes the table all 0. On the empty book, which every refused load leaves, each
@@ -33,6 +34,17 @@ extern "C" {
 #define ZHUL_BOOK_WORDS 5240   /* words of 64 bits of a book */
 #define ZHUL_RULES_BYTES 24576 /* bytes of a book's rules */
 
+/* A pass block, of 10 + 5n bytes; numbers of more bytes have their low byte first:
+     byte 0      1
+     byte 1      the user's number, byte 2 the object's: holders are numbered in the order of the file's ugroup, ogroup, user and object lines from 1,
+                 admin is 0
+     byte 3      the operation's number, in the order of the op lines from 0
+     bytes 4-7   the activated attributes: bit k is attribute k, in the order of the attr lines of all sources from 0
+     byte 8      n, the number of entries, 0 to 8
+     byte 9      0
+     then        n entries of five bytes: the number of an env or connect attribute, and its value in four bytes (a bool is 0 or 1)
+   docs/FORMAT.md has it with examples, and the formats of files, edits and policies. */
+
 /* Numbers: 0 done (of a request: permit), 64 deny, 65 undefined, else a refusal of document 01. Of several refusals the lowest is given, but 13 comes
    before all but 4, and the first offending line of a file decides. zhul_pass gives the refusals of zhul_load, and after an accepted load those of
    zhul_decide. README.md says what to do about each. */
@@ -42,7 +54,8 @@ extern "C" {
 
 /* zhul_load, which carries the line, from 1, but 0 with 1 and 2; it leaves the empty book and, but for 1, a table all 0. */
 #define ZHUL_TOO_LONG 2 /* the file has more than 32,768 bytes */
-#define ZHUL_WRONG_FIRST_LINE 3 /* the first line is missing, or is not rights=1 with its line end */
+#define ZHUL_WRONG_FIRST_LINE 3 /* the first line is missing, or is not rights=1 with its line end, byte 10 alone: a file with CR LF or with a byte
+   order mark is refused here */
 
 /* zhul_load and zhul_edit; a refused edit changes nothing. */
 #define ZHUL_UNFRAMED 4 /* a line over 255 bytes (the line end and an edit's sign not counted), without its line end, without = or with an unknown

@@ -8,6 +8,7 @@ use lib.ListN.{length}
 use borrow.Author.Tests.{eq-eqb, ne-eqb}
 use Rattle.model.specs.Notation.{if_then_else_}
 use Rattle.model.specs.Limits.{tableWords}
+use Rattle.model.specs.Numbers as refusal
 use Rattle.model.specs.Bytes.{Bytes}
 use Rattle.model.specs.Ties.{Tie}
 use Rattle.model.specs.Table.{table}
@@ -18,8 +19,9 @@ use Rattle.model.specs.Edits.{editedTie, adds, editedTies, changes, accepting, 
 use Rattle.model.specs.Ledger.{Call, Answer, edited, step, withTable, withoutTable, tableAfter, Outcome, outcome}
 use Rattle.model.specs.Standing.{Standing}
 use Rattle.book.specs.Held.{Holds}
-use Rattle.engine.specs.Calls.{Gives}
-use Rattle.engine.specs.EditSteps.{LineTie, TieJudged, Applied, Untouched, EditCall}
+use Rattle.engine.specs.Calls.{Gives, Together, Edits}
+use Rattle.engine.specs.EditSteps.{LineTie, TieJudged, Applied, Untouched, SetsElsewhere, EditCall}
+use Rattle.engine.proofs.EditedSets.{sets-elsewhere}
 use Rattle.engine.proofs.EditRefusals.{SignedLine, tie-fitting, tie-refusal, edited-tie, adds-is}
 
 -- the outcome of an edit, by whether the table has another length
@@ -64,38 +66,51 @@ module _ (S : State) (words : List ℕ) (line : Bytes) where
         state = record { declared = S .declared; ties = editedTies b o (S .ties) };
       }) a e
 
+-- an edit that gives the ledger's outcome leaves the sets elsewhere
+elsewhere-by : (line : Bytes) {book words : List ℕ} {number count : ℕ} {words′ book′ : List ℕ} → Edits line book words number count words′ book′
+    → (S : State) (code : Bytes) → Together S book code words → SetsElsewhere S line words words′
+elsewhere-by line edits S code together = sets-elsewhere line together (edits S code together)
+
 module _ (line : Bytes) (book words : List ℕ) (number count : ℕ) where
   untouched : count ≡ 0 → Untouched book words count words book
   untouched z = record { uncounted = z; same-table = refl; same-book = refl }
 
   -- "1: table not 1,024 words, any call. Table untouched; … an edit keeps its own" book
-  pub without-table : (length words ≡ tableWords → ⊥) → number ≡ 1 → count ≡ 0 → EditCall line book words number count words book
+  pub without-table : (length words ≡ tableWords → ⊥) → number ≡ refusal.wrongTable → count ≡ 0 → EditCall line book words number count words book
   unfolding wrongTable
   without-table wrong one none′ = record {
-    edits = λ S code together.
-        subst (λ (o : Outcome). Gives o (edited number count) words book code)
-        (sym (outcome-by S words line true (ap not (ne-eqb (length words) tableWords wrong))))
-        (record { answered = ap₂ edited (sym one) (sym none′); table = refl; holds = together .holds });
+    edits = given;
+    elsewhere = elsewhere-by line given;
     wrong-table = λ _. (one, untouched none′);
     refused = λ _. untouched none′;
     table-long = refl;
     book-long = refl;
   }
+    where
+      given : Edits line book words number count words book
+      given S code together =
+          subst (λ (o : Outcome). Gives o (edited number count) words book code)
+          (sym (outcome-by S words line true (ap not (ne-eqb (length words) tableWords wrong))))
+          (record { answered = ap₂ edited (sym one) (sym none′); table = refl; holds = together .holds })
 
   -- "a refused edit changes nothing"
   pub refused-call : length words ≡ tableWords → (number ≡ 0 → ⊥) → count ≡ 0
       → ((S : State) (code : Bytes) → Standing S → Holds book code S → editRefusal S line ≡ number) → EditCall line book words number count words book
-  refused-call size z none′ refusal = record {
-    edits = λ S code together.
-        let n = refusal S code (together .standing) (together .holds) in
-        let is-refused = refuses S words line (λ e. z (sym n ∙ e)) in
-        subst (λ (o : Outcome). Gives o (edited number count) words book code) (sym (on-table S words line size is-refused))
-        (record { answered = ap₂ edited n (sym none′); table = sym (kept-table S words line size (together .kept)); holds = together .holds });
+  refused-call size z none′ judged = record {
+    edits = given;
+    elsewhere = elsewhere-by line given;
     wrong-table = λ wrong. absurd (wrong size);
     refused = λ _. untouched none′;
     table-long = refl;
     book-long = refl;
   }
+    where
+      given : Edits line book words number count words book
+      given S code together =
+          let n = judged S code (together .standing) (together .holds) in
+          let is-refused = refuses S words line (λ e. z (sym n ∙ e)) in
+          subst (λ (o : Outcome). Gives o (edited number count) words book code) (sym (on-table S words line size is-refused))
+          (record { answered = ap₂ edited n (sym none′); table = sym (kept-table S words line size (together .kept)); holds = together .holds })
 
 -- "The answer is 0 and the number of holders whose stored set changed"
 pub accepted-call : (edit : Bytes) (book words words′ book′ : List ℕ) (count : ℕ)
@@ -103,17 +118,21 @@ pub accepted-call : (edit : Bytes) (book words words′ book′ : List ℕ) (cou
     → (plus : Bool) (line : Bytes) → SignedLine edit plus line → (n : ℕ) (t : Tie) → LineTie book line n t → n ≡ 0 → (r : ℕ) → TieJudged book plus t r → r ≡ 0
     → Applied plus t book book′ words words′ count → EditCall edit book words 0 count words′ book′
 accepted-call edit book words words′ book′ count size long book-long′ plus line signed n t told z r judged y applied = record {
-  edits = λ S code together.
-      let read = told S code (together .standing) (together .holds) in
-      let fits = tie-fitting S edit plus line signed n t read z in
-      let passed = sym y ∙ judged S code (together .standing) (together .holds) fits in
-      let zero′ = tie-refusal S edit plus line signed n t read z ∙ sym passed in
-      let is-accepted = accepts S words edit zero′ (adds-is S edit plus line signed) (edited-tie S edit plus line signed n t read z) in
-      let done = applied S code (together .standing) (together .holds) (kept-table S words edit size (together .kept)) fits passed in
-      subst (λ (o : Outcome). Gives o (Answer.edited 0 count) words′ book′ code) (sym (on-table S words edit size is-accepted))
-      (record { answered = ap (Answer.edited 0) (sym (done .counted)); table = sym (done .table-is); holds = done .holds });
+  edits = given;
+  elsewhere = elsewhere-by edit given;
   wrong-table = λ wrong. absurd (wrong size);
   refused = λ z. absurd (z refl);
   table-long = long;
   book-long = book-long′;
 }
+  where
+    given : Edits edit book words 0 count words′ book′
+    given S code together =
+        let read = told S code (together .standing) (together .holds) in
+        let fits = tie-fitting S edit plus line signed n t read z in
+        let passed = sym y ∙ judged S code (together .standing) (together .holds) fits in
+        let zero′ = tie-refusal S edit plus line signed n t read z ∙ sym passed in
+        let is-accepted = accepts S words edit zero′ (adds-is S edit plus line signed) (edited-tie S edit plus line signed n t read z) in
+        let done = applied S code (together .standing) (together .holds) (kept-table S words edit size (together .kept)) fits passed in
+        subst (λ (o : Outcome). Gives o (Answer.edited 0 count) words′ book′ code) (sym (on-table S words edit size is-accepted))
+        (record { answered = ap (Answer.edited 0) (sym (done .counted)); table = sym (done .table-is); holds = done .holds })

@@ -1,82 +1,24 @@
 -- What an edit does in a run: it changes the words of no holder that is neither the edited one nor below it, where it is refused those of none, and its
 -- count is that of the holders whose words changed. Assumes nothing.
-use Prim.Native.Nat.{ℕ, _<_}
-use mathlib.Core.Path.{_≡_, refl, sym, ap, subst, _∙_}
-use mathlib.Core.Bool.{Bool, true, false, not}
+use Prim.Native.Nat.{ℕ}
+use mathlib.Core.Path.{_≡_}
 use mathlib.Core.List.{List}
-use mathlib.Core.Option.{some}
-use native.Mathlib.Omega.{arith}
-use lib.ListN.{length, replicate}
-use lib.Dec.{eqb}
-use Rattle.model.specs.Notation.{if_then_else_, count, below}
-use Rattle.model.specs.Limits.{holderNumbers, setWords}
-use Rattle.model.specs.Numbers as refusal
+use Rattle.model.specs.Notation.{count, below}
+use Rattle.model.specs.Limits.{holderNumbers}
 use Rattle.model.specs.Bytes.{Bytes}
-use Rattle.model.specs.Declarations.{Declarations, isHolder}
-use Rattle.model.specs.Ties.{Tie, Ties, editedHolder, Below}
-use Rattle.model.specs.Table.{effectiveSet, storedSet, table}
 use Rattle.model.specs.State.{State}
-use Rattle.model.specs.Refusals.{wrongTable, editRefusal}
-use Rattle.model.specs.Edits as model
-use Rattle.model.specs.Edits.{editedTie}
 use Rattle.model.specs.Ledger as ledger
-use Rattle.model.specs.Ledger.{Call, Answer, Step, step, withTable, withoutTable, tableAfter, outcome}
-use Rattle.model.proofs.WordTables.{same-refl}
-use Rattle.model.proofs.Lists.{count-below}
-use Rattle.model.proofs.Ledger.{edit-standing, edit-elsewhere, refused-edit}
-use Rattle.model.proofs.Accepted.{edit-declared}
-use Rattle.model.proofs.TableLayout.{setIn, words-same, set-in-table}
-use Rattle.model.proofs.Changes.{setChanged, changes-exact}
-use Rattle.model.specs.Standing.{Standing}
+use Rattle.model.specs.Ledger.{Call, outcome}
+use Rattle.model.proofs.Changes.{setChanged}
 use Rattle.engine.specs.Calls.{Gives, Together}
+use Rattle.engine.specs.EditSteps.{SetsElsewhere}
 use Rattle.engine.specs.Runs.{Memory, Does, Leads}
 use Rattle.engine.proofs.Runs.{does-gives, leads-together}
-
--- the answer and the words after an edit, on a table of another length and on one of 1,024 words
-module _ (S : State) (words : List ℕ) (line : Bytes) (kept : tableAfter words S ≡ words) where
-  abbrev tableFor : Bool → State → List ℕ
-  tableFor b T = if b then words else table (T .declared) (T .ties)
-
-  abbrev stepFor : Bool → Step
-  stepFor b = if b then withoutTable S (Call.edit line) else withTable S (Call.edit line)
-
-  by-table : (P : Answer → List ℕ → List ℕ → Type 0) → P (ledger.edited refusal.wrongTable 0) words words
-      → P (ledger.edited (model.edit S line .number) (model.edit S line .changed)) (table (S .declared) (S .ties))
-      (table (model.edit S line .state .declared) (model.edit S line .state .ties))
-      → P (outcome S words (Call.edit line) .answer) words (outcome S words (Call.edit line) .words)
-  unfolding step tableAfter
-  by-table P wrong right = go (wrongTable (length words)) kept
-    where
-      go : (b : Bool) → tableFor b S ≡ words → P (stepFor b .answer) words (tableFor b (stepFor b .state))
-      go true k = wrong
-      go false k = subst (λ (w : List ℕ). P (stepFor false .answer) w (tableFor false (stepFor false .state))) k right
-
-stored-same : (D E : Declarations) (T U : Ties) (k : ℕ) → E ≡ D → ((p : ℕ) → effectiveSet D U k p ≡ effectiveSet D T k p) → storedSet E U k ≡ storedSet D T k
-unfolding storedSet
-stored-same D E T U k e same =
-    ap (λ (F : Declarations). storedSet F U k) e ∙ ap (λ (w : List ℕ). if isHolder D k then w else replicate setWords 0) (words-same (effectiveSet D U k) (effectiveSet D T k) (λ p l. same p))
-
--- no set of a table differs from itself
-none-changed : (w : List ℕ) → count (setChanged w w) (below holderNumbers) ≡ 0
-unfolding setChanged
-none-changed w = count-below (setChanged w w) 0 holderNumbers (omega arith) (λ k h l. ap not (same-refl (setIn w k)))
-
--- the count of an edit, accepted or refused
-count-exact : {S : State} → Standing S → (line : Bytes)
-    → model.edit S line .changed
-    ≡ count (setChanged (table (S .declared) (S .ties)) (table (model.edit S line .state .declared) (model.edit S line .state .ties))) (below holderNumbers)
-unfolding model.edit
-count-exact {S} standing line = go (eqb (editRefusal S line) 0) (edit-standing S line standing)
-  where
-    go : (b : Bool) → Standing ((if b then model.accepting S line else model.refusing S line) .state)
-        → (if b then model.accepting S line else model.refusing S line) .changed
-        ≡ count (setChanged (table (S .declared) (S .ties)) (table ((if b then model.accepting S line else model.refusing S line) .state .declared) ((if b then model.accepting S line else model.refusing S line) .state .ties))) (below holderNumbers)
-    go true after = changes-exact (S .declared) (S .ties) (model.accepting S line .state .ties) standing after
-    go false after = sym (none-changed (table (S .declared) (S .ties)))
+use Rattle.engine.proofs.EditedSets.{sets-elsewhere, refused-sets, sets-counted}
 
 -- an edit, after a list of calls that begins with a load and leads to the ledger's state S
-module _ {calls : List Call} {S : State} {before after : Memory} {line : Bytes} {number changed : ℕ}
-    (run : Leads calls S before) (does : Does (Call.edit line) before (ledger.edited number changed) after) where
+module _ {first : Memory} {calls : List Call} {S : State} {before after : Memory} {line : Bytes} {number changed : ℕ}
+    (run : Leads first calls S before) (does : Does (Call.edit line) before (ledger.edited number changed) after) where
   together : Together S (before .book) (before .code) (before .words)
   together = leads-together run
 
@@ -84,31 +26,13 @@ module _ {calls : List Call} {S : State} {before after : Memory} {line : Bytes} 
   given = does-gives together does
 
   -- no holder that is neither the edited one nor below it
-  pub elsewhere-stays : (k : ℕ) → k < holderNumbers
-      → ((t : Tie) → editedTie S line ≡ some t → (k ≡ editedHolder t → ⊥) × (Below (S .ties) k (editedHolder t) → ⊥)) → setIn (after .words) k ≡ setIn (before .words) k
-  unfolding effectiveSet
-  elsewhere-stays k h far =
-      ap (λ (w : List ℕ). setIn w k) (sym (given .table))
-      ∙ by-table S (before .words) line (together .kept) (λ a w u. setIn u k ≡ setIn w k) refl
-      (set-in-table (model.edit S line .state .declared) (model.edit S line .state .ties) k h
-      ∙ stored-same (S .declared) (model.edit S line .state .declared) (S .ties) (model.edit S line .state .ties) k (edit-declared S line) (λ p. edit-elsewhere S line k p far)
-      ∙ sym (set-in-table (S .declared) (S .ties) k h))
+  pub elsewhere-stays : SetsElsewhere S line (before .words) (after .words)
+  elsewhere-stays = sets-elsewhere line together given
 
   -- "a refused edit changes nothing"
   pub refused-stays : (number ≡ 0 → ⊥) → after .words ≡ before .words
-  refused-stays refused =
-      sym (given .table)
-      ∙ by-table S (before .words) line (together .kept) (λ a w u. a ≡ ledger.edited number changed → u ≡ w) (λ e. refl)
-      (λ e.
-      let n : model.edit S line .number ≡ number = cc in
-      ap (λ (T : State). table (T .declared) (T .ties)) (refused-edit S line (λ z. refused (sym n ∙ z)) .0))
-      (given .answered)
+  refused-stays refused = refused-sets line together given refused
 
   -- the count is that of the holders whose four words differ
   pub count-in-run : changed ≡ count (setChanged (before .words) (after .words)) (below holderNumbers)
-  count-in-run =
-      by-table S (before .words) line (together .kept) (λ a w u. a ≡ ledger.edited number changed → changed ≡ count (setChanged w u) (below holderNumbers))
-      (λ e. let z : changed ≡ 0 = cc in z ∙ sym (none-changed (before .words)))
-      (λ e. let n : changed ≡ model.edit S line .changed = cc in n ∙ count-exact (together .standing) line)
-      (given .answered)
-      ∙ ap (λ (u : List ℕ). count (setChanged (before .words) u) (below holderNumbers)) (given .table)
+  count-in-run = sets-counted line together given

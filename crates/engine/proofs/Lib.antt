@@ -10,6 +10,7 @@ pub mod EditLines
 pub mod EditTies
 pub mod EditTables
 pub mod EditRefusals
+pub mod EditedSets
 pub mod EditCalls
 -- Laws about loads.
 pub mod LoadCalls
@@ -17,3 +18,5 @@ pub mod LoadCalls
 pub mod Runs
 pub mod EditsInRuns
 pub mod Promises
+-- The headline theorems.
+pub mod Theorems

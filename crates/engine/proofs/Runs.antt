@@ -104,8 +104,8 @@ runs-are-the-ledger lent file calls results (next {after = after} {rest = rest} 
     (run-posts (outcome empty (lent .words) (Call.load file) .state) after calls rest (together-after empty (lent .words) (Call.load file) empty-standing g) run)
 
 -- what is lent to a call of a run goes with the ledger's state
-pub leads-together : {calls : List Call} {S : State} {lent : Memory} → Leads calls S lent → Together S (lent .book) (lent .code) (lent .words)
-leads-together (from-load {file = file} {before = before} (loads g)) = together-after empty (before .words) (Call.load file) empty-standing g
+pub leads-together : {first : Memory} {calls : List Call} {S : State} {lent : Memory} → Leads first calls S lent → Together S (lent .book) (lent .code) (lent .words)
+leads-together {first} (from-load {file = file} (loads g)) = together-after empty (first .words) (Call.load file) empty-standing g
 leads-together (from-there {S = S} {c = c} {before = before} run does) =
     let t = leads-together run in
     together-after S (before .words) c (t .standing) (does-gives t does)
@@ -117,19 +117,18 @@ end-more : (S : State) (words : List ℕ) (calls : List Call) (c : Call)
 end-more S words [] c = (refl, refl)
 end-more S words (d ∷ calls) c = end-more (outcome S words d .state) (outcome S words d .words) calls c
 
-ends : {calls : List Call} {S : State} {lent : Memory} → Leads calls S lent
-    → (words : List ℕ) × (endState empty (ledgerFrom empty words calls) ≡ S) × (endWords words (ledgerFrom empty words calls) ≡ lent .words)
-ends (from-load {before = before} (loads g)) = (before .words, refl, g .table)
-ends (from-there {calls = calls} {c = c} run does) =
+ends : {first : Memory} {calls : List Call} {S : State} {lent : Memory} → Leads first calls S lent
+    → (endState empty (ledgerFrom empty (first .words) calls) ≡ S) × (endWords (first .words) (ledgerFrom empty (first .words) calls) ≡ lent .words)
+ends (from-load (loads g)) = (refl, g .table)
+ends {first} (from-there {calls = calls} {c = c} run does) =
     let e = ends run in
-    let more = end-more empty (e .0) calls c in (
-      e .0,
-      more .0 ∙ ap₂ (λ (T : State) (w : List ℕ). outcome T w c .state) (e .1) (e .2),
-      more .1 ∙ ap₂ (λ (T : State) (w : List ℕ). outcome T w c .words) (e .1) (e .2) ∙ does-gives (leads-together run) does .table,
+    let more = end-more empty (first .words) calls c in (
+      more .0 ∙ ap₂ (λ (T : State) (w : List ℕ). outcome T w c .state) (e .0) (e .1),
+      more .1 ∙ ap₂ (λ (T : State) (w : List ℕ). outcome T w c .words) (e .0) (e .1) ∙ does-gives (leads-together run) does .table,
     )
 
--- where a list of calls leads is where the ledger of its calls ends, on the table that was lent at first
-pub leads-where-the-ledger-ends : {file : Bytes} {calls : List Call} {S : State} {lent : Memory} → Leads (Call.load file ∷ calls) S lent
-    → (words : List ℕ) × (endState empty (ledger words file calls) ≡ S)
+-- where a list of calls leads is where the ledger of its calls ends, on the table that was lent at first: the state, and the words of the table
+pub leads-where-the-ledger-ends : {first : Memory} {file : Bytes} {calls : List Call} {S : State} {lent : Memory} → Leads first (Call.load file ∷ calls) S lent
+    → (endState empty (ledger (first .words) file calls) ≡ S) × (endWords (first .words) (ledger (first .words) file calls) ≡ lent .words)
 unfolding ledger
-leads-where-the-ledger-ends run = let e = ends run in (e .0, e .1)
+leads-where-the-ledger-ends run = ends run

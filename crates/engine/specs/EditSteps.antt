@@ -1,23 +1,23 @@
 -- The steps of an edit: the tie of its line, what a tie is refused for, and what the tie more or less makes of book and table.
 -- Assumes nothing: these are definitions.
-use Prim.Native.Nat.{ℕ}
+use Prim.Native.Nat.{ℕ, _<_}
 use mathlib.Core.Path.{_≡_}
 use mathlib.Core.Bool.{Bool, _&&_, not}
 use mathlib.Core.List.{List, [], _∷_}
 use mathlib.Core.Option.{Option, some}
 use lib.ListN.{length}
-use Rattle.model.specs.Numbers as refusal
 use Rattle.model.specs.Notation.{_>>=_, _is_, isNone}
-use Rattle.model.specs.Limits.{tableWords}
+use Rattle.model.specs.Limits.{tableWords, holderNumbers}
+use Rattle.model.specs.Numbers as refusal
 use Rattle.model.specs.Bytes.{Bytes}
 use Rattle.model.specs.Keys.{Key, isTieKey}
 use Rattle.model.specs.Lines.{Line, readFields, readLine}
 use Rattle.model.specs.Declarations.{holderNumbersOf}
-use Rattle.model.specs.Ties.{Tie}
-use Rattle.model.specs.Table.{table}
+use Rattle.model.specs.Ties.{Tie, editedHolder, Below}
+use Rattle.model.specs.Table.{table, setIn}
 use Rattle.model.specs.State.{State, tieOf}
 use Rattle.model.specs.Refusals.{Test, _if_, first, unframed, otherKey, malformed, undeclared, wrongSort, tieCloses}
-use Rattle.model.specs.Edits.{editedTies, changes}
+use Rattle.model.specs.Edits.{editedTie, editedTies, changes}
 use Rattle.model.specs.Standing.{Standing, TieFits}
 use Rattle.codes.specs.Codes.{keyCode}
 use Rattle.sets.specs.Refreshed.{Refreshed}
@@ -25,7 +25,7 @@ use Rattle.book.specs.Sections as section
 use Rattle.book.specs.Sections.{sectionWords}
 use Rattle.book.specs.Held.{Holds}
 use Rattle.book.specs.TieSteps.{TiesEdited}
-use Rattle.engine.specs.Calls.{Edits}
+use Rattle.engine.specs.Calls.{Together, Edits}
 
 -- a number by tests, and the tie of the line that was read where it is 0
 pub record ReadTie (S : State) (tests : List Test) (l : Option Line) (number : ℕ) (t : Tie) : Type 0 where
@@ -102,9 +102,16 @@ pub record Untouched (book words : List ℕ) (count : ℕ) (words′ book′ : L
   pub same-table : words′ ≡ words
   pub same-book : book′ ≡ book
 
+-- the words of holders that are neither the edited one nor below it stay as they were
+abbrev pub SetsElsewhere : State → Bytes → List ℕ → List ℕ → Type 0
+SetsElsewhere S line words words′ =
+    (k : ℕ) → k < holderNumbers → ((t : Tie) → editedTie S line ≡ some t → (k ≡ editedHolder t → ⊥) × (Below (S .ties) k (editedHolder t) → ⊥))
+    → setIn words′ k ≡ setIn words k
+
 -- the call. The last four hold of every book and table
 pub record EditCall (line : Bytes) (book words : List ℕ) (number count : ℕ) (words′ book′ : List ℕ) : Type 0 where
   pub edits : Edits line book words number count words′ book′
+  pub elsewhere : (S : State) (code : Bytes) → Together S book code words → SetsElsewhere S line words words′
   pub wrong-table : (length words ≡ tableWords → ⊥) → (number ≡ refusal.wrongTable) × Untouched book words count words′ book′
   pub refused : (number ≡ 0 → ⊥) → Untouched book words count words′ book′
   pub table-long : length words′ ≡ length words

@@ -63,8 +63,8 @@ abbrev pub endWords : List ℕ → List Outcome → List ℕ
 endWords words [] = words
 endWords words (o ∷ rest) = endWords (o .words) rest
 
--- where a list of calls that begins with a load has led: the ledger's state, and what is lent to the next call
-pub data Leads : List Call → State → Memory → Type 0 where
-  from-load : {file : Bytes} {a : Answer} {before after : Memory} → Does (load file) before a after → Leads (load file ∷ []) (outcome empty (before .words) (load file) .state) after
-  from-there : {calls : List Call} {S : State} {c : Call} {a : Answer} {before after : Memory} → Leads calls S before → Does c before a after
-      → Leads (calls ++ c ∷ []) (outcome S (before .words) c .state) after
+-- where a list of calls that begins with a load has led, from what was lent at first: the ledger's state, and what is lent to the next call
+pub data Leads (first : Memory) : List Call → State → Memory → Type 0 where
+  from-load : {file : Bytes} {a : Answer} {after : Memory} → Does (load file) first a after → Leads first (load file ∷ []) (outcome empty (first .words) (load file) .state) after
+  from-there : {calls : List Call} {S : State} {c : Call} {a : Answer} {before after : Memory} → Leads first calls S before → Does c before a after
+      → Leads first (calls ++ c ∷ []) (outcome S (before .words) c .state) after

@@ -4,11 +4,9 @@
 pub mod Computing
 pub mod Cases
 pub mod Valley
-pub mod CornersOfFiles
 pub mod CornersOfPolicies
 pub mod CornersOfEdits
 pub mod CornersOfRequests
-pub mod CornersOfGate
 -- Laws of words, partial results and lists.
 pub mod WordTables
 pub mod Options

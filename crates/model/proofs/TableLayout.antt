@@ -17,6 +17,7 @@ use Rattle.model.specs.Declarations.{Declarations, Holder, isHolder, hol
 use Rattle.model.specs.Ties.{Ties, value}
 use Rattle.model.specs.Effective.{Has, own, inherited}
 use Rattle.model.specs.Table.{word, wordsOf, effectiveSet, storedSet, table}
+pub use Rattle.model.specs.Table.{setIn}
 use Rattle.model.specs.State.{State}
 use Rattle.model.proofs.Options.{parts, both}
 use Rattle.model.proofs.Lists.{_∈_, same-truth, nth-lt, lt-nth, in-below}
@@ -25,10 +26,6 @@ use Rattle.model.specs.Standing.{Standing}
 use Rattle.model.proofs.Standing.{among, holder-below}
 use Rattle.model.proofs.BitsOfWords.{bitOf, bit-none, word-lt, word-same, bit-word, same-bits}
 use Rattle.model.proofs.Table.{set-length, table-length}
-
--- "Holder k's stored set is the four words from word 4k"
-abbrev pub setIn : List ℕ → ℕ → List ℕ
-setIn words k = take setWords (drop (setWords * k) words)
 
 -- "pair p is bit p modulo 64 (0 lowest) of word p/64 of these"
 unfoldable pub pairIn : List ℕ → ℕ → ℕ → Bool

@@ -2,7 +2,7 @@
 use Prim.Native.Nat.{ℕ, zero, suc, _+_, _*_, _^_}
 use mathlib.Core.Bool.{Bool}
 use mathlib.Core.List.{List}
-use lib.ListN.{replicate}
+use lib.ListN.{replicate, take, drop}
 use Rattle.model.specs.Notation.{if_then_else_, map, each, below}
 use Rattle.model.specs.Limits.{holderNumbers, wordBits, setWords}
 use Rattle.model.specs.Declarations.{Declarations, isHolder, holderNumbersOf}
@@ -29,3 +29,7 @@ storedSet D T k = if isHolder D k then wordsOf (effectiveSet D T k) else replica
 -- "The lent table has exactly 1,024 words of 64 bits"
 unfoldable pub table : Declarations → Ties → List ℕ
 table D T = each (storedSet D T) (below holderNumbers)
+
+-- "Holder k's stored set is the four words from word 4k": these words of a table
+abbrev pub setIn : List ℕ → ℕ → List ℕ
+setIn words k = take setWords (drop (setWords * k) words)
