@@ -16,32 +16,23 @@ use Rattle.model.specs.State.{State}
 use Rattle.model.specs.Refusals.{wrongTable, editRefusal}
 use Rattle.model.specs.Edits as model
 use Rattle.model.specs.Edits.{editedTie, adds, editedTies, changes, accepting, refusing}
-use Rattle.model.specs.Ledger.{Call, Answer, edited, step, withTable, withoutTable, tableAfter, Outcome, outcome}
+use Rattle.model.specs.Ledger.{Call, Answer, edited, tableAfter, Outcome, outcome}
 use Rattle.model.specs.Standing.{Standing}
 use Rattle.book.specs.Held.{Holds}
 use Rattle.engine.specs.Calls.{Gives, Together, Edits}
 use Rattle.engine.specs.EditSteps.{LineTie, TieJudged, Applied, Untouched, SetsElsewhere, EditCall}
+use Rattle.engine.proofs.Outcomes.{outcome-by}
 use Rattle.engine.proofs.EditedSets.{sets-elsewhere}
 use Rattle.engine.proofs.EditRefusals.{SignedLine, tie-fitting, tie-refusal, edited-tie, adds-is}
 
--- the outcome of an edit, by whether the table has another length
-abbrev outcomeBy : Bool → State → List ℕ → Bytes → Outcome
-outcomeBy wrong S words line =
-    let s = if wrong then withoutTable S (Call.edit line) else withTable S (Call.edit line) in
-    record { answer = s .answer; words = if wrong then words else table (s .state .declared) (s .state .ties); state = s .state }
-
 module _ (S : State) (words : List ℕ) (line : Bytes) where
-  outcome-by : (wrong : Bool) → wrongTable (length words) ≡ wrong → outcome S words (Call.edit line) ≡ outcomeBy wrong S words line
-  unfolding step tableAfter
-  outcome-by wrong e = ap (λ (b : Bool). outcomeBy b S words line) e
-
   -- the outcome by the specification's edit
   abbrev after : model.Edited → Outcome
   after r = record { answer = edited (r .number) (r .changed); words = table (r .state .declared) (r .state .ties); state = r .state }
 
   on-table : length words ≡ tableWords → {r : model.Edited} → model.edit S line ≡ r → outcome S words (Call.edit line) ≡ after r
   unfolding wrongTable
-  on-table size e = outcome-by false (ap not (eq-eqb (length words) tableWords size)) ∙ ap after e
+  on-table size e = outcome-by S words (Call.edit line) (ap not (eq-eqb (length words) tableWords size)) ∙ ap after e
 
   kept-table : length words ≡ tableWords → tableAfter words S ≡ words → words ≡ table (S .declared) (S .ties)
   unfolding tableAfter wrongTable
@@ -90,7 +81,7 @@ module _ (line : Bytes) (book words : List ℕ) (number count : ℕ) where
       given : Edits line book words number count words book
       given S code together =
           subst (λ (o : Outcome). Gives o (edited number count) words book code)
-          (sym (outcome-by S words line true (ap not (ne-eqb (length words) tableWords wrong))))
+          (sym (outcome-by S words (Call.edit line) (ap not (ne-eqb (length words) tableWords wrong))))
           (record { answered = ap₂ edited (sym one) (sym none′); table = refl; holds = together .holds })
 
   -- "a refused edit changes nothing"

@@ -15,7 +15,7 @@ use Rattle.model.specs.Table.{table}
 use Rattle.model.specs.State.{State, empty}
 use Rattle.model.specs.Refusals.{wrongTable}
 use Rattle.model.specs.Load as model
-use Rattle.model.specs.Ledger.{Call, loaded, step, withTable, withoutTable, tableAfter, Outcome, outcome}
+use Rattle.model.specs.Ledger.{Call, loaded, Outcome, outcome}
 use Rattle.model.proofs.Table.{empty-table}
 use Rattle.model.proofs.Loads.{load-refused, refused-load}
 use Rattle.model.proofs.Ledger.{load-standing}
@@ -26,17 +26,11 @@ use Rattle.book.specs.LineSteps.{LoadedAs}
 use Rattle.book.proofs.TieSections.{part-size}
 use Rattle.engine.specs.Calls.{Gives, Loads}
 use Rattle.engine.specs.LoadSteps.{TableFilled, Cleared}
+use Rattle.engine.proofs.Outcomes.{outcomeBy, outcome-by}
 
 module _ (file : Bytes) (words : List ℕ) where
-  -- the outcome by whether the table is wrong
-  outcomeBy : Bool → Outcome
-  outcomeBy b =
-      let s = if b then withoutTable empty (Call.load file) else withTable empty (Call.load file) in
-      record { answer = s .answer; words = if b then words else table (s .state .declared) (s .state .ties); state = s .state }
-
-  by-table : (b : Bool) → wrongTable (length words) ≡ b → outcomeBy b ≡ outcome empty words (Call.load file)
-  unfolding step tableAfter outcomeBy
-  by-table b e = ap outcomeBy (sym e)
+  by-table : (b : Bool) → wrongTable (length words) ≡ b → outcomeBy b empty words (Call.load file) ≡ outcome empty words (Call.load file)
+  by-table b e = sym (outcome-by empty words (Call.load file) e)
 
   wrong-is : (length words ≡ tableWords → ⊥) → wrongTable (length words) ≡ true
   unfolding wrongTable
@@ -46,15 +40,13 @@ module _ (file : Bytes) (words : List ℕ) where
   unfolding wrongTable
   right-is long = ap not (eq-eqb (length words) tableWords long)
 
-  pub without-table : {book words′ : List ℕ} {code : Bytes} → (length words ≡ tableWords → ⊥) → Holds book code empty → Cleared words words′ → Loads file words 1 0 words′ book code
-  unfolding outcomeBy
+  pub without-table : {book words′ : List ℕ} {code : Bytes} → (length words ≡ tableWords → ⊥) → Holds book code empty → Cleared words words′ → Loads file words refusal.wrongTable 0 words′ book code
   without-table {book} {words′} {code} n held cleared =
       subst (λ (o : Outcome). Gives o (loaded refusal.wrongTable 0) words′ book code) (by-table true (wrong-is n)) (record { answered = refl; table = sym (cleared .kept n); holds = held })
 
   module _ (long : length words ≡ tableWords) {book : List ℕ} {code : Bytes} (number line : ℕ) (words′ : List ℕ) where
     by-load : number ≡ model.load file .number → line ≡ model.load file .line → table (model.load file .state .declared) (model.load file .state .ties) ≡ words′
         → Holds book code (model.load file .state) → Loads file words number line words′ book code
-    unfolding outcomeBy
     by-load n l t held =
         subst (λ (o : Outcome). Gives o (loaded number line) words′ book code) (by-table false (right-is long))
         (record { answered = ap₂ loaded (sym n) (sym l); table = t; holds = held })

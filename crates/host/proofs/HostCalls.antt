@@ -17,13 +17,14 @@ use Rattle.model.specs.Refusals.{wrongTable}
 use Rattle.model.specs.Load as model
 use Rattle.model.specs.Decision as decision
 use Rattle.model.specs.Decision.{numberAndValues}
-use Rattle.model.specs.Ledger.{Call, Answer, loaded, edited, decided, step, withTable, withoutTable, tableAfter, Outcome, outcome, ledger}
+use Rattle.model.specs.Ledger.{Call, Answer, loaded, edited, decided, tableAfter, Outcome, outcome, ledger}
 use Rattle.model.specs.Host.{hostCall, hostTable}
 use Rattle.model.proofs.Table.{table-length}
 use Rattle.engine.specs.Decisions.{decisionOf, numberAndValuesOf}
 use Rattle.engine.specs.Calls.{Loads}
 use Rattle.engine.specs.EditSteps.{EditCall}
 use Rattle.engine.specs.Runs.{Memory, Does, endWords}
+use Rattle.engine.proofs.Outcomes.{outcomeBy, outcome-by}
 use Rattle.engine.proofs.Promises.{file-loaded, line-edited, request-decided}
 use Rattle.host.specs.AnswerNumbers.{high, carriedValue, RequestNumber}
 
@@ -56,16 +57,6 @@ answerNumber (decided d) = numberAndValues d .0
 abbrev pub firstNumber : List Outcome → ℕ
 firstNumber [] = 0
 firstNumber (o ∷ rest) = if eqb (answerNumber (o .answer)) 0 then firstNumber rest else answerNumber (o .answer)
-
--- a call's outcome, by whether the table has another length
-abbrev outcomeBy : Bool → State → List ℕ → Call → Outcome
-outcomeBy wrong S words c =
-    let s = if wrong then withoutTable S c else withTable S c in
-    record { answer = s .answer; words = if wrong then words else table (s .state .declared) (s .state .ties); state = s .state }
-
-outcome-by : (S : State) (words : List ℕ) (c : Call) {wrong : Bool} → wrongTable (length words) ≡ wrong → outcome S words c ≡ outcomeBy wrong S words c
-unfolding step tableAfter
-outcome-by S words c e = ap (λ (b : Bool). outcomeBy b S words c) e
 
 -- a number, told by whether it is 0
 itself : (n : ℕ) → (if eqb n 0 then 0 else n) ≡ n

@@ -8,6 +8,7 @@ use lib.ListN.{length}
 use lib.Dec.{eqb}
 use borrow.Author.Tests.{eq-eqb, ne-eqb}
 use Rattle.model.specs.Notation.{if_then_else_}
+use Rattle.model.specs.Numbers as refusal
 use Rattle.model.specs.Bytes.{Bytes}
 use Rattle.model.specs.Table.{table}
 use Rattle.model.specs.State.{empty}
@@ -49,7 +50,7 @@ module _ (file block : Bytes) (words words′ book : List ℕ) (code : Bytes) (n
   pass-refused off = go (wrongTable (length words)) refl
     where
       go : (b : Bool) → wrongTable (length words) ≡ b
-          → number ≡ (if b then 1 else (if eqb (model.load file .number) 0 then numberAndValues (decision.decide (model.load file .state) block) .0 else model.load file .number))
+          → number ≡ (if b then refusal.wrongTable else (if eqb (model.load file .number) 0 then numberAndValues (decision.decide (model.load file .state) block) .0 else model.load file .number))
       go true e = let a = answer-is true e in cc
       go false e =
           let a = answer-is false e in
@@ -63,7 +64,7 @@ module _ (file block : Bytes) (words words′ book : List ℕ) (code : Bytes) (n
       go : (b : Bool) → wrongTable (length words) ≡ b
           → (if b then words else table ((if b then withoutTable empty (Call.load file) else withTable empty (Call.load file)) .state .declared) ((if b then withoutTable empty (Call.load file) else withTable empty (Call.load file)) .state .ties)) ≡ words′
           → numberAndValuesOf r .0
-          ≡ (if b then 1 else (if eqb (model.load file .number) 0 then numberAndValues (decision.decide (model.load file .state) block) .0 else model.load file .number))
+          ≡ (if b then refusal.wrongTable else (if eqb (model.load file .number) 0 then numberAndValues (decision.decide (model.load file .state) block) .0 else model.load file .number))
       go true e t = let a = answer-is true e in let z : _≡_ {A = ℕ} 0 1 = cc in absurd (omega (arith, z))
       go false e t =
           let a = answer-is false e in
