@@ -12,7 +12,7 @@ use lib.Count.{ones, ones-step}
 use lib.Pow.{shr-lt}
 use lib.Dec.{eqb}
 use lib.ListN.{getD}
-use Rattle.model.specs.Notation.{any, count, below}
+use Rattle.model.specs.Notation.{anyOf, countOf, below}
 use Rattle.model.proofs.Lists.{or-none, any-in, in-any, in-below, below-in}
 use Rattle.bits.specs.Bits.{odd, bit, member, anyBelow, countBelow}
 use Rattle.bits.proofs.Bits.{bit-zero, bit-suc}
@@ -28,16 +28,16 @@ num-le false = omega arith
 
 -- ---- some
 
-any-append : (f : ℕ → Bool) (xs ys : List ℕ) → any f (xs ++ ys) ≡ (any f xs || any f ys)
+any-append : (f : ℕ → Bool) (xs ys : List ℕ) → anyOf f (xs ++ ys) ≡ (anyOf f xs || anyOf f ys)
 any-append f [] ys = refl
 any-append f (x ∷ xs) ys = go (f x) (any-append f xs ys)
   where
-    go : (b : Bool) → any f (xs ++ ys) ≡ (any f xs || any f ys)
-        → (elim b as (λ _. Bool) [ true ↦ true | false ↦ any f (xs ++ ys) ]) ≡ ((elim b as (λ _. Bool) [ true ↦ true | false ↦ any f xs ]) || any f ys)
+    go : (b : Bool) → anyOf f (xs ++ ys) ≡ (anyOf f xs || anyOf f ys)
+        → (elim b as (λ _. Bool) [ true ↦ true | false ↦ anyOf f (xs ++ ys) ]) ≡ ((elim b as (λ _. Bool) [ true ↦ true | false ↦ anyOf f xs ]) || anyOf f ys)
     go true e = refl
     go false e = e
 
-any-one : (f : ℕ → Bool) (x : ℕ) → any f (x ∷ []) ≡ f x
+any-one : (f : ℕ → Bool) (x : ℕ) → anyOf f (x ∷ []) ≡ f x
 any-one f x = go (f x)
   where
     go : (b : Bool) → (elim b as (λ _. Bool) [ true ↦ true | false ↦ false ]) ≡ b
@@ -83,17 +83,17 @@ find-any n f i h e = in-any f (below-in n i h) e
 
 -- ---- how many
 
-count-append : (f : ℕ → Bool) (xs ys : List ℕ) → count f (xs ++ ys) ≡ count f xs + count f ys
-count-append f [] ys = sym (zero-add (count f ys))
+count-append : (f : ℕ → Bool) (xs ys : List ℕ) → countOf f (xs ++ ys) ≡ countOf f xs + countOf f ys
+count-append f [] ys = sym (zero-add (countOf f ys))
 count-append f (x ∷ xs) ys = go (f x) (count-append f xs ys)
   where
-    go : (b : Bool) → count f (xs ++ ys) ≡ count f xs + count f ys
-        → (elim b as (λ _. ℕ) [ true ↦ suc (count f (xs ++ ys)) | false ↦ count f (xs ++ ys) ])
-        ≡ (elim b as (λ _. ℕ) [ true ↦ suc (count f xs) | false ↦ count f xs ]) + count f ys
-    go true e = ap suc e ∙ sym (suc-add (count f xs) (count f ys))
+    go : (b : Bool) → countOf f (xs ++ ys) ≡ countOf f xs + countOf f ys
+        → (elim b as (λ _. ℕ) [ true ↦ suc (countOf f (xs ++ ys)) | false ↦ countOf f (xs ++ ys) ])
+        ≡ (elim b as (λ _. ℕ) [ true ↦ suc (countOf f xs) | false ↦ countOf f xs ]) + countOf f ys
+    go true e = ap suc e ∙ sym (suc-add (countOf f xs) (countOf f ys))
     go false e = e
 
-count-one : (f : ℕ → Bool) (x : ℕ) → count f (x ∷ []) ≡ num (f x)
+count-one : (f : ℕ → Bool) (x : ℕ) → countOf f (x ∷ []) ≡ num (f x)
 count-one f x = go (f x)
   where
     go : (b : Bool) → (elim b as (λ _. ℕ) [ true ↦ 1 | false ↦ 0 ]) ≡ num b

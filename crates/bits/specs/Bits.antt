@@ -5,7 +5,7 @@ use mathlib.Core.Bool.{Bool, not, Bool·beq}
 use mathlib.Core.List.{List}
 use lib.Dec.{eqb}
 use lib.ListN.{getD}
-use Rattle.model.specs.Notation.{any, count, below}
+use Rattle.model.specs.Notation.{anyOf, countOf, below}
 
 -- n's lowest binary digit is 1
 unfoldable pub odd : ℕ → Bool
@@ -25,10 +25,10 @@ holds t k p = bit (getD t (4 * k + p / 64) 0) (p % 64)
 
 -- some number below n passes, and how many do
 unfoldable pub anyBelow : ℕ → (ℕ → Bool) → Bool
-anyBelow n f = any f (below n)
+anyBelow n f = anyOf f (below n)
 
 unfoldable pub countBelow : ℕ → (ℕ → Bool) → ℕ
-countBelow n f = count f (below n)
+countBelow n f = countOf f (below n)
 
 -- two sets do not hold the same numbers below n
 unfoldable pub differ : ℕ → List ℕ → List ℕ → Bool

@@ -6,7 +6,7 @@ use mathlib.Core.Bool.{Bool, true, false, true≢false}
 use mathlib.Core.List.{List, [], _∷_, _++_}
 use mathlib.Core.Option.{Option, none, some}
 use lib.ListN.{length, length-append}
-use Rattle.model.specs.Notation.{any, each, nth}
+use Rattle.model.specs.Notation.{anyOf, each, nth}
 use Rattle.model.specs.Bytes.{Bytes}
 use Rattle.model.specs.Attributes.{Source}
 use Rattle.model.specs.Tokens.{Token, name, int, str, truth, operator, mark}
@@ -50,7 +50,7 @@ OperationsStay D E = (o : Bytes) (k : ℕ) → operationNumber D o ≡ some k �
 
 -- the names in rules are declared
 abbrev pub NamesKnown : Declarations → Type 0
-NamesKnown D = Each (λ r. any (unknownName D) (r .tokens) ≡ false) (D .rules)
+NamesKnown D = Each (λ r. anyOf (unknownName D) (r .tokens) ≡ false) (D .rules)
 
 -- the code of declared names is the same
 module _ (D E : Declarations) (stay : AttributesStay D E) where
@@ -63,12 +63,12 @@ module _ (D E : Declarations) (stay : AttributesStay D E) where
   carried-same (operator o) e = refl
   carried-same (mark m) e = refl
 
-  code-same : (ts : List Token) → any (unknownName D) ts ≡ false → each (encodeToken E) ts ≡ each (encodeToken D) ts
+  code-same : (ts : List Token) → anyOf (unknownName D) ts ≡ false → each (encodeToken E) ts ≡ each (encodeToken D) ts
   code-same [] e = refl
   code-same (t ∷ ts) e = go (unknownName D t) refl e (code-same ts)
     where
-      go : (b : Bool) → unknownName D t ≡ b → (elim b as (λ _. Bool) [ true ↦ true | false ↦ any (unknownName D) ts ]) ≡ false
-          → (any (unknownName D) ts ≡ false → each (encodeToken E) ts ≡ each (encodeToken D) ts)
+      go : (b : Bool) → unknownName D t ≡ b → (elim b as (λ _. Bool) [ true ↦ true | false ↦ anyOf (unknownName D) ts ]) ≡ false
+          → (anyOf (unknownName D) ts ≡ false → each (encodeToken E) ts ≡ each (encodeToken D) ts)
           → each (encodeToken E) (t ∷ ts) ≡ each (encodeToken D) (t ∷ ts)
       go true f g more = absurd (true≢false g)
       go false f g more = ap₂ (λ (b c : Bytes). (kindOf t ∷ b) ++ c) (carried-same t f) (more g)

@@ -11,7 +11,7 @@ use lib.ListN.{length, getD, take, drop, set, length-set}
 use lib.Seq.{getD-set-same, getD-set-other}
 use borrow.Author.Tests.{leb-false, lt-leb, le-leb, eq-eqb, ne-eqb}
 use borrow.Rule.Slice.PartMut.{putMid}
-use Rattle.model.specs.Notation.{_>>=_, _is_, isNone, any, all, each, nth}
+use Rattle.model.specs.Notation.{_>>=_, _is_, isNone, anyOf, allOf, each, nth}
 use Rattle.model.specs.Limits.{operationLimit, ruleLimit}
 use Rattle.model.specs.Numbers as refusal
 use Rattle.model.specs.Bytes.{Bytes, same}
@@ -109,7 +109,7 @@ module _ (S : State) (standing : Standing S) (o p : Bytes) (policy operation rul
           rw (six, not-read)
       read ts e (some q) f =
           let is-read : ruleOf o p ≡ some (rule o ts) = rw (e, f) in
-          in-order (readPolicy ts is tooLarge) (any (unknownName D) ts) (isNone (operationNumber D o)) (leb ruleLimit (length (D .rules))) false policy operation rules
+          in-order (readPolicy ts is tooLarge) (anyOf (unknownName D) ts) (isNone (operationNumber D o)) (leb ruleLimit (length (D .rules))) false policy operation rules
           (judge ∙ rw (e, f)) (missing D (standing .declarations) o operation (found ts is-read)) (ap (leb ruleLimit) counted) refl
           ∙ ap (fieldsRefusal S) (sym is-read)
 
@@ -321,8 +321,8 @@ module _ (f : Bytes) (r : RuleFields) (told : RuleTold f r) (ok : r .ok ≡ true
       → operation ≡ numberOr operationLimit (operationNumber (S .declared) o)
   named S standing held o ts words e =
       let formed = fields-said Key.rule f (rule o ts) e .0 in
-      let (front, _) = parts (isName o && all isToken ts) (not (isNone (readPolicy ts))) formed in
-      found (S .declared) (standing .declarations) (held .operations) o (parts (isName o) (all isToken ts) front .0) words
+      let (front, _) = parts (isName o && allOf isToken ts) (not (isNone (readPolicy ts))) formed in
+      found (S .declared) (standing .declarations) (held .operations) o (parts (isName o) (allOf isToken ts) front .0) words
 
   number-is-first : (S : State) → Standing S → Holds book code S → first (ruleTests policy operation k) ≡ fieldsRefusal S (readRule f)
   number-is-first S standing held =

@@ -10,7 +10,8 @@ use Rattle.model.specs.Notation.{if_then_else_}
 use Rattle.model.specs.Bytes.{Bytes, same, oneOf}
 use Rattle.model.specs.Attributes.{Source, user, object, admin, env, connect, sources, AtomType, types}
 use Rattle.model.specs.Keys.{Key, keys}
-use Rattle.codes.specs.Codes.{keyCode, coded, sourceCode, typeCode}
+use Rattle.model.specs.Tokens.{Operator}
+use Rattle.codes.specs.Codes.{keyCode, coded, sourceCode, typeCode, operatorCode}
 
 module _ {A : Type 0} (word : A → Bytes) (code : A → ℕ) where
   -- the number of the first word that is s, else 0
@@ -67,6 +68,23 @@ type-injective = code-injective typeCode types reads
     reads AtomType.int = refl
     reads AtomType.str = refl
     reads AtomType.bool = refl
+
+pub operator-injective : (a b : Operator) → operatorCode a ≡ operatorCode b → a ≡ b
+operator-injective = code-injective operatorCode operators reads
+  where
+    operators : List Operator
+    operators =
+        Operator.equal ∷ Operator.IN ∷ Operator.unequal ∷ Operator.SUBSET ∷ Operator.less ∷ Operator.atMost ∷ Operator.greater ∷ Operator.atLeast ∷ []
+
+    reads : (a : Operator) → withCode operatorCode operators (operatorCode a) ≡ some a
+    reads Operator.equal = refl
+    reads Operator.IN = refl
+    reads Operator.unequal = refl
+    reads Operator.SUBSET = refl
+    reads Operator.less = refl
+    reads Operator.atMost = refl
+    reads Operator.greater = refl
+    reads Operator.atLeast = refl
 
 pub key-injective : (a b : Key) → keyCode a ≡ keyCode b → a ≡ b
 key-injective = code-injective keyCode keys reads

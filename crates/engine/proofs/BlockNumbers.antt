@@ -7,7 +7,7 @@ use mathlib.Core.Option.{Option, none, some}
 use lib.Dec.{eqb, leb}
 use lib.ListN.{length, getD}
 use borrow.Author.Tests.{le-leb, lt-leb}
-use Rattle.model.specs.Notation.{_is_, all}
+use Rattle.model.specs.Notation.{_is_, allOf}
 use Rattle.model.specs.Bytes.{Bytes}
 use Rattle.model.specs.Declarations.{Declarations, Sort, sortOf, isSort}
 use Rattle.model.specs.Block.{Block}
@@ -51,9 +51,9 @@ module _ {D : Declarations} {b : Block} {counts sorts attributes : List ℕ} {bl
   operation-so : leb (getD counts 1 0) (getD block 3 0) ≡ leb (length (D .operations)) (b .operation)
   operation-so = ap₂ leb (of .counts-are .operations) (sym (head-of block b (of .read) .operation))
 
-  entries-so : (r : Bool) → EntriesFit attributes entries r → r ≡ all (entryFits D) (b .entries)
+  entries-so : (r : Bool) → EntriesFit attributes entries r → r ≡ allOf (entryFits D) (b .entries)
   entries-so r fit =
-      fit D (of .attribute-rows) (of .entries-of .count) (of .entries-of .long) ∙ ap (all (entryFits D)) (sym (of .entries-of .are))
+      fit D (of .attribute-rows) (of .entries-of .count) (of .entries-of .long) ∙ ap (allOf (entryFits D)) (sym (of .entries-of .are))
 
   abbrev user-is : Bool
   user-is = sortOf D (b .user) is isSort Sort.user
@@ -65,7 +65,7 @@ module _ {D : Declarations} {b : Block} {counts sorts attributes : List ℕ} {bl
   operation-not = leb (length (D .operations)) (b .operation)
 
   abbrev entries-fit : Bool
-  entries-fit = all (entryFits D) (b .entries)
+  entries-fit = allOf (entryFits D) (b .entries)
 
   abbrev byParts : Bool → Bool → Bool → Bool → Bool
   byParts t u v w = not t || not u || v || not w

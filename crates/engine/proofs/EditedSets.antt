@@ -7,7 +7,7 @@ use mathlib.Core.List.{List}
 use native.Mathlib.Omega.{arith}
 use lib.ListN.{length, replicate}
 use lib.Dec.{eqb}
-use Rattle.model.specs.Notation.{if_then_else_, count, below}
+use Rattle.model.specs.Notation.{if_then_else_, countOf, below}
 use Rattle.model.specs.Limits.{holderNumbers, setWords}
 use Rattle.model.specs.Numbers as refusal
 use Rattle.model.specs.Bytes.{Bytes}
@@ -54,20 +54,20 @@ stored-same D E T U k e same =
     ap (λ (F : Declarations). storedSet F U k) e ∙ ap (λ (w : List ℕ). if isHolder D k then w else replicate setWords 0) (words-same (effectiveSet D U k) (effectiveSet D T k) (λ p l. same p))
 
 -- no set of a table differs from itself
-none-changed : (w : List ℕ) → count (setChanged w w) (below holderNumbers) ≡ 0
+none-changed : (w : List ℕ) → countOf (setChanged w w) (below holderNumbers) ≡ 0
 unfolding setChanged
 none-changed w = count-below (setChanged w w) 0 holderNumbers (omega arith) (λ k h l. ap not (same-refl (setIn w k)))
 
 -- the count of an edit, accepted or refused
 count-exact : {S : State} → Standing S → (line : Bytes)
     → model.edit S line .changed
-    ≡ count (setChanged (table (S .declared) (S .ties)) (table (model.edit S line .state .declared) (model.edit S line .state .ties))) (below holderNumbers)
+    ≡ countOf (setChanged (table (S .declared) (S .ties)) (table (model.edit S line .state .declared) (model.edit S line .state .ties))) (below holderNumbers)
 unfolding model.edit
 count-exact {S} standing line = go (eqb (editRefusal S line) 0) (edit-standing S line standing)
   where
     go : (b : Bool) → Standing ((if b then model.accepting S line else model.refusing S line) .state)
         → (if b then model.accepting S line else model.refusing S line) .changed
-        ≡ count (setChanged (table (S .declared) (S .ties)) (table ((if b then model.accepting S line else model.refusing S line) .state .declared) ((if b then model.accepting S line else model.refusing S line) .state .ties))) (below holderNumbers)
+        ≡ countOf (setChanged (table (S .declared) (S .ties)) (table ((if b then model.accepting S line else model.refusing S line) .state .declared) ((if b then model.accepting S line else model.refusing S line) .state .ties))) (below holderNumbers)
     go true after = changes-exact (S .declared) (S .ties) (model.accepting S line .state .ties) standing after
     go false after = sym (none-changed (table (S .declared) (S .ties)))
 
@@ -94,10 +94,10 @@ module _ (line : Bytes) {S : State} {book words : List ℕ} {code : Bytes} {numb
       (given .answered)
 
   -- the count is that of the holders whose four words differ
-  pub sets-counted : changed ≡ count (setChanged words words′) (below holderNumbers)
+  pub sets-counted : changed ≡ countOf (setChanged words words′) (below holderNumbers)
   sets-counted =
-      by-table S words line (together .kept) (λ a w u. a ≡ ledger.edited number changed → changed ≡ count (setChanged w u) (below holderNumbers))
+      by-table S words line (together .kept) (λ a w u. a ≡ ledger.edited number changed → changed ≡ countOf (setChanged w u) (below holderNumbers))
       (λ e. let z : changed ≡ 0 = cc in z ∙ sym (none-changed words))
       (λ e. let n : changed ≡ model.edit S line .changed = cc in n ∙ count-exact (together .standing) line)
       (given .answered)
-      ∙ ap (λ (u : List ℕ). count (setChanged words u) (below holderNumbers)) (given .table)
+      ∙ ap (λ (u : List ℕ). countOf (setChanged words u) (below holderNumbers)) (given .table)

@@ -3,7 +3,7 @@
 use Prim.Native.Nat.{ℕ}
 use mathlib.Core.Path.{_≡_}
 use mathlib.Core.List.{List}
-use Rattle.model.specs.Notation.{count, below}
+use Rattle.model.specs.Notation.{countOf, below}
 use Rattle.model.specs.Limits.{holderNumbers}
 use Rattle.model.specs.Bytes.{Bytes}
 use Rattle.model.specs.State.{State}
@@ -34,5 +34,5 @@ module _ {first : Memory} {calls : List Call} {S : State} {before after : Memory
   refused-stays refused = refused-sets line together given refused
 
   -- the count is that of the holders whose four words differ
-  pub count-in-run : changed ≡ count (setChanged (before .words) (after .words)) (below holderNumbers)
+  pub count-in-run : changed ≡ countOf (setChanged (before .words) (after .words)) (below holderNumbers)
   count-in-run = sets-counted line together given

@@ -10,7 +10,7 @@ use lib.Dec.{ltb, leb}
 use lib.ListN.{length, getD, take, drop}
 use lib.Seq.{getD-drop, drop-drop}
 use borrow.Author.Tests.{lt-ltb, le-ltb, le-leb, lt-leb}
-use Rattle.model.specs.Notation.{if_then_else_, _is_, all, nth}
+use Rattle.model.specs.Notation.{if_then_else_, _is_, allOf, nth}
 use Rattle.model.specs.Bytes.{Bytes}
 use Rattle.model.specs.Attributes.{Source, AtomType, fromBlock}
 use Rattle.model.specs.Declarations.{Declarations, Attribute}
@@ -122,18 +122,18 @@ module _ (s : Bytes) where
   cons-so n j = ap₂ (λ (e : Entry) (l : List Entry). e ∷ l) (cut j) (ap (entriesOf n) (behind j))
 
   module _ (p : Entry → Bool) where
-    all-from : (n j : ℕ) → ((i : ℕ) → j ≤ i → i < j + n → p (entryAt s i) ≡ true) → all p (entriesOf n (drop (5 * j) s)) ≡ true
+    all-from : (n j : ℕ) → ((i : ℕ) → j ≤ i → i < j + n → p (entryAt s i) ≡ true) → allOf p (entriesOf n (drop (5 * j) s)) ≡ true
     all-from zero j f = refl
     all-from (suc n) j f =
-        ap (all p) (cons-so n j) ∙ ap (λ (t : Bool). if t then all p (entriesOf n (drop (5 * suc j) s)) else false) (f j (omega arith) (omega arith))
+        ap (allOf p) (cons-so n j) ∙ ap (λ (t : Bool). if t then allOf p (entriesOf n (drop (5 * suc j) s)) else false) (f j (omega arith) (omega arith))
         ∙ all-from n (suc j) (λ i a b. f i (omega arith) (omega arith))
 
-    not-from : (n j i : ℕ) → j ≤ i → i < j + n → p (entryAt s i) ≡ false → all p (entriesOf n (drop (5 * j) s)) ≡ false
+    not-from : (n j i : ℕ) → j ≤ i → i < j + n → p (entryAt s i) ≡ false → allOf p (entriesOf n (drop (5 * j) s)) ≡ false
     not-from zero j i a b e = absurd (omega arith)
-    not-from (suc n) j i a b e = ap (all p) (cons-so n j) ∙ go (decLt j i) (λ l. not-from n (suc j) i (omega arith) (omega arith) e)
+    not-from (suc n) j i a b e = ap (allOf p) (cons-so n j) ∙ go (decLt j i) (λ l. not-from n (suc j) i (omega arith) (omega arith) e)
       where
         rest : Bool
-        rest = all p (entriesOf n (drop (5 * suc j) s))
+        rest = allOf p (entriesOf n (drop (5 * suc j) s))
 
         either : (t : Bool) → rest ≡ false → (if t then rest else false) ≡ false
         either true r = r
@@ -145,10 +145,10 @@ module _ (s : Bytes) where
             let d : j ≡ i = omega arith in
             ap (λ (t : Bool). if t then rest else false) (ap (λ (m : ℕ). p (entryAt s m)) d ∙ e)
 
-    pub all-fit : (n : ℕ) → length s ≡ 5 * n → ((i : ℕ) → i < length s / 5 → p (entryAt s i) ≡ true) → true ≡ all p (entriesOf n s)
+    pub all-fit : (n : ℕ) → length s ≡ 5 * n → ((i : ℕ) → i < length s / 5 → p (entryAt s i) ≡ true) → true ≡ allOf p (entriesOf n s)
     all-fit n e f = sym (all-from n 0 (λ i a b. f i (omega arith)))
 
-    pub one-does-not : (n : ℕ) → length s ≡ 5 * n → (i : ℕ) → i < length s / 5 → p (entryAt s i) ≡ false → false ≡ all p (entriesOf n s)
+    pub one-does-not : (n : ℕ) → length s ≡ 5 * n → (i : ℕ) → i < length s / 5 → p (entryAt s i) ≡ false → false ≡ allOf p (entriesOf n s)
     one-does-not n e i h q = sym (not-from n 0 i (omega arith) (omega arith) q)
 
     pub so-far : (k : ℕ) → ((j : ℕ) → j < k → p (entryAt s j) ≡ true) → p (entryAt s k) ≡ true → (j : ℕ) → j < k + 1 → p (entryAt s j) ≡ true

@@ -102,7 +102,7 @@ module _ (S : State) (block : Bytes) where
   abbrev answer : Option Block → model.Decision
   answer o =
       let n = first (refusal.badBlock if isNone o ∷ refusal.wrongNumber if (o is wrongNumber (S .declared)) ∷ refusal.notHeld if (o is notHeld S) ∷ []) in
-      if eqb n 0 then judged S o else model.refused n
+      judged S n o
 
   decide-by : (o : Option Block) → readBlock block ≡ o → model.decide S block ≡ answer o
   unfolding model.decide requestRefusal badBlock

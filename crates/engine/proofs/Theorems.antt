@@ -5,7 +5,7 @@ use mathlib.Core.Logic.{_↔_}
 use mathlib.Core.Bool.{true}
 use mathlib.Core.List.{List, _∷_}
 use lib.ListN.{length}
-use Rattle.model.specs.Notation.{map, count, below}
+use Rattle.model.specs.Notation.{map, countOf, below}
 use Rattle.model.specs.Limits.{holderNumbers}
 use Rattle.model.specs.Bytes.{Bytes}
 use Rattle.model.specs.Truth.{TRUE, UNDEF}
@@ -95,5 +95,5 @@ module _ {first : Memory} {calls : List Call} {S : State} {before after : Memory
   edits-refused = EditsInRuns.refused-stays run does
 
   -- and its count is exact
-  pub edits-counted : changed ≡ count (setChanged (before .words) (after .words)) (below holderNumbers)
+  pub edits-counted : changed ≡ countOf (setChanged (before .words) (after .words)) (below holderNumbers)
   edits-counted = EditsInRuns.count-in-run run does

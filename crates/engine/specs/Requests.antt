@@ -5,7 +5,7 @@ use mathlib.Core.Bool.{Bool}
 use mathlib.Core.List.{List}
 use mathlib.Core.Option.{none, some}
 use lib.ListN.{length}
-use Rattle.model.specs.Notation.{if_then_else_, _is_, all, nth}
+use Rattle.model.specs.Notation.{if_then_else_, _is_, allOf, nth}
 use Rattle.model.specs.Limits.{pairLimit, entryBytes}
 use Rattle.model.specs.Bytes.{Bytes, same}
 use Rattle.model.specs.Truth as model
@@ -38,7 +38,7 @@ EntryFits rows k value r = (D : Declarations) → AttributeRows rows D → r ≡
 -- r tells whether each of the entries is one
 abbrev pub EntriesFit : List ℕ → Bytes → Bool → Type 0
 EntriesFit rows entries r =
-    (D : Declarations) → AttributeRows rows D → (n : ℕ) → length entries ≡ entryBytes * n → r ≡ all (entryFits D) (entriesOf n entries)
+    (D : Declarations) → AttributeRows rows D → (n : ℕ) → length entries ≡ entryBytes * n → r ≡ allOf (entryFits D) (entriesOf n entries)
 
 -- the numbers of a block are looked up in these sections, its entries are these bytes
 pub record NumbersOf (D : Declarations) (b : Block) (counts sorts attributes : List ℕ) (block entries : Bytes) : Type 0 where

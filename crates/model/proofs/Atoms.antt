@@ -8,7 +8,7 @@ use mathlib.Core.Option.{Option, none, some, Option·some-injective}
 use borrow.Author.Tests.{leb-true, le-leb}
 use lib.ListN.{length}
 use lib.Dec.{leb}
-use Rattle.model.specs.Notation.{_>>=_, isEmpty, all}
+use Rattle.model.specs.Notation.{_>>=_, isEmpty, allOf}
 use Rattle.model.specs.Limits.{largestInt, textBytes}
 use Rattle.model.specs.Bytes.{Bytes, bytes, newline, behind, oneOf}
 use Rattle.model.specs.Atoms.{Atom, int, str, bool, readInt, decimal, textByte, isText, quoted, readStr, boolWord, readBool, readAtom, writeAtom, isAtom}
@@ -21,7 +21,7 @@ use Rattle.model.proofs.Decimals.{digit, digits-decimal, int-exact}
 -- a text holds no double quote and no byte 10
 pub text-lacks : (b : ℕ) → textByte b ≡ false → (t : Bytes) → isText t ≡ true → lacks b t ≡ true
 unfolding isText
-text-lacks b off t e = passing-lacks textByte b off t (parts (leb (length t) textBytes) (all textByte t) e .1)
+text-lacks b off t e = passing-lacks textByte b off t (parts (leb (length t) textBytes) (allOf textByte t) e .1)
 
 pub str-exact : (s t : Bytes) → (readStr s ≡ some t) ↔ ((isText t ≡ true) × (s ≡ quoted t))
 unfolding readStr
@@ -44,7 +44,7 @@ bool-exact s b = (λ e. sym (one-of-word boolWord bools s b e), λ e. ap (oneOf 
 quoted-no-int : (t : Bytes) → readInt (quoted t) ≡ none
 quoted-no-int t = no-result (readInt (quoted t)) λ n e.
     let q = int-exact (quoted t) n .0 e .1 in
-    false-is-true (all-parts digit 34 (t ++ 34 ∷ []) (ap (all digit) q ∙ digits-decimal n) .0)
+    false-is-true (all-parts digit 34 (t ++ 34 ∷ []) (ap (allOf digit) q ∙ digits-decimal n) .0)
 
 -- the words of truth values are neither numbers nor quoted
 bool-atom : (b : Bool) → readAtom (boolWord b) ≡ some (bool b)

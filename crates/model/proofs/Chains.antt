@@ -8,7 +8,7 @@ use native.Mathlib.Omega.{arith}
 use lib.ListN.{length}
 use lib.Dec.{eqb}
 use borrow.Author.Tests.{eq-eqb, eqb-true}
-use Rattle.model.specs.Notation.{count}
+use Rattle.model.specs.Notation.{countOf}
 use Rattle.model.specs.Ties.{Ties, parent, member, value, added, up, Below, one, more, Acyclic, ups, belowWithin, isBelow, closesCircle}
 use Rattle.model.proofs.Ties.{up-added}
 use Rattle.model.proofs.Lists.{_∈_, true-or-false, or-cases, or-left, or-right, or-none, any-in, in-any, in-filter, filter-in, count-le, count-more}
@@ -49,12 +49,12 @@ module _ (hs : List ℕ) (T : Ties) (in-hs : Among hs T) (acyclic : Acyclic T) w
     fresh : seen h ≡ false
     fresh = ⊎-elim (λ on. absurd (acyclic h (above h on))) (λ off. off) (true-or-false (seen h))
 
-    one-more : count seen hs < count (λ x. seen x || eqb x h) hs
+    one-more : countOf seen hs < countOf (λ x. seen x || eqb x h) hs
     one-more =
         count-more seen (λ x. seen x || eqb x h) (λ x e. or-left (seen x) (eqb x h) e) m fresh (or-right (seen h) (eqb h h) (eq-eqb h h refl))
 
   -- a chain meets a holder that it has not met yet, of which there are fewer each time
-  path-depth : (n h : ℕ) (seen : ℕ → Bool) → h ∈ hs → ((x : ℕ) → seen x ≡ true → Below T x h) → length hs ≤ n + count seen hs → Depth T n h
+  path-depth : (n h : ℕ) (seen : ℕ → Bool) → h ∈ hs → ((x : ℕ) → seen x ≡ true → Below T x h) → length hs ≤ n + countOf seen hs → Depth T n h
   unfolding Depth
   path-depth zero h seen m above l = omega (arith, count-le (λ x. seen x || eqb x h) hs, one-more h seen m above)
   path-depth (suc n) h seen m above l =

@@ -8,7 +8,7 @@ use mathlib.Core.Option.{Option, none, some}
 use native.Mathlib.Decide.{decLt}
 use native.Mathlib.Omega.{arith}
 use lib.ListN.{length, replicate}
-use Rattle.model.specs.Notation.{if_then_else_, count, below, map}
+use Rattle.model.specs.Notation.{if_then_else_, countOf, below, map}
 use Rattle.model.specs.Limits.{holderNumbers, pairLimit, setWords}
 use Rattle.model.specs.Bytes.{same}
 use Rattle.model.specs.Declarations.{Declarations, Holder, isHolder, holderNumbersOf}
@@ -102,7 +102,7 @@ module _ (D : Declarations) (T U : Ties) (before : Standing (record { declared =
       (set-in-table D T k l ∙ other-words T k h ∙ sym (other-words U k h) ∙ sym (set-in-table D U k l))
 
   -- "the number of holders whose stored set changed"
-  pub changes-exact : changes D T U ≡ count (setChanged (table D T) (table D U)) (below holderNumbers)
+  pub changes-exact : changes D T U ≡ countOf (setChanged (table D T) (table D U)) (below holderNumbers)
   unfolding changes holderNumbersOf
   changes-exact =
       count-ext (differs D T U) (setChanged (table D T) (table D U)) (holderNumbersOf D) (λ k m. changed-holder k (laws.holder-below D k m))

@@ -7,7 +7,7 @@ use mathlib.Core.List.{[], _∷_, _++_}
 use mathlib.Core.Option.{Option, some}
 use borrow.Author.Tests.{eqb-true, eq-eqb, not-true}
 use lib.Dec.{eqb}
-use Rattle.model.specs.Notation.{_>>=_, isEmpty, all}
+use Rattle.model.specs.Notation.{_>>=_, isEmpty, allOf}
 use Rattle.model.specs.Bytes.{Bytes, newline, cut, behind, content}
 use Rattle.model.proofs.WordTables.{false-is-true, none-is-some}
 use Rattle.model.proofs.Options.{fields, bound, condition}
@@ -18,7 +18,7 @@ abbrev pub isnt : ℕ → ℕ → Bool
 isnt b x = not (eqb x b)
 
 abbrev pub lacks : ℕ → Bytes → Bool
-lacks b s = all (isnt b) s
+lacks b s = allOf (isnt b) s
 
 -- from the parts to the whole, and back
 pub cut-joined : (b : ℕ) (l r : Bytes) → lacks b l ≡ true → cut b (l ++ b ∷ r) ≡ some (l, r)
@@ -64,7 +64,7 @@ pub cut-bound : {B C : Type 0} (b : ℕ) (s : Bytes) {f : Bytes × Bytes → Opt
 cut-bound b s e k = bound {o = cut b s} e λ c h q. let (p, j) = cut-parts b s h in k c p j q
 
 -- bytes that pass a test hold none that fails it
-pub passing-lacks : (p : ℕ → Bool) (b : ℕ) → p b ≡ false → (s : Bytes) → all p s ≡ true → lacks b s ≡ true
+pub passing-lacks : (p : ℕ → Bool) (b : ℕ) → p b ≡ false → (s : Bytes) → allOf p s ≡ true → lacks b s ≡ true
 passing-lacks p b f = all-by p (isnt b) λ x h. go x h (eqb x b) refl
   where
     go : (x : ℕ) → p x ≡ true → (t : Bool) → eqb x b ≡ t → not t ≡ true

@@ -9,7 +9,7 @@ use native.Mathlib.Omega.{arith}
 use borrow.Author.Tests.{leb-true, ltb-true, ltb-false, lt-ltb, le-ltb, le-leb, ne-eqb, eqb-false, not-true}
 use lib.ListN.{length, length-append}
 use lib.Dec.{ltb}
-use Rattle.model.specs.Notation.{all}
+use Rattle.model.specs.Notation.{allOf}
 use Rattle.model.specs.Limits.{largestInt}
 use Rattle.model.specs.Bytes.{Bytes, isByte, inRange}
 use Rattle.model.specs.Atoms.{numberFrom, noLeadingZero, readInt, digitsWithin, decimal}
@@ -76,7 +76,7 @@ number-append a [] t = refl
 number-append a (x ∷ s) t = number-append (a * 10 + (x - 48)) s t
 
 -- reading on from a leads to the number that a's digits and the ones read write
-pub decimal-number : (a : ℕ) (s : Bytes) → 0 < a → all digit s ≡ true → decimal (numberFrom a s) ≡ decimal a ++ s
+pub decimal-number : (a : ℕ) (s : Bytes) → 0 < a → allOf digit s ≡ true → decimal (numberFrom a s) ≡ decimal a ++ s
 decimal-number a [] h e = sym (append-nil (decimal a))
 decimal-number a (x ∷ s) h e =
     let (p, q) = all-parts digit x s e in
@@ -85,8 +85,8 @@ decimal-number a (x ∷ s) h e =
     decimal-number (a * 10 + (x - 48)) s (omega arith) q ∙ rw (decimal-more a (x - 48) h (omega arith), z) (append-assoc (decimal a) (x ∷ []) s)
 
 -- the digits of a number are digits, and write it
-pub digits-decimal : (n : ℕ) → all digit (decimal n) ≡ true
-digits-decimal = by-digits (λ n. all digit (decimal n) ≡ true)
+pub digits-decimal : (n : ℕ) → allOf digit (decimal n) ≡ true
+digits-decimal = by-digits (λ n. allOf digit (decimal n) ≡ true)
     (λ n h. rw (decimal-last n h) (all-cons digit (48 + n) [] (range-digit (48 + n) (omega arith) (omega arith)) refl))
     (λ a d h k i. rw (decimal-more a d h k) (all-append digit (decimal a) _ i (all-cons digit (48 + d) [] (range-digit (48 + d) (omega arith) (omega arith)) refl)))
 
@@ -124,7 +124,7 @@ length-decimal = by-digits (λ n. 1 ≤ length (decimal n))
     (λ a d h k i. rw (decimal-more a d h k, length-append) (omega arith))
 
 -- digits without leading zeros are those of their number
-pub decimal-of : (s : Bytes) → 1 ≤ length s → all digit s ≡ true → noLeadingZero s ≡ true → decimal (numberFrom 0 s) ≡ s
+pub decimal-of : (s : Bytes) → 1 ≤ length s → allOf digit s ≡ true → noLeadingZero s ≡ true → decimal (numberFrom 0 s) ≡ s
 decimal-of [] l e z = absurd (omega arith)
 decimal-of (x ∷ []) l e z =
     let r = digit-range x (all-parts digit x [] e .0) in

@@ -10,7 +10,7 @@ use native.Mathlib.Nat.{zero-add}
 use native.Mathlib.Omega.{arith}
 use lib.Dec.{eqb}
 use borrow.Author.Tests.{eqb-true, eqb-false}
-use Rattle.model.specs.Notation.{if_then_else_, _is_, isNone, any, map, filter, nth, numbered, numberedFrom}
+use Rattle.model.specs.Notation.{if_then_else_, _is_, isNone, anyOf, map, filter, nth, numbered, numberedFrom}
 use Rattle.model.specs.Truth.{Truth, TRUE, UNDEF}
 use Rattle.model.specs.Bytes.{Bytes, same}
 use Rattle.model.specs.Declarations.{Rule}
@@ -18,12 +18,12 @@ use Rattle.model.specs.State.{State}
 use Rattle.model.specs.Meaning.{meaningOf}
 use Rattle.model.specs.Block.{Block, readBlock}
 use Rattle.model.specs.Session.{readBy}
-use Rattle.model.specs.Refusals.{badBlock, requestTests, requestRefusal}
-use Rattle.model.specs.Decision.{Decision, permit, deny, undefined, refused, verdicts, isTrue, isUndef, withoutPermit, decisionBy, judged, decide}
+use Rattle.model.specs.Refusals.{requestRefusal}
+use Rattle.model.specs.Decision.{Decision, permit, deny, undefined, refused, verdicts, isTrue, isUndef, withoutPermit, permitBy, decisionBy, judged, decide}
 use Rattle.model.proofs.WordTables.{false-is-true, same-eq, same-refl}
 use Rattle.model.proofs.Options.{is-some}
 use Rattle.model.proofs.Lists.{_∈_, any-in, in-any, in-filter, filter-in, in-map, map-in, in-numbered, numbered-in}
-use Rattle.model.proofs.Tests.{none-holds}
+use Rattle.model.proofs.Refusals.{unread}
 
 -- the numbers rise: each is below those behind it
 abbrev pub Rising : {A : Type 0} → List (ℕ × A) → Type 0
@@ -81,33 +81,23 @@ module _ (vs : List (ℕ × Truth)) where
   in-true : (j : ℕ) → (j, TRUE) ∈ vs → (j, TRUE) ∈ trues
   in-true j m = filter-in (λ v. isTrue (v .1)) m refl
 
-  -- the first that is TRUE, if there is one, permits
-  first-permits : (v : ℕ × Truth) (rest : List (ℕ × Truth)) → trues ≡ v ∷ rest → decisionBy vs ≡ permit (v .0)
-  unfolding decisionBy
-  first-permits v rest e = rw (e, decisionBy)
-
-  none-permits : trues ≡ [] → decisionBy vs ≡ withoutPermit vs
-  unfolding decisionBy
-  none-permits e = rw (e, decisionBy)
-
   decided-cases : (P : Decision → Type 0)
       → (NoneIs TRUE vs → SomeIs UNDEF vs → P undefined)
       → (NoneIs TRUE vs → NoneIs UNDEF vs → P deny)
-      → ((v : ℕ × Truth) (rest : List (ℕ × Truth)) → trues ≡ v ∷ rest → P (permit (v .0)))
+      → ((v : ℕ × Truth) (rest : List (ℕ × Truth)) → trues ≡ v ∷ rest → P (permitBy (v ∷ rest) (withoutPermit vs)))
       → P (decisionBy vs)
+  unfolding decisionBy
   decided-cases P on-undef on-deny on-permit = go trues refl
     where
-      without : NoneIs TRUE vs → (b : Bool) → any (λ v. isUndef (v .1)) vs ≡ b → P (if b then undefined else deny)
+      without : NoneIs TRUE vs → (b : Bool) → anyOf (λ v. isUndef (v .1)) vs ≡ b → P (if b then undefined else deny)
       without n true e =
           let r = any-in (λ v. isUndef (v .1)) vs e in
           on-undef n (r .0 .0, subst (λ (t : Truth). (r .0 .0, t) ∈ vs) (is-undef (r .0 .1) (r .2)) (r .1))
       without n false e = on-deny n (λ j m. false-is-true (sym e ∙ in-any (λ v. isUndef (v .1)) m refl))
 
-      go : (l : List (ℕ × Truth)) → trues ≡ l → P (decisionBy vs)
-      go [] e =
-          subst P (sym (none-permits e))
-          (without (λ j m. elim (subst (λ (l : List (ℕ × Truth)). (j, TRUE) ∈ l) e (in-true j m)) [ ]) (any (λ v. isUndef (v .1)) vs) refl)
-      go (v ∷ rest) e = subst P (sym (first-permits v rest e)) (on-permit v rest e)
+      go : (l : List (ℕ × Truth)) → trues ≡ l → P (permitBy l (withoutPermit vs))
+      go [] e = without (λ j m. elim (subst (λ (l : List (ℕ × Truth)). (j, TRUE) ∈ l) e (in-true j m)) [ ]) (anyOf (λ v. isUndef (v .1)) vs) refl
+      go (v ∷ rest) e = on-permit v rest e
 
   first-true : (v : ℕ × Truth) (rest : List (ℕ × Truth)) → trues ≡ v ∷ rest → (v .0, TRUE) ∈ vs
   first-true v rest e = true-in v (subst (λ (l : List (ℕ × Truth)). v ∈ l) (sym e) (here refl))
@@ -213,17 +203,13 @@ module _ (S : State) (block : Bytes) where
       → ((n : ℕ) → requestRefusal S block ≡ n → (n ≡ 0 → ⊥) → P (refused n))
       → ((b : Block) → Accepted S block b → P (decisionBy (verdicts S b)))
       → P (decide S block)
-  unfolding decide requestRefusal badBlock
-  decide-cases P on-refused on-block = go (eqb (requestRefusal S block) 0) refl
+  unfolding decide
+  decide-cases P on-refused on-block = go (readBlock block) refl (eqb (requestRefusal S block) 0) refl
     where
-      read : requestRefusal S block ≡ 0 → (o : Option Block) → readBlock block ≡ o → P (judged S o)
-      read e none q = false-is-true (sym (none-holds (requestTests S block) refl e .0) ∙ ap isNone q)
-      read e (some b) q = on-block b (record { not-refused = e; block-is = q })
-
-      go : (t : Bool) → eqb (requestRefusal S block) 0 ≡ t
-          → P (elim t as (λ _. Decision) [ true ↦ judged S (readBlock block) | false ↦ refused (requestRefusal S block) ])
-      go true e = read (eqb-true (requestRefusal S block) 0 e) (readBlock block) refl
-      go false e = on-refused (requestRefusal S block) refl (eqb-false (requestRefusal S block) 0 e)
+      go : (o : Option Block) → readBlock block ≡ o → (t : Bool) → eqb (requestRefusal S block) 0 ≡ t → P (judged S (requestRefusal S block) o)
+      go none q t e = on-refused (requestRefusal S block) refl (unread S block (ap isNone q))
+      go (some b) q true e = rw e (on-block b (record { not-refused = eqb-true (requestRefusal S block) 0 e; block-is = q }))
+      go (some b) q false e = rw e (on-refused (requestRefusal S block) refl (eqb-false (requestRefusal S block) 0 e))
 
   decide-accepted : (b : Block) → Accepted S block b → decide S block ≡ decisionBy (verdicts S b)
   decide-accepted b a =

@@ -10,7 +10,7 @@ use native.Mathlib.Omega.{arith}
 use lib.ListN.{length}
 use lib.Dec.{eqb, leb, ltb}
 use borrow.Author.Tests.{leb-false, not-false, not-true, eqb-true, eqb-false, eq-eqb, ne-eqb, lt-ltb, le-ltb}
-use Rattle.model.specs.Notation.{if_then_else_, _>>=_, _is_, isNone, any, all, nth, place}
+use Rattle.model.specs.Notation.{if_then_else_, _>>=_, _is_, isNone, anyOf, allOf, nth, place}
 use Rattle.model.specs.Limits.{attributeLimit, operationLimit, pairLimit, holderNumbers, groupLimit, ruleLimit}
 use Rattle.model.specs.Bytes.{Bytes, bytes, same}
 use Rattle.model.specs.Names.{isName}
@@ -324,12 +324,12 @@ pair-of-line D s n a written known sorted =
 rule-of-line : (D : Declarations) (o : Bytes) (ts : List Token) → isLine (rule o ts) ≡ true → overLimits (rule o ts) ≡ false → undeclared D (rule o ts) ≡ false
     → RuleStands D (record { operation = o; tokens = ts })
 rule-of-line D o ts formed within known =
-    let (front, policy) = parts (isName o && all isToken ts) (not (isNone (readPolicy ts))) formed in
+    let (front, policy) = parts (isName o && allOf isToken ts) (not (isNone (readPolicy ts))) formed in
     let (p, reads) = found (readPolicy ts) (not-true (isNone (readPolicy ts)) policy) in
-    let (operation, names) = or-none (isNone (operationNumber D o)) (any (unknownName D) ts) known in
+    let (operation, names) = or-none (isNone (operationNumber D o)) (anyOf (unknownName D) ts) known in
     record {
       operation-declared = operation;
-      written = parts (isName o) (all isToken ts) front .1;
+      written = parts (isName o) (allOf isToken ts) front .1;
       policy = p;
       reads = reads;
       within = some-not (readPolicy ts) tooLarge within p reads;

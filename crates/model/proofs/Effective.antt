@@ -6,7 +6,7 @@ use mathlib.Core.Logic.{⊎-elim, _↔_}
 use mathlib.Core.Bool.{Bool, true, _||_, true≢false}
 use mathlib.Core.List.{List}
 use lib.ListN.{length}
-use Rattle.model.specs.Notation.{any}
+use Rattle.model.specs.Notation.{anyOf}
 use Rattle.model.specs.Ties.{Ties, parent, member, value, up, one, more, Below, Acyclic, ups}
 use Rattle.model.specs.Effective.{direct, effectiveWithin, effective, Has, own, inherited}
 use Rattle.model.specs.Standing.{DifferAt}
@@ -29,14 +29,14 @@ has-sound (suc n) hs T h p e =
     (λ s.
     let r = any-in (λ g. effectiveWithin n hs T g p) (ups hs T h) s in
     inherited (in-filter (up T h) hs (r .1) .1) (has-sound n hs T (r .0) p (r .2)))
-    (or-cases (direct T h p) (any (λ g. effectiveWithin n hs T g p) (ups hs T h)) e)
+    (or-cases (direct T h p) (anyOf (λ g. effectiveWithin n hs T g p) (ups hs T h)) e)
 
 has-complete : (n : ℕ) (hs : List ℕ) (T : Ties) → Among hs T → (h p : ℕ) → Depth T n h → Has T p h → effectiveWithin n hs T h p ≡ true
 unfolding Depth
 has-complete zero hs T a h p d c = absurd d
-has-complete (suc n) hs T a h p d (own e) = or-left (direct T h p) (any (λ g. effectiveWithin n hs T g p) (ups hs T h)) e
+has-complete (suc n) hs T a h p d (own e) = or-left (direct T h p) (anyOf (λ g. effectiveWithin n hs T g p) (ups hs T h)) e
 has-complete (suc n) hs T a h p d (inherited {g = g} e c) =
-    or-right (direct T h p) (any (λ g. effectiveWithin n hs T g p) (ups hs T h))
+    or-right (direct T h p) (anyOf (λ g. effectiveWithin n hs T g p) (ups hs T h))
     (in-any (λ g. effectiveWithin n hs T g p) (filter-in (up T h) (a .upper h g e) e) (has-complete n hs T a g p (d g e) c))
 
 has-in : {hs : List ℕ} {T : Ties} {p h : ℕ} → Among hs T → Has T p h → h ∈ hs
@@ -62,13 +62,13 @@ module _ (hs : List ℕ) (T : Ties) (a : Among hs T) (acyclic : Acyclic T) where
 
   -- what a holder has by the sentence: its own pairs, and those of the holders one tie up
   by-sentence : ℕ → ℕ → Bool
-  by-sentence h p = direct T h p || any (λ g. effective hs T g p) (ups hs T h)
+  by-sentence h p = direct T h p || anyOf (λ g. effective hs T g p) (ups hs T h)
 
   sentence-complete : (h p : ℕ) → Has T p h → by-sentence h p ≡ true
   unfolding by-sentence
-  sentence-complete h p (own e) = or-left (direct T h p) (any (λ g. effective hs T g p) (ups hs T h)) e
+  sentence-complete h p (own e) = or-left (direct T h p) (anyOf (λ g. effective hs T g p) (ups hs T h)) e
   sentence-complete h p (inherited {g = g} e c) =
-      or-right (direct T h p) (any (λ g. effective hs T g p) (ups hs T h))
+      or-right (direct T h p) (anyOf (λ g. effective hs T g p) (ups hs T h))
       (in-any (λ g. effective hs T g p) (filter-in (up T h) (a .upper h g e) e) (effective-has g p .1 c))
 
   sentence-sound : (h p : ℕ) → by-sentence h p ≡ true → effective hs T h p ≡ true
@@ -78,10 +78,10 @@ module _ (hs : List ℕ) (T : Ties) (a : Among hs T) (acyclic : Acyclic T) where
       (λ s.
       let r = any-in (λ g. effective hs T g p) (ups hs T h) s in
       effective-closed .closed-up h (r .0) p (in-filter (up T h) hs (r .1) .1) (r .2))
-      (or-cases (direct T h p) (any (λ g. effective hs T g p) (ups hs T h)) e)
+      (or-cases (direct T h p) (anyOf (λ g. effective hs T g p) (ups hs T h)) e)
 
   -- the sentence as an equation
-  pub effective-equation : (h p : ℕ) → effective hs T h p ≡ (direct T h p || any (λ g. effective hs T g p) (ups hs T h))
+  pub effective-equation : (h p : ℕ) → effective hs T h p ≡ (direct T h p || anyOf (λ g. effective hs T g p) (ups hs T h))
   unfolding by-sentence
   effective-equation h p =
       same-truth (effective hs T h p) (by-sentence h p) (λ e. sentence-complete h p (effective-has h p .0 e)) (sentence-sound h p)
@@ -92,7 +92,7 @@ module _ (hs : List ℕ) (T U : Ties) (e : ℕ) (differ : DifferAt e T U) where
   same-within zero k p not-e not-below = refl
   same-within (suc n) k p not-e not-below =
       ap₂ (λ (d s : Bool). d || s) (differ (value k p) not-e)
-      (ap (λ (l : List ℕ). any (λ g. effectiveWithin n hs U g p) l) (filter-ext (up U k) (up T k) hs (λ g m. same-up g))
+      (ap (λ (l : List ℕ). anyOf (λ g. effectiveWithin n hs U g p) l) (filter-ext (up U k) (up T k) hs (λ g m. same-up g))
       ∙ any-ext (λ g. effectiveWithin n hs U g p) (λ g. effectiveWithin n hs T g p) (ups hs T k)
       (λ g m.
       let t : up T k g ≡ true = in-filter (up T k) hs m .1 in

@@ -9,7 +9,7 @@ use native.Mathlib.Omega.{arith}
 use lib.ListN.{length, length-append}
 use lib.Dec.{leb}
 use borrow.Author.Tests.{leb-false}
-use Rattle.model.specs.Notation.{if_then_else_, _>>=_, any, place, nth}
+use Rattle.model.specs.Notation.{if_then_else_, _>>=_, anyOf, place, nth}
 use Rattle.model.specs.Standing.{Each, Unique}
 use Rattle.model.proofs.WordTables.{none-is-some}
 
@@ -56,11 +56,11 @@ module _ {A : Type 0} where
       go false q none g h zero k = ap p (sym (Option·some-injective _ _ k)) ∙ q
       go false q none g h (suc j) k = g refl j x k
 
-  pub any-none-by : (p q : A → Bool) → ((x : A) → p x ≡ false → q x ≡ false) → (xs : List A) → any p xs ≡ false → any q xs ≡ false
+  pub any-none-by : (p q : A → Bool) → ((x : A) → p x ≡ false → q x ≡ false) → (xs : List A) → anyOf p xs ≡ false → anyOf q xs ≡ false
   any-none-by p q f [] e = refl
   any-none-by p q f (x ∷ xs) e = go (p x) refl e (any-none-by p q f xs)
     where
-      go : (t : Bool) → p x ≡ t → (if t then true else any p xs) ≡ false → (any p xs ≡ false → any q xs ≡ false) → (if q x then true else any q xs) ≡ false
+      go : (t : Bool) → p x ≡ t → (if t then true else anyOf p xs) ≡ false → (anyOf p xs ≡ false → anyOf q xs ≡ false) → (if q x then true else anyOf q xs) ≡ false
       go true h g more = absurd (true≢false g)
       go false h g more = rw (f x h) (more g)
 

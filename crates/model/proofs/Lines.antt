@@ -8,7 +8,7 @@ use mathlib.Core.Option.{Option, none, some, Option·some-injective}
 use borrow.Author.Tests.{leb-true, le-leb}
 use lib.ListN.{length}
 use lib.Dec.{leb}
-use Rattle.model.specs.Notation.{_>>=_, isNone, onlyIf, all, each}
+use Rattle.model.specs.Notation.{_>>=_, isNone, onlyIf, allOf, each}
 use Rattle.model.specs.Limits.{lineBytes}
 use Rattle.model.specs.Bytes.{Bytes, bytes, newline, content}
 use Rattle.model.specs.Names.{isName, readName}
@@ -107,8 +107,8 @@ rule-said f l e =
 rule-read : (o : Bytes) (ts : List Token) (p : Bytes) → isLine (Line.rule o ts) ≡ true → Spells ts p → readRule (o ++ 44 ∷ p) ≡ some (Line.rule o ts)
 unfolding readRule
 rule-read o ts p h d =
-    let (ab, c) = parts (isName o && all isToken ts) (not (isNone (readPolicy ts))) h in
-    let (a, b) = parts (isName o) (all isToken ts) ab in
+    let (ab, c) = parts (isName o && allOf isToken ts) (not (isNone (readPolicy ts))) h in
+    let (a, b) = parts (isName o) (allOf isToken ts) ab in
     let (y, g) = present (readPolicy ts) c in
     rw (cut-joined 44 o p (name-lacks 44 refl o a), a, tokens-exact p ts .1 (b, d), g)
 
@@ -174,8 +174,8 @@ joined-lack a b x h p q = all-append (isnt newline) (a ++ x ∷ []) b (all-appen
 rule-lacks : (o : Bytes) (ts : List Token) (p : Bytes) → isLine (Line.rule o ts) ≡ true → Spells ts p
     → lacks newline (bytes "rule=" ++ o ++ bytes "," ++ p) ≡ true
 rule-lacks o ts p h d =
-    let (ab, c) = parts (isName o && all isToken ts) (not (isNone (readPolicy ts))) h in
-    let (a, b) = parts (isName o) (all isToken ts) ab in
+    let (ab, c) = parts (isName o && allOf isToken ts) (not (isNone (readPolicy ts))) h in
+    let (a, b) = parts (isName o) (allOf isToken ts) ab in
     joined-lack o p 44 refl (name-lacks newline refl o a) (spells-lack d b)
 
 line-lacks : (l : Line) → isLine l ≡ true → lacks newline (writeLine l) ≡ true

@@ -1,4 +1,4 @@
--- Laws of the words on lists: what `any`, `filter`, `count`, `place`, `nth`, `numbered`, `map` and `below` say of the elements. Assumes nothing.
+-- Laws of the words on lists: what `anyOf`, `allOf`, `filter`, `countOf`, `place`, `nth`, `numbered`, `map` and `below` say of the elements. Assumes nothing.
 use Prim.Native.Nat.{ℕ, zero, suc, _+_, _≤_, _<_}
 use mathlib.Core.Path.{_≡_, refl, sym, ap, ap₂, subst, _∙_}
 use mathlib.Core.Logic.{_⊎_, inl, inr, ⊎-elim}
@@ -8,7 +8,7 @@ use mathlib.Core.Option.{Option, none, some, Option·some-injective}
 use native.Mathlib.Omega.{arith}
 use native.Mathlib.Nat.{add-zero, add-suc, suc-add, eq-or-lt-of-le}
 use lib.ListN.{length, length-append}
-use Rattle.model.specs.Notation.{if_then_else_, _>>=_, isEmpty, any, all, filter, count, place, nth, numberedFrom, map, below}
+use Rattle.model.specs.Notation.{if_then_else_, _>>=_, isEmpty, anyOf, allOf, filter, countOf, place, nth, numberedFrom, map, below}
 use Rattle.model.proofs.WordTables.{false-is-true, none-is-some}
 
 -- membership
@@ -43,25 +43,25 @@ or-none false b e = (refl, e)
 
 module _ {A : Type 0} where
   -- some element passes exactly when there is one
-  pub any-in : (p : A → Bool) (xs : List A) → any p xs ≡ true → (x : A) × (x ∈ xs) × (p x ≡ true)
+  pub any-in : (p : A → Bool) (xs : List A) → anyOf p xs ≡ true → (x : A) × (x ∈ xs) × (p x ≡ true)
   any-in p [] e = absurd (true≢false (sym e))
   any-in p (x ∷ xs) e = go (p x) refl (any-in p xs) e
     where
-      go : (t : Bool) → p x ≡ t → (any p xs ≡ true → (y : A) × (y ∈ xs) × (p y ≡ true))
-          → (elim t as (λ _. Bool) [ true ↦ true | false ↦ any p xs ]) ≡ true → (y : A) × (y ∈ (x ∷ xs)) × (p y ≡ true)
+      go : (t : Bool) → p x ≡ t → (anyOf p xs ≡ true → (y : A) × (y ∈ xs) × (p y ≡ true))
+          → (elim t as (λ _. Bool) [ true ↦ true | false ↦ anyOf p xs ]) ≡ true → (y : A) × (y ∈ (x ∷ xs)) × (p y ≡ true)
       go true q f e = (x, here refl, q)
       go false q f e = let r = f e in (r .0, there (r .1), r .2)
 
-  pub in-any : (p : A → Bool) {xs : List A} {x : A} → x ∈ xs → p x ≡ true → any p xs ≡ true
+  pub in-any : (p : A → Bool) {xs : List A} {x : A} → x ∈ xs → p x ≡ true → anyOf p xs ≡ true
   in-any p (here {x = y} {xs = xs} e) q =
-      ap (λ (t : Bool). elim t as (λ _. Bool) [ true ↦ true | false ↦ any p xs ]) (ap p (sym e) ∙ q)
+      ap (λ (t : Bool). elim t as (λ _. Bool) [ true ↦ true | false ↦ anyOf p xs ]) (ap p (sym e) ∙ q)
   in-any p (there {x = y} {xs = xs} m) q = go (p y) (in-any p m q)
     where
-      go : (t : Bool) → any p xs ≡ true → (elim t as (λ _. Bool) [ true ↦ true | false ↦ any p xs ]) ≡ true
+      go : (t : Bool) → anyOf p xs ≡ true → (elim t as (λ _. Bool) [ true ↦ true | false ↦ anyOf p xs ]) ≡ true
       go true r = refl
       go false r = r
 
-  pub any-ext : (p q : A → Bool) (xs : List A) → ((x : A) → x ∈ xs → p x ≡ q x) → any p xs ≡ any q xs
+  pub any-ext : (p q : A → Bool) (xs : List A) → ((x : A) → x ∈ xs → p x ≡ q x) → anyOf p xs ≡ anyOf q xs
   any-ext p q [] f = refl
   any-ext p q (x ∷ xs) f =
       ap₂ (λ (a b : Bool). elim a as (λ _. Bool) [ true ↦ true | false ↦ b ]) (f x (here refl)) (any-ext p q xs (λ y m. f y (there m)))
@@ -98,27 +98,27 @@ module _ {A : Type 0} where
       go false n = n
 
   -- counts
-  pub count-le : (p : A → Bool) (xs : List A) → count p xs ≤ length xs
+  pub count-le : (p : A → Bool) (xs : List A) → countOf p xs ≤ length xs
   count-le p [] = omega arith
   count-le p (x ∷ xs) = go (p x) (count-le p xs)
     where
-      go : (t : Bool) → count p xs ≤ length xs → (elim t as (λ _. ℕ) [ true ↦ suc (count p xs) | false ↦ count p xs ]) ≤ suc (length xs)
+      go : (t : Bool) → countOf p xs ≤ length xs → (elim t as (λ _. ℕ) [ true ↦ suc (countOf p xs) | false ↦ countOf p xs ]) ≤ suc (length xs)
       go true h = omega arith
       go false h = omega arith
 
-  pub count-grows : (p q : A → Bool) (xs : List A) → ((x : A) → p x ≡ true → q x ≡ true) → count p xs ≤ count q xs
+  pub count-grows : (p q : A → Bool) (xs : List A) → ((x : A) → p x ≡ true → q x ≡ true) → countOf p xs ≤ countOf q xs
   count-grows p q [] f = omega arith
   count-grows p q (x ∷ xs) f = go (p x) refl (q x) refl (count-grows p q xs f)
     where
-      go : (s : Bool) → p x ≡ s → (t : Bool) → q x ≡ t → count p xs ≤ count q xs
-          → (elim s as (λ _. ℕ) [ true ↦ suc (count p xs) | false ↦ count p xs ]) ≤ (elim t as (λ _. ℕ) [ true ↦ suc (count q xs) | false ↦ count q xs ])
+      go : (s : Bool) → p x ≡ s → (t : Bool) → q x ≡ t → countOf p xs ≤ countOf q xs
+          → (elim s as (λ _. ℕ) [ true ↦ suc (countOf p xs) | false ↦ countOf p xs ]) ≤ (elim t as (λ _. ℕ) [ true ↦ suc (countOf q xs) | false ↦ countOf q xs ])
       go true a true b h = omega arith
       go true a false b h = absurd (true≢false (sym (f x a) ∙ b))
       go false a true b h = omega arith
       go false a false b h = h
 
   -- one more at the end
-  pub count-last : (p : A → Bool) (xs : List A) (x : A) → count p (xs ++ x ∷ []) ≡ count p xs + (if p x then 1 else 0)
+  pub count-last : (p : A → Bool) (xs : List A) (x : A) → countOf p (xs ++ x ∷ []) ≡ countOf p xs + (if p x then 1 else 0)
   count-last p [] x = go (p x)
     where
       go : (t : Bool) → (if t then 1 else 0) ≡ 0 + (if t then 1 else 0)
@@ -126,35 +126,35 @@ module _ {A : Type 0} where
       go false = omega arith
   count-last p (y ∷ xs) x = go (p y) (count-last p xs x)
     where
-      go : (t : Bool) → count p (xs ++ x ∷ []) ≡ count p xs + (if p x then 1 else 0)
-          → (if t then suc (count p (xs ++ x ∷ [])) else count p (xs ++ x ∷ [])) ≡ (if t then suc (count p xs) else count p xs) + (if p x then 1 else 0)
+      go : (t : Bool) → countOf p (xs ++ x ∷ []) ≡ countOf p xs + (if p x then 1 else 0)
+          → (if t then suc (countOf p (xs ++ x ∷ [])) else countOf p (xs ++ x ∷ [])) ≡ (if t then suc (countOf p xs) else countOf p xs) + (if p x then 1 else 0)
       go true h = omega arith
       go false h = h
 
   -- one more passes: one that did not before
-  pub count-more : (p q : A → Bool) {xs : List A} {y : A} → ((x : A) → p x ≡ true → q x ≡ true) → y ∈ xs → p y ≡ false → q y ≡ true → count p xs < count q xs
+  pub count-more : (p q : A → Bool) {xs : List A} {y : A} → ((x : A) → p x ≡ true → q x ≡ true) → y ∈ xs → p y ≡ false → q y ≡ true → countOf p xs < countOf q xs
   count-more p q {y = y} f (here {x = x} {xs = xs} e) off on = go (p x) (q x) (ap p (sym e) ∙ off) (ap q (sym e) ∙ on) (count-grows p q xs f)
     where
-      go : (s t : Bool) → s ≡ false → t ≡ true → count p xs ≤ count q xs
-          → (elim s as (λ _. ℕ) [ true ↦ suc (count p xs) | false ↦ count p xs ]) < (elim t as (λ _. ℕ) [ true ↦ suc (count q xs) | false ↦ count q xs ])
+      go : (s t : Bool) → s ≡ false → t ≡ true → countOf p xs ≤ countOf q xs
+          → (elim s as (λ _. ℕ) [ true ↦ suc (countOf p xs) | false ↦ countOf p xs ]) < (elim t as (λ _. ℕ) [ true ↦ suc (countOf q xs) | false ↦ countOf q xs ])
       go true t a b h = absurd (true≢false a)
       go false true a b h = omega arith
       go false false a b h = absurd (true≢false (sym b))
   count-more p q {y = y} f (there {x = x} {xs = xs} m) off on = go (p x) refl (q x) refl (count-more p q f m off on)
     where
-      go : (s : Bool) → p x ≡ s → (t : Bool) → q x ≡ t → count p xs < count q xs
-          → (elim s as (λ _. ℕ) [ true ↦ suc (count p xs) | false ↦ count p xs ]) < (elim t as (λ _. ℕ) [ true ↦ suc (count q xs) | false ↦ count q xs ])
+      go : (s : Bool) → p x ≡ s → (t : Bool) → q x ≡ t → countOf p xs < countOf q xs
+          → (elim s as (λ _. ℕ) [ true ↦ suc (countOf p xs) | false ↦ countOf p xs ]) < (elim t as (λ _. ℕ) [ true ↦ suc (countOf q xs) | false ↦ countOf q xs ])
       go true a true b h = omega arith
       go true a false b h = absurd (true≢false (sym (f x a) ∙ b))
       go false a true b h = omega arith
       go false a false b h = h
 
-  pub count-ext : (p q : A → Bool) (xs : List A) → ((x : A) → x ∈ xs → p x ≡ q x) → count p xs ≡ count q xs
+  pub count-ext : (p q : A → Bool) (xs : List A) → ((x : A) → x ∈ xs → p x ≡ q x) → countOf p xs ≡ countOf q xs
   count-ext p q [] f = refl
   count-ext p q (x ∷ xs) f =
       ap₂ (λ (a : Bool) (n : ℕ). elim a as (λ _. ℕ) [ true ↦ suc n | false ↦ n ]) (f x (here refl)) (count-ext p q xs (λ y m. f y (there m)))
 
-  pub count-append-none : (p : A → Bool) (xs : List A) (x : A) → p x ≡ false → count p (xs ++ x ∷ []) ≡ count p xs
+  pub count-append-none : (p : A → Bool) (xs : List A) (x : A) → p x ≡ false → countOf p (xs ++ x ∷ []) ≡ countOf p xs
   count-append-none p [] x e = ap (λ (a : Bool). elim a as (λ _. ℕ) [ true ↦ 1 | false ↦ 0 ]) e
   count-append-none p (y ∷ xs) x e = ap (λ (n : ℕ). elim (p y) as (λ _. ℕ) [ true ↦ suc n | false ↦ n ]) (count-append-none p xs x e)
 
@@ -234,10 +234,10 @@ length-below zero = refl
 length-below (suc n) = length-append (below n) (n ∷ []) ∙ rw (length-below n) (omega arith)
 
 -- numbers from m up that do not pass do not count
-pub count-below : (p : ℕ → Bool) (m n : ℕ) → m ≤ n → ((k : ℕ) → m ≤ k → k < n → p k ≡ false) → count p (below n) ≡ count p (below m)
-count-below p m zero h e = let z : zero ≡ m = omega arith in ap (λ (k : ℕ). count p (below k)) z
+pub count-below : (p : ℕ → Bool) (m n : ℕ) → m ≤ n → ((k : ℕ) → m ≤ k → k < n → p k ≡ false) → countOf p (below n) ≡ countOf p (below m)
+count-below p m zero h e = let z : zero ≡ m = omega arith in ap (λ (k : ℕ). countOf p (below k)) z
 count-below p m (suc n) h e =
-    ⊎-elim (λ q. ap (λ (k : ℕ). count p (below k)) (sym q))
+    ⊎-elim (λ q. ap (λ (k : ℕ). countOf p (below k)) (sym q))
     (λ l. count-append-none p (below n) n (e n (under m n l) (omega arith)) ∙ count-below p m n (under m n l) (λ k a b. e k a (omega arith)))
     (eq-or-lt-of-le h)
   where
@@ -246,27 +246,27 @@ count-below p m (suc n) h e =
 
 -- each element passes
 module _ {A : Type 0} (p : A → Bool) where
-  pub all-parts : (x : A) (s : List A) → all p (x ∷ s) ≡ true → (p x ≡ true) × (all p s ≡ true)
+  pub all-parts : (x : A) (s : List A) → allOf p (x ∷ s) ≡ true → (p x ≡ true) × (allOf p s ≡ true)
   all-parts x s e = go (p x) refl
     where
-      go : (t : Bool) → p x ≡ t → (p x ≡ true) × (all p s ≡ true)
-      go true q = (q, rw (all, q) at e)
-      go false q = false-is-true (rw (all, q) at e)
+      go : (t : Bool) → p x ≡ t → (p x ≡ true) × (allOf p s ≡ true)
+      go true q = (q, rw (allOf, q) at e)
+      go false q = false-is-true (rw (allOf, q) at e)
 
-  pub all-in : (s : List A) {x : A} → all p s ≡ true → x ∈ s → p x ≡ true
+  pub all-in : (s : List A) {x : A} → allOf p s ≡ true → x ∈ s → p x ≡ true
   all-in [] e m = elim m [ ]
   all-in (y ∷ s) e (here z) = ap p z ∙ all-parts y s e .0
   all-in (y ∷ s) e (there m) = all-in s (all-parts y s e .1) m
 
-  pub all-cons : (x : A) (s : List A) → p x ≡ true → all p s ≡ true → all p (x ∷ s) ≡ true
-  all-cons x s e f = rw (all, e) f
+  pub all-cons : (x : A) (s : List A) → p x ≡ true → allOf p s ≡ true → allOf p (x ∷ s) ≡ true
+  all-cons x s e f = rw (allOf, e) f
 
-  pub all-append : (s t : List A) → all p s ≡ true → all p t ≡ true → all p (s ++ t) ≡ true
+  pub all-append : (s t : List A) → allOf p s ≡ true → allOf p t ≡ true → allOf p (s ++ t) ≡ true
   all-append [] t e f = f
   all-append (x ∷ s) t e f = let (h, r) = all-parts x s e in all-cons x (s ++ t) h (all-append s t r f)
 
 -- a test that follows from another
-pub all-by : {A : Type 0} (p q : A → Bool) → ((x : A) → p x ≡ true → q x ≡ true) → (s : List A) → all p s ≡ true → all q s ≡ true
+pub all-by : {A : Type 0} (p q : A → Bool) → ((x : A) → p x ≡ true → q x ≡ true) → (s : List A) → allOf p s ≡ true → allOf q s ≡ true
 all-by p q f [] e = refl
 all-by p q f (x ∷ s) e = let (h, r) = all-parts p x s e in all-cons q x s (f x h) (all-by p q f s r)
 

@@ -6,7 +6,7 @@ use mathlib.Core.Bool.{true, false, _&&_}
 use mathlib.Core.Option.{some}
 use lib.ListN.{length}
 use lib.Dec.{leb}
-use Rattle.model.specs.Notation.{all}
+use Rattle.model.specs.Notation.{allOf}
 use Rattle.model.specs.Limits.{nameBytes}
 use Rattle.model.specs.Bytes.{Bytes}
 use Rattle.model.specs.Names.{nameByte, isName, readName}
@@ -19,30 +19,30 @@ use Rattle.model.proofs.Cuts.{lacks, passing-lacks}
 pub name-exact : (s n : Bytes) → (readName s ≡ some n) ↔ ((isName n ≡ true) × (s ≡ n))
 name-exact s n = (λ e. let (h, z) = condition {t = isName s} {a = s} e in (rw z at h, z), λ h. rw (h .1, h .0))
 
-pub name-all : (n : Bytes) → isName n ≡ true → all nameByte n ≡ true
+pub name-all : (n : Bytes) → isName n ≡ true → allOf nameByte n ≡ true
 unfolding isName
-name-all n e = parts (leb 1 (length n) && leb (length n) nameBytes) (all nameByte n) e .1
+name-all n e = parts (leb 1 (length n) && leb (length n) nameBytes) (allOf nameByte n) e .1
 
-pub source-all : (s : Source) → all nameByte (sourceWord s) ≡ true
+pub source-all : (s : Source) → allOf nameByte (sourceWord s) ≡ true
 source-all Source.user = refl
 source-all Source.object = refl
 source-all Source.admin = refl
 source-all Source.env = refl
 source-all Source.connect = refl
 
-pub type-all : (t : AtomType) → all nameByte (typeWord t) ≡ true
+pub type-all : (t : AtomType) → allOf nameByte (typeWord t) ≡ true
 type-all AtomType.int = refl
 type-all AtomType.str = refl
 type-all AtomType.bool = refl
 
-pub sort-all : (s : Sort) → all nameByte (sortWord s) ≡ true
+pub sort-all : (s : Sort) → allOf nameByte (sortWord s) ≡ true
 sort-all Sort.admin = refl
 sort-all Sort.ugroup = refl
 sort-all Sort.ogroup = refl
 sort-all Sort.user = refl
 sort-all Sort.object = refl
 
-pub key-all : (k : Key) → all nameByte (keyWord k) ≡ true
+pub key-all : (k : Key) → allOf nameByte (keyWord k) ≡ true
 key-all Key.attr = refl
 key-all Key.op = refl
 key-all Key.atom = refl

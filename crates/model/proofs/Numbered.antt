@@ -10,7 +10,7 @@ use native.Mathlib.Omega.{arith}
 use lib.ListN.{length}
 use lib.Dec.{eqb, ltb}
 use borrow.Author.Tests.{eq-eqb, ne-eqb, eqb-true, eqb-false, ltb-true, ltb-false, lt-ltb}
-use Rattle.model.specs.Notation.{if_then_else_, isNone, all, count, find, inserted, map, below}
+use Rattle.model.specs.Notation.{if_then_else_, isNone, allOf, countOf, find, inserted, map, below}
 use Rattle.model.specs.Standing.{rising}
 use Rattle.model.proofs.WordTables.{none-is-some, false-is-true}
 use Rattle.model.proofs.Options.{parts, both}
@@ -52,7 +52,7 @@ module _ {A : Type 0} (number : A → ℕ) where
   number-found [] e m = elim m [ ]
   number-found (y ∷ ys) {x} e (here z) = rw (eq-eqb (number y) (number x) (ap number (sym z)), z)
   number-found (y ∷ ys) {x} e (there m) =
-      let (above, rest) = parts (all (λ z. ltb (number y) (number z)) ys) (rising number ys) e in
+      let (above, rest) = parts (allOf (λ z. ltb (number y) (number z)) ys) (rising number ys) e in
       let l = ltb-true (number y) (number x) (all-in (λ z. ltb (number y) (number z)) ys above m) in
       rw (ne-eqb (number y) (number x) (λ z. omega arith)) (number-found ys rest m)
 
@@ -86,7 +86,7 @@ module _ {A : Type 0} (number : A → ℕ) where
         go true more = refl
         go false more = ap suc more
 
-    pub count-inserted : (p : A → Bool) (xs : List A) → count p (inserted number x xs) ≡ count p xs + (if p x then 1 else 0)
+    pub count-inserted : (p : A → Bool) (xs : List A) → countOf p (inserted number x xs) ≡ countOf p xs + (if p x then 1 else 0)
     count-inserted p [] = go (p x)
       where
         go : (b : Bool) → (if b then 1 else 0) ≡ 0 + (if b then 1 else 0)
@@ -94,8 +94,8 @@ module _ {A : Type 0} (number : A → ℕ) where
         go false = refl
     count-inserted p (y ∷ ys) = go (ltb (number x) (number y)) (p x) (p y) refl refl (count-inserted p ys)
       where
-        go : (b c d : Bool) → p x ≡ c → p y ≡ d → count p (inserted number x ys) ≡ count p ys + (if p x then 1 else 0)
-            → count p (if b then x ∷ y ∷ ys else y ∷ inserted number x ys) ≡ count p (y ∷ ys) + (if p x then 1 else 0)
+        go : (b c d : Bool) → p x ≡ c → p y ≡ d → countOf p (inserted number x ys) ≡ countOf p ys + (if p x then 1 else 0)
+            → countOf p (if b then x ∷ y ∷ ys else y ∷ inserted number x ys) ≡ countOf p (y ∷ ys) + (if p x then 1 else 0)
         go true true true u v w = rw (u, v) (omega arith)
         go true true false u v w = rw (u, v) (omega arith)
         go true false true u v w = rw (u, v) (omega arith)
@@ -103,11 +103,11 @@ module _ {A : Type 0} (number : A → ℕ) where
         go false c true u v w = rw v (omega (arith, w))
         go false c false u v w = rw v w
 
-    all-inserted : (q : A → Bool) (xs : List A) → q x ≡ true → all q xs ≡ true → all q (inserted number x xs) ≡ true
+    all-inserted : (q : A → Bool) (xs : List A) → q x ≡ true → allOf q xs ≡ true → allOf q (inserted number x xs) ≡ true
     all-inserted q [] e f = all-cons q x [] e refl
     all-inserted q (y ∷ ys) e f = go (ltb (number x) (number y)) (all-inserted q ys e)
       where
-        go : (b : Bool) → (all q ys ≡ true → all q (inserted number x ys) ≡ true) → all q (if b then x ∷ y ∷ ys else y ∷ inserted number x ys) ≡ true
+        go : (b : Bool) → (allOf q ys ≡ true → allOf q (inserted number x ys) ≡ true) → allOf q (if b then x ∷ y ∷ ys else y ∷ inserted number x ys) ≡ true
         go true more = all-cons q x (y ∷ ys) e f
         go false more = let (a, b) = all-parts q y ys f in all-cons q y (inserted number x ys) a (more b)
 
@@ -115,11 +115,11 @@ module _ {A : Type 0} (number : A → ℕ) where
     rising-inserted [] r new = refl
     rising-inserted (y ∷ ys) r new = go (ltb (number x) (number y)) (eqb (number y) (number x)) refl refl new (rising-inserted ys)
       where
-        above : all (λ z. ltb (number y) (number z)) ys ≡ true
-        above = parts (all (λ z. ltb (number y) (number z)) ys) (rising number ys) r .0
+        above : allOf (λ z. ltb (number y) (number z)) ys ≡ true
+        above = parts (allOf (λ z. ltb (number y) (number z)) ys) (rising number ys) r .0
 
         rest : rising number ys ≡ true
-        rest = parts (all (λ z. ltb (number y) (number z)) ys) (rising number ys) r .1
+        rest = parts (allOf (λ z. ltb (number y) (number z)) ys) (rising number ys) r .1
 
         go : (b c : Bool) → ltb (number x) (number y) ≡ b → eqb (number y) (number x) ≡ c
             → (if c then some y else find (has (number x)) ys) ≡ none
@@ -149,19 +149,19 @@ length-map f (x ∷ xs) = ap suc (length-map f xs)
 -- ---- counting by numbers
 
 -- one number of those below n counted by itself
-count-split : (p : ℕ → Bool) (x n : ℕ) → x < n → count p (below n) ≡ (if p x then 1 else 0) + count (λ k. p k && not (eqb k x)) (below n)
+count-split : (p : ℕ → Bool) (x n : ℕ) → x < n → countOf p (below n) ≡ (if p x then 1 else 0) + countOf (λ k. p k && not (eqb k x)) (below n)
 count-split p x zero l = absurd (omega arith)
 count-split p x (suc n) l = go (ℕ-discrete x n) (count-split p x n)
   where
-    go : Dec (x ≡ n) → (x < n → count p (below n) ≡ (if p x then 1 else 0) + count (λ k. p k && not (eqb k x)) (below n)) → count p (below n ++ n ∷ []) ≡ (if p x then 1 else 0) + count (λ k. p k && not (eqb k x)) (below n ++ n ∷ [])
+    go : Dec (x ≡ n) → (x < n → countOf p (below n) ≡ (if p x then 1 else 0) + countOf (λ k. p k && not (eqb k x)) (below n)) → countOf p (below n ++ n ∷ []) ≡ (if p x then 1 else 0) + countOf (λ k. p k && not (eqb k x)) (below n ++ n ∷ [])
     go (yes z) rest =
         let off : (p n && not (eqb n x)) ≡ false = rw (eq-eqb n x (sym z)) (none (p n)) in
-        let same : count p (below n) ≡ count (λ k. p k && not (eqb k x)) (below n) =
+        let same : countOf p (below n) ≡ countOf (λ k. p k && not (eqb k x)) (below n) =
         count-ext p (λ k. p k && not (eqb k x)) (below n) (λ k m. keep (p k) (eqb k x) (ne-eqb k x (λ e. let f = in-below n m in omega arith))) in
         let a = count-last p (below n) n in
         let b = count-last (λ k. p k && not (eqb k x)) (below n) n in
-        a ∙ ap (λ (k : ℕ). count p (below n) + (if p k then 1 else 0)) (sym z)
-        ∙ omega (arith, same, b ∙ ap (λ (t : Bool). count (λ k. p k && not (eqb k x)) (below n) + (if t then 1 else 0)) off)
+        a ∙ ap (λ (k : ℕ). countOf p (below n) + (if p k then 1 else 0)) (sym z)
+        ∙ omega (arith, same, b ∙ ap (λ (t : Bool). countOf (λ k. p k && not (eqb k x)) (below n) + (if t then 1 else 0)) off)
       where
         none : (t : Bool) → (t && false) ≡ false
         none true = refl
@@ -173,7 +173,7 @@ count-split p x (suc n) l = go (ℕ-discrete x n) (count-split p x n)
     go (no z) rest =
         let on : (p n && not (eqb n x)) ≡ p n = rw (ne-eqb n x (λ e. z (sym e))) (keep (p n)) in
         let a = count-last p (below n) n in
-        let b = count-last (λ k. p k && not (eqb k x)) (below n) n ∙ ap (λ (t : Bool). count (λ k. p k && not (eqb k x)) (below n) + (if t then 1 else 0)) on in
+        let b = count-last (λ k. p k && not (eqb k x)) (below n) n ∙ ap (λ (t : Bool). countOf (λ k. p k && not (eqb k x)) (below n) + (if t then 1 else 0)) on in
         let more = rest (omega arith) in
         omega (arith, a, b, more)
       where
@@ -184,25 +184,25 @@ count-split p x (suc n) l = go (ℕ-discrete x n) (count-split p x n)
 module _ {A : Type 0} (number : A → ℕ) where
   -- where numbers rise and are below n, counting among them is counting below n what only they meet
   pub count-numbers : (p : ℕ → Bool) (xs : List A) (n : ℕ) → rising number xs ≡ true → ((k : ℕ) → k ∈ map number xs → k < n)
-      → ((k : ℕ) → k < n → (k ∈ map number xs → ⊥) → p k ≡ false) → count p (map number xs) ≡ count p (below n)
+      → ((k : ℕ) → k < n → (k ∈ map number xs → ⊥) → p k ≡ false) → countOf p (map number xs) ≡ countOf p (below n)
   count-numbers p [] n r few off = sym (none (below n) (λ k m. off k (in-below n m) nobody))
     where
       nobody : {k : ℕ} → k ∈ [] → ⊥
       nobody m = elim m [ ]
 
-      none : (l : List ℕ) → ((k : ℕ) → k ∈ l → p k ≡ false) → count p l ≡ 0
+      none : (l : List ℕ) → ((k : ℕ) → k ∈ l → p k ≡ false) → countOf p l ≡ 0
       none [] f = refl
       none (k ∷ l) f = rw (f k (here refl)) (none l (λ j m. f j (there m)))
   count-numbers p (x ∷ xs) n r few off =
-      let (above, rest) = parts (all (λ z. ltb (number x) (number z)) xs) (rising number xs) r in
+      let (above, rest) = parts (allOf (λ z. ltb (number x) (number z)) xs) (rising number xs) r in
       let q : ℕ → Bool = λ k. p k && not (eqb k (number x)) in
       let more = count-numbers q xs n rest (λ k m. few k (there m)) (λ k l out. clear k l out (ℕ-discrete k (number x))) in
-      let same : count p (map number xs) ≡ count q (map number xs) = count-ext p q (map number xs) (λ k m. keep k m above) in
+      let same : countOf p (map number xs) ≡ countOf q (map number xs) = count-ext p q (map number xs) (λ k m. keep k m above) in
       let split = count-split p (number x) n (few (number x) (here refl)) in
       first (p (number x)) refl (omega (arith, more, same)) split
     where
-      first : (b : Bool) → p (number x) ≡ b → count p (map number xs) ≡ count (λ k. p k && not (eqb k (number x))) (below n)
-          → count p (below n) ≡ (if p (number x) then 1 else 0) + count (λ k. p k && not (eqb k (number x))) (below n) → count p (number x ∷ map number xs) ≡ count p (below n)
+      first : (b : Bool) → p (number x) ≡ b → countOf p (map number xs) ≡ countOf (λ k. p k && not (eqb k (number x))) (below n)
+          → countOf p (below n) ≡ (if p (number x) then 1 else 0) + countOf (λ k. p k && not (eqb k (number x))) (below n) → countOf p (number x ∷ map number xs) ≡ countOf p (below n)
       first true e f g = rw e (omega (arith, f, rw e at g))
       first false e f g = rw e (omega (arith, f, rw e at g))
 
@@ -218,7 +218,7 @@ module _ {A : Type 0} (number : A → ℕ) where
           not-here k (here e) a b = a e
           not-here k (there m) a b = b m
 
-      keep : (k : ℕ) → k ∈ map number xs → all (λ z. ltb (number x) (number z)) xs ≡ true → p k ≡ (p k && not (eqb k (number x)))
+      keep : (k : ℕ) → k ∈ map number xs → allOf (λ z. ltb (number x) (number z)) xs ≡ true → p k ≡ (p k && not (eqb k (number x)))
       keep k m above =
           let (y, i, e) = in-map number xs m in
           let l = ltb-true (number x) (number y) (all-in (λ z. ltb (number x) (number z)) xs above i) in
@@ -232,7 +232,7 @@ module _ {A : Type 0} (number : A → ℕ) where
   rising-from : (xs : List A) (a n : ℕ) → rising number xs ≡ true → a ≤ n → ((x : A) → x ∈ xs → a ≤ number x) → ((x : A) → x ∈ xs → number x < n) → a + length xs ≤ n
   rising-from [] a n r l low few = omega arith
   rising-from (x ∷ xs) a n r l low few =
-      let (above, rest) = parts (all (λ z. ltb (number x) (number z)) xs) (rising number xs) r in
+      let (above, rest) = parts (allOf (λ z. ltb (number x) (number z)) xs) (rising number xs) r in
       let b = few x (here refl) in
       let c = low x (here refl) in
       let more = rising-from xs (suc (number x)) n rest b (λ y m. ltb-true (number x) (number y) (all-in (λ z. ltb (number x) (number z)) xs above m)) (λ y m. few y (there m)) in

@@ -6,7 +6,7 @@ use mathlib.Core.Logic.{⊎-elim}
 use mathlib.Core.Bool.{Bool, true, false}
 use mathlib.Core.List.{List, [], _∷_, List·Memᴰ·head as here, List·Memᴰ·tail as there, List·Memᴰ·append-cases, List·Memᴰ·eq-of-singleton}
 use mathlib.Core.Option.{Option, none, some}
-use Rattle.model.specs.Notation.{if_then_else_, _>>=_, _is_, all, place, nth, numbered, each}
+use Rattle.model.specs.Notation.{if_then_else_, _>>=_, _is_, allOf, place, nth, numbered, each}
 use Rattle.model.specs.Bytes.{Bytes}
 use Rattle.model.specs.Attributes.{Source, AtomType, typeWord, sameType}
 use Rattle.model.specs.Atoms.{Atom, typeOf}
@@ -22,7 +22,7 @@ use Rattle.model.proofs.Lists.{_∈_, all-cons, in-filter, in-map, in-n
 use Rattle.model.proofs.Growing.{place-nowhere}
 use Rattle.model.proofs.Declared.{named-eq, eq-named}
 
-all-in : {A : Type 0} (p : A → Bool) (xs : List A) → ((x : A) → x ∈ xs → p x ≡ true) → all p xs ≡ true
+all-in : {A : Type 0} (p : A → Bool) (xs : List A) → ((x : A) → x ∈ xs → p x ≡ true) → allOf p xs ≡ true
 all-in p [] f = refl
 all-in p (x ∷ xs) f = all-cons p x xs (f x (here refl)) (all-in p xs (λ y m. f y (there m)))
 

@@ -10,7 +10,7 @@ use native.Mathlib.Omega.{arith}
 use lib.ListN.{length}
 use lib.Dec.{eqb}
 use borrow.Author.Tests.{eq-eqb}
-use Rattle.model.specs.Notation.{if_then_else_, count, below}
+use Rattle.model.specs.Notation.{if_then_else_, countOf, below}
 use Rattle.model.specs.Limits.{holderNumbers, pairLimit, tableWords}
 use Rattle.model.specs.Bytes.{Bytes}
 use Rattle.model.specs.Declarations.{holderNumbersOf}
@@ -105,13 +105,13 @@ module _ {S : State} (reached : Reached S) where
           (λ c. true≢false (sym (is-below k (editedHolder t) .1 c) ∙ no-chain))
 
   -- "the number of holders whose stored set changed": those whose four words are others in the table behind the edit
-  pub edit-count : (line : Bytes) → edit S line .changed ≡ count (setChanged (tableOf S) (tableOf (edit S line .state))) (below holderNumbers)
+  pub edit-count : (line : Bytes) → edit S line .changed ≡ countOf (setChanged (tableOf S) (tableOf (edit S line .state))) (below holderNumbers)
   unfolding edit
   edit-count line = go (eqb (editRefusal S line) 0) (edit-standing S line standing)
     where
       go : (b : Bool) → Standing ((if b then accepting S line else refusing S line) .state)
           → (if b then accepting S line else refusing S line) .changed
-          ≡ count (setChanged (tableOf S) (tableOf ((if b then accepting S line else refusing S line) .state))) (below holderNumbers)
+          ≡ countOf (setChanged (tableOf S) (tableOf ((if b then accepting S line else refusing S line) .state))) (below holderNumbers)
       go true after = changes-exact (S .declared) (S .ties) (accepting S line .state .ties) standing after
       go false after = sym (count-below (setChanged (tableOf S) (tableOf S)) 0 holderNumbers (omega arith) (λ k h l. unchanged (tableOf S) k))
 

@@ -8,7 +8,7 @@ use mathlib.Core.Option.{Option, none, some}
 use native.Mathlib.Omega.{arith}
 use lib.Dec.{eqb, ltb}
 use borrow.Author.Tests.{ltb-true, eqb-true, eqb-false, eq-eqb, ne-eqb, not-true}
-use Rattle.model.specs.Notation.{if_then_else_, isNone, any, filter}
+use Rattle.model.specs.Notation.{if_then_else_, isNone, anyOf, filter}
 use Rattle.model.specs.Bytes.{Bytes}
 use Rattle.model.specs.Truth.{Truth}
 use Rattle.model.specs.Keys.{Key}
@@ -16,7 +16,7 @@ use Rattle.model.specs.Block.{Block, readBlock}
 use Rattle.model.specs.State.{State}
 use Rattle.model.specs.Refusals.{Test, _if_, first, lineTests, lineRefusal, editTests, editRefusal, badBlock, requestTests, requestRefusal}
 use Rattle.model.specs.Edits.{edit}
-use Rattle.model.specs.Decision.{Decision, permit, deny, undefined, refused, isTrue, isUndef, decisionBy, judged, verdicts, decide}
+use Rattle.model.specs.Decision.{deny, undefined, refused, isTrue, isUndef, permitBy, decisionBy, judged, verdicts, decide}
 use Rattle.model.proofs.Options.{parts, is-there}
 use Rattle.model.proofs.Lists.{or-left, or-right}
 use Rattle.model.proofs.Tests.{NoneHolds, allNumbered, none-holds, accepted}
@@ -194,38 +194,34 @@ edit-unmet S line e n = condition-fails (editTests S line) (edit-accepted S line
 -- the rules' verdicts never refuse
 decided-not : {C : Type 0} (vs : List (ℕ × Truth)) (n : ℕ) → decisionBy vs ≡ refused n → C
 unfolding decisionBy
-decided-not vs n e = go (filter (λ (k, t). isTrue t) vs) (any (λ (k, t). isUndef t) vs) e
+decided-not vs n e = go (filter (λ (k, t). isTrue t) vs) (anyOf (λ (k, t). isUndef t) vs) e
   where
     go : {C : Type 0} (found : List (ℕ × Truth)) (undef : Bool)
-        → elim found as (λ _. Decision) [ [] ↦ (if undef then undefined else deny) | v ∷ rest ↦ permit (v .0) ] ≡ refused n → C
+        → permitBy found (if undef then undefined else deny) ≡ refused n → C
     go [] true e = let z : _≡_ {A = ℕ} 0 1 = cc in absurd (omega (arith, z))
     go [] false e = let z : _≡_ {A = ℕ} 0 1 = cc in absurd (omega (arith, z))
     go (v ∷ rest) undef e = let z : _≡_ {A = ℕ} 0 1 = cc in absurd (omega (arith, z))
 
-judged-not : {C : Type 0} (S : State) (block : Bytes) (n : ℕ) → badBlock block ≡ false → judged S (readBlock block) ≡ refused n → C
-unfolding badBlock
-judged-not S block n b e = go (readBlock block) b e
+-- what a number and what was read give is refused exactly where the number is one
+judged-refused : (S : State) (r : ℕ) (o : Option Block) (n : ℕ) → (isNone o ≡ true → r ≡ 0 → ⊥) → (judged S r o ≡ refused n) ↔ ((r ≡ n) × (n ≡ 0 → ⊥))
+judged-refused S r none n f = (λ e. let s : r ≡ n = cc in (s, λ z. f refl (s ∙ z)), λ a. ap refused (a .0))
+judged-refused S r (some b) n f = (out (eqb r 0) refl, λ a. rw (ne-eqb r 0 (λ z. a .1 (sym (a .0) ∙ z))) (ap refused (a .0)))
   where
-    go : {C : Type 0} (o : Option Block) → isNone o ≡ false → judged S o ≡ refused n → C
-    go none b e = absurd (true≢false b)
-    go (some a) b e = decided-not (verdicts S a) n e
+    out : (c : Bool) → eqb r 0 ≡ c → (if c then decisionBy (verdicts S b) else refused r) ≡ refused n → (r ≡ n) × (n ≡ 0 → ⊥)
+    out true q e = decided-not (verdicts S b) n e
+    out false q e = let s : r ≡ n = cc in (s, λ z. eqb-false r 0 q (s ∙ z))
+
+-- what is no block is refused
+pub unread : (S : State) (block : Bytes) → isNone (readBlock block) ≡ true → requestRefusal S block ≡ 0 → ⊥
+unfolding requestRefusal badBlock
+unread S block e z = true≢false (sym e ∙ none-holds (requestTests S block) refl z .0)
 
 pub request-refused : (S : State) (block : Bytes) (n : ℕ) → (decide S block ≡ refused n) ↔ Wins (requestTests S block) n
 unfolding decide requestRefusal
-request-refused S block n = (λ e. out (eqb r 0) refl e, λ v. into (w .1 v))
-  where
-    r : ℕ
-    r = requestRefusal S block
-
-    w : ((r ≡ n) × (n ≡ 0 → ⊥)) ↔ Wins (requestTests S block) n
-    w = answer-wins (requestTests S block) refl n
-
-    out : (b : Bool) → eqb r 0 ≡ b → (if b then judged S (readBlock block) else refused r) ≡ refused n → Wins (requestTests S block) n
-    out true q e = judged-not S block n (none-holds (requestTests S block) refl (eqb-true r 0 q) .0) e
-    out false q e = let s : r ≡ n = cc in w .0 (s, λ z. eqb-false r 0 q (s ∙ z))
-
-    into : (r ≡ n) × (n ≡ 0 → ⊥) → (if eqb r 0 then judged S (readBlock block) else refused r) ≡ refused n
-    into a = rw (ne-eqb r 0 (λ z. a .1 (sym (a .0) ∙ z))) (ap refused (a .0))
+request-refused S block n =
+    let w = answer-wins (requestTests S block) refl n in
+    let j = judged-refused S (requestRefusal S block) (readBlock block) n (unread S block) in
+    (λ e. w .0 (j .0 e), λ v. j .1 (w .1 v))
 
 pub request-met : (S : State) (block : Bytes) (n : ℕ) → decide S block ≡ refused n → conditionOf n (requestTests S block) ≡ true
 request-met S block n e =
@@ -242,7 +238,7 @@ request-lower-wins S block n e m l =
 pub request-accepted : (S : State) (block : Bytes)
     → NoneHolds (requestTests S block) ↔ ((b : Block) × (readBlock block ≡ some b) × (decide S block ≡ decisionBy (verdicts S b)))
 unfolding decide requestRefusal badBlock
-request-accepted S block = (into, λ (b, q, e). out (eqb r 0) refl b e)
+request-accepted S block = (into, λ (b, q, e). out (eqb r 0) refl b (sym (ap (judged S r) q) ∙ e))
   where
     r : ℕ
     r = requestRefusal S block
@@ -251,9 +247,9 @@ request-accepted S block = (into, λ (b, q, e). out (eqb r 0) refl b e)
     into h =
         let (b, q) = is-there (readBlock block) (h .0) in
         let zero′ = eq-eqb r 0 (accepted (requestTests S block) h) in
-        (b, q, ap (λ (c : Bool). if c then judged S (readBlock block) else refused r) zero′ ∙ ap (judged S) q)
+        (b, q, ap (judged S r) q ∙ ap (λ (c : Bool). if c then decisionBy (verdicts S b) else refused r) zero′)
 
-    out : (c : Bool) → eqb r 0 ≡ c → (b : Block) → (if c then judged S (readBlock block) else refused r) ≡ decisionBy (verdicts S b)
+    out : (c : Bool) → eqb r 0 ≡ c → (b : Block) → (if c then decisionBy (verdicts S b) else refused r) ≡ decisionBy (verdicts S b)
         → NoneHolds (requestTests S block)
     out true z b e = none-holds (requestTests S block) refl (eqb-true r 0 z)
     out false z b e = decided-not (verdicts S b) r (sym e)

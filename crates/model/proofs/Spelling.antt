@@ -9,7 +9,7 @@ use native.Mathlib.Omega.{arith}
 use borrow.Author.Tests.{eqb-true, leb-true, le-leb, not-true}
 use lib.ListN.{length, length-append}
 use lib.Dec.{eqb}
-use Rattle.model.specs.Notation.{if_then_else_, _>>=_, _or-else_, isEmpty, all}
+use Rattle.model.specs.Notation.{if_then_else_, _>>=_, _or-else_, isEmpty, allOf}
 use Rattle.model.specs.Limits.{largestInt}
 use Rattle.model.specs.Bytes.{Bytes, bytes, newline, same, isByte, inRange, behind, oneOf}
 use Rattle.model.specs.Names.{nameByte, isName, readName}
@@ -27,7 +27,7 @@ use Rattle.model.proofs.Atoms.{text-lacks}
 
 -- what is read among the words of a table passes what all of the table pass
 pub one-of-all : {A : Type 0} (word : A → Bytes) (p : A → Bool) (table : List A) (s : Bytes) (a : A)
-    → all p table ≡ true → oneOf word table s ≡ some a → p a ≡ true
+    → allOf p table ≡ true → oneOf word table s ≡ some a → p a ≡ true
 one-of-all word p [] s a h e = none-is-some e
 one-of-all {A} word p (b ∷ rest) s a h e = let (i, j) = all-parts p b rest h in go (same (word b) s) i e (one-of-all word p rest s a j)
   where
@@ -37,21 +37,21 @@ one-of-all {A} word p (b ∷ rest) s a h e = let (i, j) = all-parts p b rest h i
 
 -- a test that a whole table passes is passed by each operator, mark and truth
 every : {A : Type 0} (word : A → Bytes) (table : List A) → ((a : A) → oneOf word table (word a) ≡ some a)
-    → (p : A → Bool) → all p table ≡ true → (a : A) → p a ≡ true
+    → (p : A → Bool) → allOf p table ≡ true → (a : A) → p a ≡ true
 every word table reads p h a = one-of-all word p table (word a) a h (reads a)
 
-every-operator : (p : Operator → Bool) → all p operators ≡ true → (o : Operator) → p o ≡ true
+every-operator : (p : Operator → Bool) → allOf p operators ≡ true → (o : Operator) → p o ≡ true
 every-operator = every operatorWord operators reads-operator
 
-every-mark : (p : Mark → Bool) → all p marks ≡ true → (m : Mark) → p m ≡ true
+every-mark : (p : Mark → Bool) → allOf p marks ≡ true → (m : Mark) → p m ≡ true
 every-mark = every markWord marks reads-mark
 
-every-truth : (p : Truth → Bool) → all p truths ≡ true → (t : Truth) → p t ≡ true
+every-truth : (p : Truth → Bool) → allOf p truths ≡ true → (t : Truth) → p t ≡ true
 every-truth = every truthWord truths reads-truth
 
 -- what is read as one of a table's signs passes what all of the table pass, and stands at the front
 sign-all : (p : Token → Bool) (table : List Token) (s : Bytes) (t : Token) (rest : Bytes)
-    → all p table ≡ true → readSign table s ≡ some (t, rest) → (p t ≡ true) × (s ≡ spelling t ++ rest)
+    → allOf p table ≡ true → readSign table s ≡ some (t, rest) → (p t ≡ true) × (s ≡ spelling t ++ rest)
 sign-all p [] s t rest h e = none-is-some e
 sign-all p (u ∷ table) s t rest h e =
     let (a, b) = all-parts p u table h in
@@ -109,8 +109,8 @@ word-sound w t e =
 -- no word in capitals is an int or a name, and no name is an int
 int-no-capital : (n : ℕ) → oneOf spelling capitals (decimal n) ≡ none
 int-no-capital n = no-result (oneOf spelling capitals (decimal n)) λ t e.
-    let h = one-of-all spelling (λ u. not (all digit (spelling u))) capitals (decimal n) t refl e in
-    false-is-true (sym (not-true _ h) ∙ ap (all digit) (one-of-word spelling capitals (decimal n) t e) ∙ digits-decimal n)
+    let h = one-of-all spelling (λ u. not (allOf digit (spelling u))) capitals (decimal n) t refl e in
+    false-is-true (sym (not-true _ h) ∙ ap (allOf digit) (one-of-word spelling capitals (decimal n) t e) ∙ digits-decimal n)
 
 name-no-capital : (s : Source) (n : Bytes) → oneOf spelling capitals (spelling (name s n)) ≡ none
 name-no-capital Source.user n = refl
@@ -119,7 +119,7 @@ name-no-capital Source.admin n = refl
 name-no-capital Source.env n = refl
 name-no-capital Source.connect n = refl
 
-name-no-digits : (s : Source) (n : Bytes) → all digit (spelling (name s n)) ≡ false
+name-no-digits : (s : Source) (n : Bytes) → allOf digit (spelling (name s n)) ≡ false
 name-no-digits Source.user n = refl
 name-no-digits Source.object n = refl
 name-no-digits Source.admin n = refl
@@ -128,7 +128,7 @@ name-no-digits Source.connect n = refl
 
 name-no-int : (s : Source) (n : Bytes) → readInt (spelling (name s n)) ≡ none
 name-no-int s n = no-result (readInt (spelling (name s n))) λ m e.
-    false-is-true (sym (name-no-digits s n) ∙ ap (all digit) (int-exact (spelling (name s n)) m .0 e .1) ∙ digits-decimal m)
+    false-is-true (sym (name-no-digits s n) ∙ ap (allOf digit) (int-exact (spelling (name s n)) m .0 e .1) ∙ digits-decimal m)
 
 word-complete : (t : Token) → isToken t ≡ true → isWord t ≡ true → readWord (spelling t) ≡ some t
 unfolding readWord readAttributeName
@@ -162,17 +162,17 @@ abbrev stops : Bytes → Bool
 stops [] = true
 stops (x ∷ s) = not (wordByte x)
 
-run-parts : (s : Bytes) → (s ≡ run s .0 ++ run s .1) × (all wordByte (run s .0) ≡ true) × (stops (run s .1) ≡ true)
+run-parts : (s : Bytes) → (s ≡ run s .0 ++ run s .1) × (allOf wordByte (run s .0) ≡ true) × (stops (run s .1) ≡ true)
 run-parts [] = (refl, refl, refl)
 run-parts (x ∷ s) = go (wordByte x) refl (run s .0) (run s .1) (run-parts s)
   where
-    go : (b : Bool) → wordByte x ≡ b → (w r : Bytes) → (s ≡ w ++ r) × (all wordByte w ≡ true) × (stops r ≡ true)
+    go : (b : Bool) → wordByte x ≡ b → (w r : Bytes) → (s ≡ w ++ r) × (allOf wordByte w ≡ true) × (stops r ≡ true)
         → let p : Bytes × Bytes = elim b as (λ _. Bytes × Bytes) [ true ↦ (x ∷ w, r) | false ↦ ([], x ∷ s) ] in
-        (x ∷ s ≡ p .0 ++ p .1) × (all wordByte (p .0) ≡ true) × (stops (p .1) ≡ true)
+        (x ∷ s ≡ p .0 ++ p .1) × (allOf wordByte (p .0) ≡ true) × (stops (p .1) ≡ true)
     go true e w r (j, a, h) = (ap (λ (z : Bytes). x ∷ z) j, all-cons wordByte x w e a, h)
     go false e w r h = (refl, refl, ap not e)
 
-run-joined : (w r : Bytes) → all wordByte w ≡ true → stops r ≡ true → run (w ++ r) ≡ (w, r)
+run-joined : (w r : Bytes) → allOf wordByte w ≡ true → stops r ≡ true → run (w ++ r) ≡ (w, r)
 run-joined [] [] h k = refl
 run-joined [] (x ∷ r) h k = rw (run, not-true (wordByte x) k)
 run-joined (x ∷ w) r h k = let (a, b) = all-parts wordByte x w h in rw (run, a, run-joined w r b k)
@@ -251,7 +251,7 @@ token-sound s t rest e = let (j, a, h) = run-parts s in go (run s .0) (run s .1)
         let (b, c) = parts (isToken t) (not (isWord t)) a in
         (b, j, sign-whole t rest (not-true (isWord t) c) (rw j at f))
 
-    go : (w r : Bytes) → s ≡ w ++ r → all wordByte w ≡ true → stops r ≡ true
+    go : (w r : Bytes) → s ≡ w ++ r → allOf wordByte w ≡ true → stops r ≡ true
         → (if isEmpty w then (behind (bytes "\"") s >>= readText) or-else readSign signs s else (readWord w >>= λ u. some (u, r))) ≡ some (t, rest)
         → ReadWhole s t rest
     go [] r j a h f = choice {o = behind (bytes "\"") s >>= readText} f text (λ _ g. sign g)

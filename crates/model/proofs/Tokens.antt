@@ -8,7 +8,7 @@ use mathlib.Core.Option.{some, Option·some-injective}
 use native.Mathlib.Omega.{arith}
 use borrow.Author.Tests.{eqb-true}
 use lib.ListN.{length, length-append}
-use Rattle.model.specs.Notation.{if_then_else_, _>>=_, isEmpty, all, each}
+use Rattle.model.specs.Notation.{if_then_else_, _>>=_, isEmpty, allOf, each}
 use Rattle.model.specs.Bytes.{Bytes, bytes, newline, isByte}
 use Rattle.model.specs.Tokens.{Token, isToken, spelling, readToken, tokensWithin, tokensOf, isWord, mayTouch, beginsWithSpace, mayFollow, Spells}
 use Rattle.model.proofs.Options.{bound, condition}
@@ -29,7 +29,7 @@ space-whole t s = go (isWord t) (angle t)
 touch-whole : (t u : Token) (s : Bytes) → FirstByte u → whole t (spelling u ++ s) ≡ mayTouch t u
 touch-whole t u s f = ap (λ (w : Bytes). whole t (w ++ s)) (f .joined) ∙ rw (f .in-word, f .equals)
 
-follow-whole : (t : Token) {ts : List Token} {s : Bytes} → Spells ts s → all isToken ts ≡ true → mayFollow t ts s ≡ whole t s
+follow-whole : (t : Token) {ts : List Token} {s : Bytes} → Spells ts s → allOf isToken ts ≡ true → mayFollow t ts s ≡ whole t s
 follow-whole t Spells.no-token h = refl
 follow-whole t (Spells.a-space {ts = []} {s = s} d) h = sym (space-whole t s)
 follow-whole t (Spells.a-space {ts = u ∷ us} {s = s} d) h = or-right (mayTouch t u) true refl ∙ sym (space-whole t s)
@@ -45,14 +45,14 @@ follow-whole t (Spells.a-token u {ts = us} {s = s} d k) h =
         go false = refl
 
 -- what is read is spelt, and its tokens are well formed
-within-sound : (n : ℕ) (s : Bytes) (ts : List Token) → tokensWithin n s ≡ some ts → (all isToken ts ≡ true) × Spells ts s
+within-sound : (n : ℕ) (s : Bytes) (ts : List Token) → tokensWithin n s ≡ some ts → (allOf isToken ts ≡ true) × Spells ts s
 within-sound zero s ts e = let (h, z) = condition {t = isEmpty s} {a = []} e in rw (← z, empty s h) (refl, Spells.no-token)
 within-sound (suc n) [] ts e = let z = Option·some-injective _ _ e in rw (← z) (refl, Spells.no-token)
 within-sound (suc n) (x ∷ s) ts e = go (isByte " " x) refl (λ r us. within-sound n r us) e
   where
-    go : (b : Bool) → isByte " " x ≡ b → ((r : Bytes) (us : List Token) → tokensWithin n r ≡ some us → (all isToken us ≡ true) × Spells us r)
+    go : (b : Bool) → isByte " " x ≡ b → ((r : Bytes) (us : List Token) → tokensWithin n r ≡ some us → (allOf isToken us ≡ true) × Spells us r)
         → (if b then tokensWithin n s else (readToken (x ∷ s) >>= λ (t, rest). tokensWithin n rest >>= λ us. some (t ∷ us))) ≡ some ts
-        → (all isToken ts ≡ true) × Spells ts (x ∷ s)
+        → (allOf isToken ts ≡ true) × Spells ts (x ∷ s)
     go true q more f = let (h, d) = more s ts f in (h, rw (eqb-true x 32 q) (Spells.a-space d))
     go false q more f =
         bound {o = readToken (x ∷ s)} f λ c p g.
@@ -63,7 +63,7 @@ within-sound (suc n) (x ∷ s) ts e = go (isByte " " x) refl (λ r us. within-so
         rw (← z, j) (all-cons isToken (c .0) us h i, Spells.a-token (c .0) d (follow-whole (c .0) d i ∙ w))
 
 -- what is spelt with well-formed tokens is read
-within-complete : {ts : List Token} {s : Bytes} → Spells ts s → all isToken ts ≡ true → (n : ℕ) → length s ≤ n → tokensWithin n s ≡ some ts
+within-complete : {ts : List Token} {s : Bytes} → Spells ts s → allOf isToken ts ≡ true → (n : ℕ) → length s ≤ n → tokensWithin n s ≡ some ts
 within-complete Spells.no-token h zero l = refl
 within-complete Spells.no-token h (suc n) l = refl
 within-complete (Spells.a-space d) h zero l = absurd (omega arith)
@@ -82,15 +82,15 @@ within-complete (Spells.a-token t {ts = ts} {s = s} d k) h n l =
     read f = rw (f .joined) (step (f .first) (f .more) (f .no-space))
 
 -- reading bytes gives tokens exactly when they are well formed and the bytes spell them
-pub tokens-exact : (s : Bytes) (ts : List Token) → (tokensOf s ≡ some ts) ↔ ((all isToken ts ≡ true) × Spells ts s)
+pub tokens-exact : (s : Bytes) (ts : List Token) → (tokensOf s ≡ some ts) ↔ ((allOf isToken ts ≡ true) × Spells ts s)
 unfolding tokensOf
 tokens-exact s ts = (within-sound (length s) s ts, λ (h, d). within-complete d h (length s) (omega arith))
 
-pub tokens-formed : (s : Bytes) (ts : List Token) → tokensOf s ≡ some ts → all isToken ts ≡ true
+pub tokens-formed : (s : Bytes) (ts : List Token) → tokensOf s ≡ some ts → allOf isToken ts ≡ true
 tokens-formed s ts e = tokens-exact s ts .0 e .0
 
 -- bytes spell at most one list of well-formed tokens
-pub one-reading : (s : Bytes) (ts us : List Token) → all isToken ts ≡ true → Spells ts s → all isToken us ≡ true → Spells us s → ts ≡ us
+pub one-reading : (s : Bytes) (ts us : List Token) → allOf isToken ts ≡ true → Spells ts s → allOf isToken us ≡ true → Spells us s → ts ≡ us
 one-reading s ts us h d k e = Option·some-injective ts us (sym (tokens-exact s ts .1 (h, d)) ∙ tokens-exact s us .1 (k, e))
 
 -- a space before each token
@@ -99,11 +99,11 @@ spaced-spells [] = Spells.no-token
 spaced-spells (t ∷ []) = Spells.a-space (Spells.a-token t Spells.no-token refl)
 spaced-spells (t ∷ u ∷ ts) = Spells.a-space (Spells.a-token t (spaced-spells (u ∷ ts)) (or-right (mayTouch t u) true refl))
 
-pub spaced-read : (ts : List Token) → all isToken ts ≡ true → tokensOf (each (λ t. bytes " " ++ spelling t) ts) ≡ some ts
+pub spaced-read : (ts : List Token) → allOf isToken ts ≡ true → tokensOf (each (λ t. bytes " " ++ spelling t) ts) ≡ some ts
 spaced-read ts h = tokens-exact (each (λ t. bytes " " ++ spelling t) ts) ts .1 (h, spaced-spells ts)
 
 -- no spelling of well-formed tokens holds byte 10
-pub spells-lack : {ts : List Token} {s : Bytes} → Spells ts s → all isToken ts ≡ true → lacks newline s ≡ true
+pub spells-lack : {ts : List Token} {s : Bytes} → Spells ts s → allOf isToken ts ≡ true → lacks newline s ≡ true
 spells-lack Spells.no-token h = refl
 spells-lack (Spells.a-space {s = s} d) h = all-append (isnt newline) (bytes " ") s refl (spells-lack d h)
 spells-lack (Spells.a-token t {ts = ts} {s = s} d k) h =

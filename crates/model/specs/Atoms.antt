@@ -6,7 +6,7 @@ use mathlib.Core.List.{[], _∷_, _++_}
 use mathlib.Core.Option.{Option, some}
 use lib.ListN.{length}
 use lib.Dec.{eqb, leb, ltb}
-use Rattle.model.specs.Notation.{if_then_else_, _>>=_, _or-else_, onlyIf, isEmpty, all}
+use Rattle.model.specs.Notation.{if_then_else_, _>>=_, _or-else_, onlyIf, isEmpty, allOf}
 use Rattle.model.specs.Limits.{largestInt, textBytes}
 use Rattle.model.specs.Bytes.{Bytes, bytes, same, isByte, inRange, cutAt, behind, oneOf}
 use Rattle.model.specs.Attributes.{AtomType}
@@ -37,7 +37,7 @@ noLeadingZero (x ∷ y ∷ s) = not (isByte "0" x)
 -- "int 0 to 4294967295 without leading zeros"
 unfoldable pub readInt : Bytes → Option ℕ
 readInt s =
-    onlyIf (leb 1 (length s) && all (inRange "0" "9") s && noLeadingZero s && leb (numberFrom 0 s) largestInt) (numberFrom 0 s)
+    onlyIf (leb 1 (length s) && allOf (inRange "0" "9") s && noLeadingZero s && leb (numberFrom 0 s) largestInt) (numberFrom 0 s)
 
 -- the decimal digits of a number below 10 to the power of the first argument
 abbrev pub digitsWithin : ℕ → ℕ → Bytes
@@ -54,7 +54,7 @@ textByte b = leb 32 b && leb b 126 && not (isByte "\"" b)
 
 -- "str in double quotes, 0 to 12 bytes of 32 to 126 without 34"
 unfoldable pub isText : Bytes → Bool
-isText s = leb (length s) textBytes && all textByte s
+isText s = leb (length s) textBytes && allOf textByte s
 
 abbrev pub quoted : Bytes → Bytes
 quoted s = bytes "\"" ++ s ++ bytes "\""

@@ -2,7 +2,7 @@
 use mathlib.Core.Bool.{Bool}
 use mathlib.Core.List.{List, [], _∷_}
 use mathlib.Core.Option.{Option}
-use Rattle.model.specs.Notation.{any}
+use Rattle.model.specs.Notation.{anyOf}
 use Rattle.model.specs.Bytes.{Bytes, bytes, same, oneOf}
 
 -- "SRC is user, object, admin, env or connect"
@@ -31,7 +31,7 @@ blockSources = env ∷ connect ∷ []
 
 -- "env or connect"
 abbrev pub fromBlock : Source → Bool
-fromBlock s = any (sameSource s) blockSources
+fromBlock s = anyOf (sameSource s) blockSources
 
 -- "TYPE is int, str or bool"
 pub data AtomType : Type 0 where

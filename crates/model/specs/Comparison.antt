@@ -3,7 +3,7 @@ use Prim.Native.Nat.{ℕ}
 use mathlib.Core.Bool.{Bool, true, false}
 use mathlib.Core.List.{List, [], _∷_}
 use lib.Dec.{leb, ltb}
-use Rattle.model.specs.Notation.{if_then_else_, any, all}
+use Rattle.model.specs.Notation.{if_then_else_, anyOf, allOf}
 use Rattle.model.specs.Attributes.{AtomType, sameType}
 use Rattle.model.specs.Atoms.{Atom, typeOf, sameAtom}
 use Rattle.model.specs.Truth.{Truth, truth, NOT}
@@ -11,15 +11,15 @@ use Rattle.model.specs.Tokens.{Operator}
 
 -- "is among its values"
 abbrev pub among : List Atom → Atom → Bool
-among values a = any (sameAtom a) values
+among values a = anyOf (sameAtom a) values
 
 -- "a common value exists"
 abbrev pub common : List Atom → List Atom → Bool
-common left right = any (among right) left
+common left right = anyOf (among right) left
 
 -- "each left value is among the right"
 abbrev pub subset : List Atom → List Atom → Bool
-subset left right = all (among right) left
+subset left right = allOf (among right) left
 
 -- two ints so ordered; other values are not
 abbrev pub ordered : (ℕ → ℕ → Bool) → Atom → Atom → Bool
@@ -31,7 +31,7 @@ ordered before (Atom.bool a) b = false
 
 -- "some left and some right value are so ordered"
 abbrev pub someOrdered : (ℕ → ℕ → Bool) → List Atom → List Atom → Truth
-someOrdered before left right = truth (any (λ a. any (ordered before a) right) left)
+someOrdered before left right = truth (anyOf (λ a. anyOf (ordered before a) right) left)
 
 -- "an order between non-integers" gives UNDEF
 abbrev pub order : (ℕ → ℕ → Bool) → AtomType → List Atom → List Atom → Truth

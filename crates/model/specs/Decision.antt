@@ -4,8 +4,7 @@ use mathlib.Core.Bool.{Bool, true, false}
 use mathlib.Core.List.{List, [], _∷_}
 use mathlib.Core.Option.{Option, none, some}
 use lib.Dec.{eqb}
-use Rattle.model.specs.Notation.{if_then_else_, _is_, any, map, filter, numbered, nth}
-use Rattle.model.specs.Numbers as refusal
+use Rattle.model.specs.Notation.{if_then_else_, _is_, anyOf, map, filter, numbered, nth}
 use Rattle.model.specs.Bytes.{Bytes, same}
 use Rattle.model.specs.Truth.{Truth}
 use Rattle.model.specs.State.{State}
@@ -46,19 +45,21 @@ isUndef Truth.FALSE = false
 
 -- "else undefined if some is UNDEF; else deny"
 abbrev pub withoutPermit : List (ℕ × Truth) → Decision
-withoutPermit vs = if any (λ (k, t). isUndef t) vs then undefined else deny
+withoutPermit vs = if anyOf (λ (k, t). isUndef t) vs then undefined else deny
 
--- "Permit, with the lowest TRUE rule number": verdicts stand in the order of their numbers
+-- "Permit, with the lowest TRUE rule number": those that are TRUE stand in the order of their numbers
+abbrev pub permitBy : List (ℕ × Truth) → Decision → Decision
+permitBy [] other = other
+permitBy ((k, t) ∷ rest) other = permit k
+
 unfoldable pub decisionBy : List (ℕ × Truth) → Decision
-decisionBy vs = elim (filter (λ (k, t). isTrue t) vs) [ [] ↦ withoutPermit vs | v ∷ rest ↦ permit (v .0) ]
+decisionBy vs = permitBy (filter (λ (k, t). isTrue t) vs) (withoutPermit vs)
 
--- the decision on a block that is not refused; what is no block is refused with 15 before, so the clause for none is never met
-abbrev pub judged : State → Option Block → Decision
-judged S none = refused refusal.badBlock
-judged S (some b) = decisionBy (verdicts S b)
+-- by the number of the refusal, 0 where there is none, and the block that was read: what is no block has the number 15
+abbrev pub judged : State → ℕ → Option Block → Decision
+judged S n none = refused n
+judged S n (some b) = if eqb n 0 then decisionBy (verdicts S b) else refused n
 
 -- a request
 unfoldable pub decide : State → Bytes → Decision
-decide S block =
-    let n = requestRefusal S block in
-    if eqb n 0 then judged S (readBlock block) else refused n
+decide S block = judged S (requestRefusal S block) (readBlock block)

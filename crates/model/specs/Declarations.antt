@@ -4,7 +4,7 @@ use mathlib.Core.Bool.{Bool, _&&_, not}
 use mathlib.Core.List.{List, [], _∷_}
 use mathlib.Core.Option.{Option, none, some}
 use lib.Dec.{eqb}
-use Rattle.model.specs.Notation.{_>>=_, isNone, any, place, nth, find, count, map}
+use Rattle.model.specs.Notation.{_>>=_, isNone, anyOf, place, nth, find, countOf, map}
 use Rattle.model.specs.Bytes.{Bytes, bytes, same}
 use Rattle.model.specs.Attributes.{Source, AtomType, sameSource}
 use Rattle.model.specs.Atoms.{Atom, sameAtom}
@@ -111,11 +111,11 @@ abbrev pub groupSorts : List Sort
 groupSorts = Sort.ugroup ∷ Sort.ogroup ∷ []
 
 abbrev pub isGroup : Sort → Bool
-isGroup s = any (isSort s) groupSorts
+isGroup s = anyOf (isSort s) groupSorts
 
 -- how many holders are groups: "at most 64 groups"
 unfoldable pub groups : Declarations → ℕ
-groups D = count (λ h. isGroup (h .sort)) (D .holders)
+groups D = countOf (λ h. isGroup (h .sort)) (D .holders)
 
 -- "The attribute is a user one for users and ugroups, an object one for objects and ogroups, an admin one for admin"
 abbrev pub sourceFor : Sort → Source

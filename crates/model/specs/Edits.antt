@@ -4,7 +4,7 @@ use mathlib.Core.Bool.{Bool, not, Bool·beq}
 use mathlib.Core.Option.{Option, none, some}
 use lib.ListN.{length}
 use lib.Dec.{eqb}
-use Rattle.model.specs.Notation.{if_then_else_, _>>=_, isNone, any, count, below}
+use Rattle.model.specs.Notation.{if_then_else_, _>>=_, isNone, anyOf, countOf, below}
 use Rattle.model.specs.Bytes.{Bytes}
 use Rattle.model.specs.Lines.{readLine}
 use Rattle.model.specs.Declarations.{Declarations, holderNumbersOf}
@@ -28,11 +28,11 @@ editedTies plus (some t) T = if plus then added t T else removed t T
 
 -- the sets of holder k on T and on U differ
 unfoldable pub differs : Declarations → Ties → Ties → ℕ → Bool
-differs D T U k = any (λ p. not (Bool·beq (effectiveSet D T k p) (effectiveSet D U k p))) (below (length (D .pairs)))
+differs D T U k = anyOf (λ p. not (Bool·beq (effectiveSet D T k p) (effectiveSet D U k p))) (below (length (D .pairs)))
 
 -- "An edit's count is the number of holders whose effective sets on T before it and on T after it differ"
 unfoldable pub changes : Declarations → Ties → Ties → ℕ
-changes D T U = count (differs D T U) (holderNumbersOf D)
+changes D T U = countOf (differs D T U) (holderNumbersOf D)
 
 -- the number of the answer, its count, and the state it leaves
 pub record Edited : Type 0 where

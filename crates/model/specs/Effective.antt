@@ -4,7 +4,7 @@ use mathlib.Core.Path.{_≡_}
 use mathlib.Core.Bool.{Bool, true, false, _||_}
 use mathlib.Core.List.{List}
 use lib.ListN.{length}
-use Rattle.model.specs.Notation.{any}
+use Rattle.model.specs.Notation.{anyOf}
 use Rattle.model.specs.Ties.{Ties, value, up, ups}
 
 -- "direct(h): the pairs of h's value ties"
@@ -14,7 +14,7 @@ direct T h p = T (value h p)
 -- the pairs that h has itself or inherits along fewer than n ties
 abbrev pub effectiveWithin : ℕ → List ℕ → Ties → ℕ → ℕ → Bool
 effectiveWithin zero hs T h p = false
-effectiveWithin (suc n) hs T h p = direct T h p || any (λ g. effectiveWithin n hs T g p) (ups hs T h)
+effectiveWithin (suc n) hs T h p = direct T h p || anyOf (λ g. effectiveWithin n hs T g p) (ups hs T h)
 
 -- "effective(h): its own direct pairs together with those inherited from each parent (a group) or each group it is a member of (a user or
 -- object), namely that parent's or group's effective pairs"; the source's min_group "has no values", so nothing is added for it. A chain of ties that never comes back passes each of the holders hs at most once.

@@ -6,7 +6,7 @@ use mathlib.Core.List.{List, [], _∷_, _++_}
 use mathlib.Core.Option.{Option, none, some}
 use lib.ListN.{length}
 use lib.Dec.{ltb}
-use Rattle.model.specs.Notation.{_>>=_, _or-else_, onlyIf, all}
+use Rattle.model.specs.Notation.{_>>=_, _or-else_, onlyIf, allOf}
 use Rattle.model.specs.Limits.{termLimit, depthLimit, setLimit}
 use Rattle.model.specs.Bytes.{Bytes, same}
 use Rattle.model.specs.Attributes.{Source, sameType}
@@ -31,7 +31,7 @@ pub data Policy : Type 0 where
 -- "atoms of one type"
 abbrev pub oneType : List Atom → Bool
 oneType [] = true
-oneType (a ∷ l) = all (λ b. sameType (typeOf a) (typeOf b)) l
+oneType (a ∷ l) = allOf (λ b. sameType (typeOf a) (typeOf b)) l
 
 -- Items ts l: the tokens ts are the constants l, parted by commas
 pub data Items : List Token → List Atom → Type 0 where

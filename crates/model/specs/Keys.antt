@@ -4,7 +4,7 @@ use mathlib.Core.Bool.{Bool}
 use mathlib.Core.List.{List, [], _∷_}
 use mathlib.Core.Option.{Option}
 use lib.ListN.{length}
-use Rattle.model.specs.Notation.{before, any}
+use Rattle.model.specs.Notation.{before, anyOf}
 use Rattle.model.specs.Bytes.{Bytes, bytes, same, oneOf}
 
 -- "lines `key=fields`"
@@ -44,4 +44,4 @@ abbrev pub tieKeys : List Key
 tieKeys = parent ∷ member ∷ value ∷ []
 
 abbrev pub isTieKey : Key → Bool
-isTieKey k = any (sameKey k) tieKeys
+isTieKey k = anyOf (sameKey k) tieKeys

@@ -4,7 +4,7 @@ use mathlib.Core.List.{List, _++_}
 use mathlib.Core.Option.{Option, some}
 use lib.ListN.{length}
 use lib.Dec.{leb}
-use Rattle.model.specs.Notation.{_>>=_, isNone, onlyIf, all, each}
+use Rattle.model.specs.Notation.{_>>=_, isNone, onlyIf, allOf, each}
 use Rattle.model.specs.Limits.{lineBytes}
 use Rattle.model.specs.Bytes.{Bytes, bytes, cutAt, content}
 use Rattle.model.specs.Names.{isName, readName}
@@ -130,7 +130,7 @@ isLine (holder s n) = not (isSort s Sort.admin) && isName n
 isLine (parent c g) = isName c && isName g
 isLine (member p g) = isName p && isName g
 isLine (value h n a) = isName h && isName n && isAtom a
-isLine (rule o ts) = isName o && all isToken ts && not (isNone (readPolicy ts))
+isLine (rule o ts) = isName o && allOf isToken ts && not (isNone (readPolicy ts))
 
 -- Writes l b: the bytes b, without byte 10, write the line l. Any spelling of its tokens may stand for the policy of a rule
 pub data Writes : Line → Bytes → Type 0 where

@@ -43,14 +43,14 @@ module _ {A : Type 0} where
   isEmpty (x ∷ xs) = false
 
   -- some element passes
-  abbrev pub any : (A → Bool) → List A → Bool
-  any p [] = false
-  any p (x ∷ xs) = if p x then true else any p xs
+  abbrev pub anyOf : (A → Bool) → List A → Bool
+  anyOf p [] = false
+  anyOf p (x ∷ xs) = if p x then true else anyOf p xs
 
   -- each element passes
-  abbrev pub all : (A → Bool) → List A → Bool
-  all p [] = true
-  all p (x ∷ xs) = if p x then all p xs else false
+  abbrev pub allOf : (A → Bool) → List A → Bool
+  allOf p [] = true
+  allOf p (x ∷ xs) = if p x then allOf p xs else false
 
   -- the elements that pass, in their order
   abbrev pub filter : (A → Bool) → List A → List A
@@ -58,9 +58,9 @@ module _ {A : Type 0} where
   filter p (x ∷ xs) = if p x then x ∷ filter p xs else filter p xs
 
   -- how many elements pass
-  abbrev pub count : (A → Bool) → List A → ℕ
-  count p [] = 0
-  count p (x ∷ xs) = if p x then suc (count p xs) else count p xs
+  abbrev pub countOf : (A → Bool) → List A → ℕ
+  countOf p [] = 0
+  countOf p (x ∷ xs) = if p x then suc (countOf p xs) else countOf p xs
 
   -- the elements before the first that passes
   abbrev pub before : (A → Bool) → List A → List A

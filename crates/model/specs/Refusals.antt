@@ -5,7 +5,7 @@ use mathlib.Core.List.{List, [], _∷_}
 use mathlib.Core.Option.{Option}
 use lib.ListN.{length}
 use lib.Dec.{eqb, leb, ltb}
-use Rattle.model.specs.Notation.{_>>=_, _or-else_, _is_, isNone, any, all, nth, below}
+use Rattle.model.specs.Notation.{_>>=_, _or-else_, _is_, isNone, anyOf, allOf, nth, below}
 use Rattle.model.specs.Limits.{fileBytes, attributeLimit, operationLimit, pairLimit, ruleLimit, holderNumbers, groupLimit, tableWords, maskBits}
 use Rattle.model.specs.Numbers as refusal
 use Rattle.model.specs.Bytes.{Bytes, bytes, behind}
@@ -85,7 +85,7 @@ undeclared D (holder s n) = false
 undeclared D (parent c g) = isNone (tieOf D (parent c g))
 undeclared D (member p g) = isNone (tieOf D (member p g))
 undeclared D (value h n a) = isNone (tieOf D (value h n a))
-undeclared D (rule o ts) = isNone (operationNumber D o) || any (unknownName D) ts
+undeclared D (rule o ts) = isNone (operationNumber D o) || anyOf (unknownName D) ts
 
 -- the two holders are of sorts that fit: the upper one's is the one that `above` gives for the lower one's
 unfoldable pub fits : (Sort → Option Sort) → Declarations → Bytes → Bytes → Bool
@@ -219,7 +219,7 @@ wrongNumber D b =
     not (sortOf D (b .user) is isSort Sort.user)
     || not (sortOf D (b .object) is isSort Sort.object)
     || leb (length (D .operations)) (b .operation)
-    || not (all (entryFits D) (b .entries))
+    || not (allOf (entryFits D) (b .entries))
 
 -- whether attribute k is a user attribute of which the user has a value
 unfoldable pub isHeld : State → Block → ℕ → Bool
@@ -229,7 +229,7 @@ isHeld S b k =
 
 -- "17: activated bit that is no user attribute held by that user"
 unfoldable pub notHeld : State → Block → Bool
-notHeld S b = any (λ k. activated b k && not (isHeld S b k)) (below maskBits)
+notHeld S b = anyOf (λ k. activated b k && not (isHeld S b k)) (below maskBits)
 
 -- the tests of a request
 abbrev pub requestTests : State → Bytes → List Test

@@ -7,7 +7,7 @@ use mathlib.Core.List.{List, [], _∷_}
 use mathlib.Core.Option.{Option, some}
 use lib.ListN.{length}
 use lib.Dec.{ltb}
-use Rattle.model.specs.Notation.{isNone, any, all, nth}
+use Rattle.model.specs.Notation.{isNone, anyOf, allOf, nth}
 use Rattle.model.specs.Limits.{attributeLimit, operationLimit, pairLimit, holderNumbers, groupLimit, ruleLimit}
 use Rattle.model.specs.Bytes.{Bytes, bytes, same}
 use Rattle.model.specs.Names.{isName}
@@ -30,7 +30,7 @@ Unique {A} alike xs = (i j : ℕ) (x y : A) → nth xs i ≡ some x → nth xs j
 -- numbers rise along a list
 abbrev pub rising : {A : Type 0} → (A → ℕ) → List A → Bool
 rising number [] = true
-rising number (x ∷ xs) = all (λ y. ltb (number x) (number y)) xs && rising number xs
+rising number (x ∷ xs) = allOf (λ y. ltb (number x) (number y)) xs && rising number xs
 
 -- attr: "env and connect are never str. At most 32 … Unique by SRC and NAME"
 pub record AttributesStand (attributes : List Attribute) : Type 0 where
@@ -73,11 +73,11 @@ pub record HoldersStand (D : Declarations) : Type 0 where
 -- rule: the operation is declared, the tokens are those of a policy within the limits, and its names are declared. "at most 32"
 pub record RuleStands (D : Declarations) (r : Rule) : Type 0 where
   pub operation-declared : isNone (operationNumber D (r .operation)) ≡ false
-  pub written : all isToken (r .tokens) ≡ true
+  pub written : allOf isToken (r .tokens) ≡ true
   pub policy : Policy
   pub reads : readPolicy (r .tokens) ≡ some policy
   pub within : tooLarge policy ≡ false
-  pub names-declared : any (unknownName D) (r .tokens) ≡ false
+  pub names-declared : anyOf (unknownName D) (r .tokens) ≡ false
 
 -- all rules
 pub record RulesStand (D : Declarations) : Type 0 where

@@ -5,7 +5,7 @@ use mathlib.Core.Bool.{Bool, true, false, _&&_, _||_, not}
 use mathlib.Core.List.{List}
 use lib.ListN.{length}
 use lib.Dec.{eqb}
-use Rattle.model.specs.Notation.{any, filter}
+use Rattle.model.specs.Notation.{anyOf, filter}
 
 -- "parent, member and value lines are ties", with holders and pairs by their numbers
 pub data Tie : Type 0 where
@@ -64,7 +64,7 @@ ups hs T h = filter (up T h) hs
 -- whether a chain of at most n ties leads from h up to g
 abbrev pub belowWithin : ℕ → List ℕ → Ties → ℕ → ℕ → Bool
 belowWithin zero hs T h g = false
-belowWithin (suc n) hs T h g = any (λ m. eqb m g || belowWithin n hs T m g) (ups hs T h)
+belowWithin (suc n) hs T h g = anyOf (λ m. eqb m g || belowWithin n hs T m g) (ups hs T h)
 
 -- whether h is below g, among the holders hs
 unfoldable pub isBelow : List ℕ → Ties → ℕ → ℕ → Bool

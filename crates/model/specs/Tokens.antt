@@ -6,7 +6,7 @@ use mathlib.Core.List.{List, [], _∷_, _++_}
 use mathlib.Core.Option.{Option, none, some}
 use lib.ListN.{length}
 use lib.Dec.{leb}
-use Rattle.model.specs.Notation.{if_then_else_, _>>=_, _or-else_, _is_, onlyIf, isEmpty, all}
+use Rattle.model.specs.Notation.{if_then_else_, _>>=_, _or-else_, _is_, onlyIf, isEmpty, allOf}
 use Rattle.model.specs.Bytes.{Bytes, bytes, same, isByte, inRange, cutAt, behind, oneOf}
 use Rattle.model.specs.Limits.{largestInt}
 use Rattle.model.specs.Names.{isName, readName}
@@ -179,7 +179,7 @@ tokensOf s = tokensWithin (length s) s
 
 -- whether a token is a word: "A run of letters, digits, `_` and `.` is one word"
 abbrev pub isWord : Token → Bool
-isWord t = all wordByte (spelling t)
+isWord t = allOf wordByte (spelling t)
 
 -- whether a token is that operator
 abbrev pub isOperator : Operator → Token → Bool

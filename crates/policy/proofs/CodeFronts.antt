@@ -7,7 +7,7 @@ use mathlib.Core.Option.{none, some}
 use native.Mathlib.Omega.{arith}
 use native.Mathlib.Decide.{decLt}
 use lib.ListN.{length, getD, List·getD-eq-default}
-use Rattle.model.specs.Notation.{onlyIf, any}
+use Rattle.model.specs.Notation.{onlyIf, anyOf}
 use Rattle.model.specs.Bytes.{Bytes}
 use Rattle.model.specs.Tokens.{Token, name, int, str, truth, operator, mark, Mark, Operator, markWord, asConstant, isToken}
 use Rattle.model.specs.Grammar.{isMark, behindMark, readOperator}
@@ -28,10 +28,10 @@ inside code at h = go (decLt at (length code))
     go (yes i) = i
     go (no i) = absurd (omega (arith, List·getD-eq-default code 0 {n = at} (omega arith)))
 
-pub none-passes : {A : Type 0} (p : A → Bool) (x : A) (xs : List A) → any p (x ∷ xs) ≡ false → (p x ≡ false) × (any p xs ≡ false)
+pub none-passes : {A : Type 0} (p : A → Bool) (x : A) (xs : List A) → anyOf p (x ∷ xs) ≡ false → (p x ≡ false) × (anyOf p xs ≡ false)
 none-passes p x xs e = go (p x) refl e
   where
-    go : (b : Bool) → p x ≡ b → elim b as (λ _. Bool) [ true ↦ true | false ↦ any p xs ] ≡ false → (p x ≡ false) × (any p xs ≡ false)
+    go : (b : Bool) → p x ≡ b → elim b as (λ _. Bool) [ true ↦ true | false ↦ anyOf p xs ] ≡ false → (p x ≡ false) × (anyOf p xs ≡ false)
     go true f g = false-is-true (sym g)
     go false f g = (f, g)
 

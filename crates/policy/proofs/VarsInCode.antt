@@ -8,7 +8,7 @@ use native.Mathlib.Omega.{arith}
 use lib.Dec.{eqb}
 use lib.ListN.{length, getD}
 use borrow.Author.Tests.{eq-eqb, ne-eqb}
-use Rattle.model.specs.Notation.{_>>=_, onlyIf, all, isNone}
+use Rattle.model.specs.Notation.{_>>=_, onlyIf, allOf, isNone}
 use Rattle.model.specs.Bytes.{Bytes}
 use Rattle.model.specs.Attributes.{AtomType, sameType}
 use Rattle.model.specs.Atoms.{Atom, isAtom, typeOf}
@@ -165,9 +165,9 @@ module _ (t : Token) (a : Atom) (e : asConstant t ≡ some a) where
       rw e (ap₂ (λ (w x : Option (List Token)). elim w as (λ _. Option (List Atom × List Token)) [ some rest ↦ some (a ∷ [], rest) | none ↦ x >>= λ rest. readItems ts >>= λ (l, rest). some (a ∷ l, rest) ]) f g)
 
 -- an atom of the kind is followed by others of it
-of-kind-cons : (kind : ℕ) (a : Atom) (l : List Atom) → kind ≡ typeCode (typeOf a) → all (ofKind kind) (a ∷ l) ≡ all (ofKind kind) l
+of-kind-cons : (kind : ℕ) (a : Atom) (l : List Atom) → kind ≡ typeCode (typeOf a) → allOf (ofKind kind) (a ∷ l) ≡ allOf (ofKind kind) l
 of-kind-cons kind a l e =
-    ap (λ (b : Bool). elim b as (λ _. Bool) [ true ↦ all (ofKind kind) l | false ↦ false ]) (eq-eqb (typeCode (typeOf a)) kind (sym e))
+    ap (λ (b : Bool). elim b as (λ _. Bool) [ true ↦ allOf (ofKind kind) l | false ↦ false ]) (eq-eqb (typeCode (typeOf a)) kind (sym e))
 
 module _ (code : Bytes) (kind at : ℕ) where
   pub items-short : (r : Constants) → r .ok ≡ false → length code ≤ at → ItemsFrom code kind at r
@@ -183,7 +183,7 @@ module _ (code : Bytes) (kind at : ℕ) where
           case : (o : Option Atom) → asConstant t ≡ o → ItemsAnswers code A kind at r (readItems (t ∷ ts))
           case none q = subst (ItemsAnswers code A kind at r) (sym (items-not t ts q)) e
           case (some a) q = items-from t a q (ItemsAnswers code A kind at r) e (λ l rest. (
-            e ∙ sym (ap (λ (b : Bool). elim b as (λ _. Bool) [ true ↦ all (ofKind kind) l | false ↦ false ]) (ne-eqb (typeCode (typeOf a)) kind (λ z. n (told f .kind-is ∙ kind-of a t q ∙ z)))),
+            e ∙ sym (ap (λ (b : Bool). elim b as (λ _. Bool) [ true ↦ allOf (ofKind kind) l | false ↦ false ]) (ne-eqb (typeCode (typeOf a)) kind (λ z. n (told f .kind-is ∙ kind-of a t q ∙ z)))),
             λ z. false-is-true (sym e ∙ z),
           )) ts
 
@@ -203,7 +203,7 @@ module _ (code : Bytes) (kind at : ℕ) where
           let b = mark-on Mark.rbrace code A end (c .rest) (c .behind) (sym h ∙ z) in
           let w = items-within (omega arith) in
           let k : kind ≡ typeCode (typeOf (c .atom)) = c .kind-is ∙ kind-of (c .atom) (c .token) (c .is) in
-          let o : all (ofKind kind) (c .atom ∷ []) ≡ true = of-kind-cons kind (c .atom) [] k in
+          let o : allOf (ofKind kind) (c .atom ∷ []) ≡ true = of-kind-cons kind (c .atom) [] k in
           subst (λ us. ItemsAnswers code A kind at r (readItems us)) (sym (c .split ∙ ap (λ us. c .token ∷ us) (b .split)))
           (subst (ItemsAnswers code A kind at r) (sym (items-end (c .token) (c .atom) (c .is) (b .rest))) (
             sym o,
@@ -276,14 +276,14 @@ same-type AtomType.bool AtomType.int = refl
 same-type AtomType.bool AtomType.str = refl
 same-type AtomType.bool AtomType.bool = refl
 
-same-types : (a : Atom) (l : List Atom) → all (λ b. sameType (typeOf a) (typeOf b)) l ≡ all (ofKind (typeCode (typeOf a))) l
+same-types : (a : Atom) (l : List Atom) → allOf (λ b. sameType (typeOf a) (typeOf b)) l ≡ allOf (ofKind (typeCode (typeOf a))) l
 same-types a [] = refl
 same-types a (b ∷ l) =
     ap₂ (λ (x y : Bool). elim x as (λ _. Bool) [ true ↦ y | false ↦ false ]) (same-type (typeOf a) (typeOf b)) (same-types a l)
 
 module _ (code : Bytes) (at k : ℕ) (e : k ≡ getD code at 0) where
   abbrev Same : Option (List Atom × List Token) → Type 0
-  Same o = (y : List Atom × List Token) → o ≡ some y → oneType (y .0) ≡ all (ofKind k) (y .0)
+  Same o = (y : List Atom × List Token) → o ≡ some y → oneType (y .0) ≡ allOf (ofKind k) (y .0)
 
   -- the constants of a set are of one type where they are all of the first one's kind
   one-type : 1 ≤ k → k ≤ 2 → (A : Asked) (ts : List Token) → From code A at ts → Same (readItems ts)
@@ -295,8 +295,8 @@ module _ (code : Bytes) (at k : ℕ) (e : k ≡ getD code at 0) where
       case (some a) q =
           let s : k ≡ typeCode (typeOf a) = e ∙ told f .kind-is ∙ kind-of a t q in
           items-from t a q Same (λ y z. none-is-some z) (λ l rest y z.
-          subst (λ (x : List Atom × List Token). oneType (x .0) ≡ all (ofKind k) (x .0)) (Option·some-injective (a ∷ l, rest) y z)
-          (same-types a l ∙ ap (λ (i : ℕ). all (ofKind i) l) (sym s) ∙ sym (of-kind-cons k a l s))) ts
+          subst (λ (x : List Atom × List Token). oneType (x .0) ≡ allOf (ofKind k) (x .0)) (Option·some-injective (a ∷ l, rest) y z)
+          (same-types a l ∙ ap (λ (i : ℕ). allOf (ofKind i) l) (sym s) ∙ sym (of-kind-cons k a l s))) ts
 
   pub set-none : (v : Var) → (v .ok ≡ false) × (v .next ≡ at) → (1 ≤ k → k ≤ 2 → ⊥) → SetVars code at v
   unfolding readSet
@@ -314,7 +314,7 @@ module _ (code : Bytes) (at k : ℕ) (e : k ≡ getD code at 0) where
     set-off v x z = record { further = omega (arith, x .1); answers = λ L A ts f. go L A (readItems ts) (R .answers lo hi A ts f) (one-type lo hi A ts f) }
       where
         go : (L : Lending) (A : Asked) (o : Option (List Atom × List Token)) → ItemsAnswers code A k at r o
-            → ((y : List Atom × List Token) → o ≡ some y → oneType (y .0) ≡ all (ofKind k) (y .0))
+            → ((y : List Atom × List Token) → o ≡ some y → oneType (y .0) ≡ allOf (ofKind k) (y .0))
             → VarAnswers code L A v (o >>= λ (l, rest). onlyIf (oneType l) (constants l, rest))
         go L A none a s = x .0
         go L A (some y) a s =
@@ -328,7 +328,7 @@ module _ (code : Bytes) (at k : ℕ) (e : k ≡ getD code at 0) where
     }
       where
         go : (L : Lending) (A : Asked) (w : Option (List Atom × List Token)) → ItemsAnswers code A k at r w
-            → ((y : List Atom × List Token) → w ≡ some y → oneType (y .0) ≡ all (ofKind k) (y .0))
+            → ((y : List Atom × List Token) → w ≡ some y → oneType (y .0) ≡ allOf (ofKind k) (y .0))
             → VarAnswers code L A (record { ok = true; operand = o; atoms = r .atoms; next = r .end + 1 }) (w >>= λ (l, rest). onlyIf (oneType l) (constants l, rest))
         go L A none a s = false-is-true (sym a ∙ z)
         go L A (some y) a s =

@@ -10,7 +10,7 @@ use lib.Dec.{ltb}
 use lib.ListN.{length, getD, drop}
 use lib.Seq.{drop-drop}
 use borrow.Author.Tests.{lt-ltb, le-ltb}
-use Rattle.model.specs.Notation.{_>>=_, _is_, isNone, any, all}
+use Rattle.model.specs.Notation.{_>>=_, _is_, isNone, anyOf, allOf}
 use Rattle.model.specs.Numbers as refusal
 use Rattle.model.specs.Bytes.{Bytes}
 use Rattle.model.specs.Truth as truth
@@ -166,7 +166,7 @@ module _ (s : Bytes) (rows : List ℕ) (before after : Bytes) (c : Encoded) (E :
 -- ---- the value
 
 module _ (code : Bytes) (L : Lending) (r q : Reading) (P : Policies code L 0 r) (W : Ends code r q) where
-  asked : (D : Declarations) (ts : List Token) → Coded D code 0 ts → all isToken ts ≡ true → any (unknownName D) ts ≡ false
+  asked : (D : Declarations) (ts : List Token) → Coded D code 0 ts → allOf isToken ts ≡ true → anyOf (unknownName D) ts ≡ false
       → WholeAnswers code L (record { declared = D; valued = true }) q (readPolicy ts)
   asked D ts c w u =
       whole-answer code L r q P W (record { declared = D; valued = true }) ts (record { coded = c; written = λ _. w; known = λ _. u })

@@ -6,7 +6,7 @@ use mathlib.Core.List.{List, [], _∷_, _++_}
 use mathlib.Core.Option.{Option, none, some}
 use lib.ListN.{length, drop}
 use Rattle.model.specs.Numbers as refusal
-use Rattle.model.specs.Notation.{_>>=_, _is_, isNone, any, all}
+use Rattle.model.specs.Notation.{_>>=_, _is_, isNone, anyOf, allOf}
 use Rattle.model.specs.Bytes.{Bytes}
 use Rattle.model.specs.Declarations.{Declarations}
 use Rattle.model.specs.Tokens.{Token, tokensOf, isToken}
@@ -35,7 +35,7 @@ Ends code r q = (L : Lending) (A : Asked) (o : grammar.Reading) → Answers code
 
 -- the tests of a policy alone: 6 malformed, 7 over the limits, 8 a name that is not declared
 abbrev pub policyTests : Declarations → Option (List Token) → Option Policy → List Test
-policyTests D ts p = refusal.malformed if isNone p ∷ refusal.overLimits if (p is tooLarge) ∷ refusal.undeclared if (ts is any (unknownName D)) ∷ []
+policyTests D ts p = refusal.malformed if isNone p ∷ refusal.overLimits if (p is tooLarge) ∷ refusal.undeclared if (ts is anyOf (unknownName D)) ∷ []
 
 unfoldable pub policyNumber : Declarations → Bytes → ℕ
 policyNumber D s = first (policyTests D (tokensOf s) (tokensOf s >>= readPolicy))
@@ -44,7 +44,7 @@ policyNumber D s = first (policyTests D (tokensOf s) (tokensOf s >>= readPolicy)
 abbrev pub Refuses : Reading → Bool → ℕ → Type 0
 Refuses r unknown n =
     (code : Bytes) (L : Lending) (A : Asked) (o : Option Policy) (D : Declarations) (ts : List Token)
-    → WholeAnswers code L A r o → unknown ≡ any (unknownName D) ts → n ≡ first (policyTests D (some ts) o)
+    → WholeAnswers code L A r o → unknown ≡ anyOf (unknownName D) ts → n ≡ first (policyTests D (some ts) o)
 
 -- n is what the policy s alone is refused for, whatever declarations the rows are those of; where it has tokens, `after` is `before` with their
 -- code at its front, and what lies behind the bytes that any code of s may take keeps its content
@@ -58,5 +58,5 @@ pub record Judges (s : Bytes) (rows : List ℕ) (before after : Bytes) (n : ℕ)
 -- r is the value of the tokens that the code holds, by whatever values the operands of their attributes stand for
 abbrev pub Evaluated : Bytes → Lending → Truth → Type 0
 Evaluated code L r =
-    (D : Declarations) (ts : List Token) → Coded D code 0 ts → all isToken ts ≡ true → any (unknownName D) ts ≡ false
+    (D : Declarations) (ts : List Token) → Coded D code 0 ts → allOf isToken ts ≡ true → anyOf (unknownName D) ts ≡ false
     → (read : Values) → ReadsAs code L D read → truthOf r ≡ meaningOf read ts

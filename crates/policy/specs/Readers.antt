@@ -6,7 +6,7 @@ use mathlib.Core.List.{List, _∷_}
 use mathlib.Core.Option.{Option, none, some}
 use lib.Dec.{eqb}
 use lib.ListN.{length, getD}
-use Rattle.model.specs.Notation.{any, all, map}
+use Rattle.model.specs.Notation.{anyOf, allOf, map}
 use Rattle.model.specs.Bytes.{Bytes}
 use Rattle.model.specs.Attributes.{Source}
 use Rattle.model.specs.Atoms.{Atom, typeOf, isAtom}
@@ -56,8 +56,8 @@ pub record Asked : Type 0 where
 -- from `at` on, the code holds the tokens ts
 pub record From (code : Bytes) (A : Asked) (at : ℕ) (ts : List Token) : Type 0 where
   pub coded : Coded (A .declared) code at ts
-  pub written : A .valued ≡ true → all isToken ts ≡ true
-  pub known : A .valued ≡ true → any (unknownName (A .declared)) ts ≡ false
+  pub written : A .valued ≡ true → allOf isToken ts ≡ true
+  pub known : A .valued ≡ true → anyOf (unknownName (A .declared)) ts ≡ false
 
 -- the operand of each declared attribute stands for the values that `read` gives it
 abbrev pub ReadsAs : Bytes → Lending → Declarations → Values → Type 0
@@ -171,13 +171,13 @@ pub record ItemsRead (code : Bytes) (A : Asked) (kind at : ℕ) (r : Constants) 
   pub behind : From code A (r .end + 1) rest
   pub atom-count : r .atoms ≡ min 9 (length l)
   pub some-atoms : 0 < length l
-  pub of-kind : all (ofKind kind) l ≡ true
+  pub of-kind : allOf (ofKind kind) l ≡ true
   pub coded : A .valued ≡ true → constantsFrom kind code (r .end) at ≡ map atomWords l
-  pub written : A .valued ≡ true → all isAtom l ≡ true
+  pub written : A .valued ≡ true → allOf isAtom l ≡ true
 
 abbrev pub ItemsAnswers : Bytes → Asked → ℕ → ℕ → Constants → Option (List Atom × List Token) → Type 0
 ItemsAnswers code A kind at r none = r .ok ≡ false
-ItemsAnswers code A kind at r (some y) = (r .ok ≡ all (ofKind kind) (y .0)) × (r .ok ≡ true → ItemsRead code A kind at r (y .0) (y .1))
+ItemsAnswers code A kind at r (some y) = (r .ok ≡ allOf (ofKind kind) (y .0)) × (r .ok ≡ true → ItemsRead code A kind at r (y .0) (y .1))
 
 pub record ItemsFrom (code : Bytes) (kind at : ℕ) (r : Constants) : Type 0 where
   pub further : r .ok ≡ true → (at < r .end) × (r .end < length code)

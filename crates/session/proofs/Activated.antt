@@ -8,7 +8,7 @@ use mathlib.Core.Option.{Option, none, some}
 use lib.Dec.{eqb, ltb}
 use lib.ListN.{length, getD}
 use borrow.Author.Tests.{lt-ltb}
-use Rattle.model.specs.Notation.{_is_, isEmpty, any, map, filter, below, nth}
+use Rattle.model.specs.Notation.{_is_, isEmpty, anyOf, map, filter, below, nth}
 use Rattle.model.specs.Attributes.{Source, sameSource}
 use Rattle.model.specs.Declarations.{Declarations, Attribute, sameSourceAndName, attributeNumber}
 use Rattle.model.specs.State.{State}
@@ -42,12 +42,12 @@ below-up : (n : ℕ) → below n ≡ upFrom 0 n
 below-up zero = refl
 below-up (suc n) = let e : n ≡ 0 + n = omega arith in ap₂ (λ (l : List ℕ) (m : ℕ). l ++ m ∷ []) (below-up n) e ∙ sym (up-last 0 n)
 
-some-filtered : (p : ℕ → Bool) (f : ℕ → Words) (l : List ℕ) → any p l ≡ not (isEmpty (map f (filter p l)))
+some-filtered : (p : ℕ → Bool) (f : ℕ → Words) (l : List ℕ) → anyOf p l ≡ not (isEmpty (map f (filter p l)))
 some-filtered p f [] = refl
 some-filtered p f (x ∷ l) = go (p x) (some-filtered p f l)
   where
-    go : (t : Bool) → any p l ≡ not (isEmpty (map f (filter p l)))
-        → (elim t as (λ _. Bool) [ true ↦ true | false ↦ any p l ])
+    go : (t : Bool) → anyOf p l ≡ not (isEmpty (map f (filter p l)))
+        → (elim t as (λ _. Bool) [ true ↦ true | false ↦ anyOf p l ])
         ≡ not (isEmpty (map f (elim t as (λ _. List ℕ) [ true ↦ x ∷ filter p l | false ↦ filter p l ])))
     go true e = refl
     go false e = e
@@ -56,7 +56,7 @@ some-chosen : (p : ℕ → Bool) (f : ℕ → Words) (top : ℕ) → anyBelow to
 unfolding anyBelow chosen
 some-chosen p f top =
     let d : top - 0 ≡ top = omega arith in
-    ap (any p) (below-up top) ∙ some-filtered p f (upFrom 0 top) ∙ sym (ap (λ (n : ℕ). not (isEmpty (map f (filter p (upFrom 0 n))))) d)
+    ap (anyOf p) (below-up top) ∙ some-filtered p f (upFrom 0 top) ∙ sym (ap (λ (n : ℕ). not (isEmpty (map f (filter p (upFrom 0 n))))) d)
 
 some-mapped : {A B : Type 0} (f : A → B) (l : List A) → not (isEmpty (map f l)) ≡ ltb 0 (length l)
 some-mapped f [] = refl

@@ -10,7 +10,7 @@ use lib.Dec.{eqb}
 use lib.ListN.{length, getD, take, drop}
 use lib.Seq.{getD-drop, drop-drop}
 use borrow.Author.Tests.{eqb-true, eqb-false}
-use Rattle.model.specs.Notation.{if_then_else_, map, filter, each, all, nth}
+use Rattle.model.specs.Notation.{if_then_else_, map, filter, each, allOf, nth}
 use Rattle.model.specs.Limits.{largestInt}
 use Rattle.model.specs.Bytes.{Bytes}
 use Rattle.model.specs.Attributes.{Source, AtomType}
@@ -137,17 +137,17 @@ module _ (attributes : List Attribute) (s : Source) (n : Bytes) where
 
       -- what is so of each value is so of the atoms
       pub entered-each : (ok : Atom → Bool) → ((v : ℕ) → v ≤ largestInt → ok (entryValue (a .type) v) ≡ true)
-          → (m j : ℕ) → all ok (each gives (entriesOf m (drop (5 * j) entries))) ≡ true
+          → (m j : ℕ) → allOf ok (each gives (entriesOf m (drop (5 * j) entries))) ≡ true
       entered-each ok f zero j = refl
       entered-each ok f (suc m) j =
-          ap (all ok) (gives-all m j)
+          ap (allOf ok) (gives-all m j)
           ∙ all-append ok (gives (entry j)) (each gives (entriesOf m (drop (5 * suc j) entries))) (go (here j) refl) (entered-each ok f m (suc j))
         where
-          go : (t : Bool) → here j ≡ t → all ok (gives (entry j)) ≡ true
+          go : (t : Bool) → here j ≡ t → allOf ok (gives (entry j)) ≡ true
           go true e =
-              ap (all ok) (gives-own j e)
+              ap (allOf ok) (gives-own j e)
               ∙ all-cons ok (entryValue (a .type) (valueAt entries (5 * j + 1))) [] (f (valueAt entries (5 * j + 1)) (value-small entries bytes (5 * j + 1))) refl
-          go false e = ap (all ok) (gives-other j e)
+          go false e = ap (allOf ok) (gives-other j e)
 
       pub entered-values : (count : ℕ) → length entries ≡ 5 * count → entriesFrom entries (typeCode (a .type)) k 0 ≡ map atomWords (each gives (entriesOf count entries))
       unfolding entriesFrom chosen

@@ -6,7 +6,7 @@ use mathlib.Core.Bool.{Bool, true, false, _&&_}
 use mathlib.Core.List.{List, [], _∷_}
 use mathlib.Core.Option.{some}
 use lib.ListN.{length}
-use Rattle.model.specs.Notation.{map, filter, all, nth, numberedFrom}
+use Rattle.model.specs.Notation.{map, filter, allOf, nth, numberedFrom}
 use Rattle.model.specs.Atoms.{Atom}
 use Rattle.model.specs.Declarations.{Pair}
 use Rattle.model.proofs.Lists.{all-cons}
@@ -36,14 +36,14 @@ module _ (eff : ℕ → Bool) (named : Pair → Bool) where
       go false q = ap (λ (l : List (ℕ × Pair)). map (λ pair. pair .atom) (filter named (map (λ (p, pair). pair) l))) (filter-drop (λ (p, pair). eff p) (k, x) (numberedFrom (suc k) xs) q)
 
   -- what is so of the atoms of each pair so named; none is there if none is so named
-  pub held-each : (ok : Atom → Bool) (k : ℕ) (xs : List Pair) → ((i : ℕ) (x : Pair) → nth xs i ≡ some x → named x ≡ true → ok (x .atom) ≡ true) → all ok (heldFrom k xs) ≡ true
+  pub held-each : (ok : Atom → Bool) (k : ℕ) (xs : List Pair) → ((i : ℕ) (x : Pair) → nth xs i ≡ some x → named x ≡ true → ok (x .atom) ≡ true) → allOf ok (heldFrom k xs) ≡ true
   held-each ok k [] f = refl
   held-each ok k (x ∷ xs) f = go (eff k) refl (named x) refl (held-each ok (suc k) xs (λ i y e. f (suc i) y e))
     where
-      go : (t : Bool) → eff k ≡ t → (u : Bool) → named x ≡ u → all ok (heldFrom (suc k) xs) ≡ true → all ok (heldFrom k (x ∷ xs)) ≡ true
-      go true p true q h = ap (all ok) (held-keep k x xs p q) ∙ all-cons ok (x .atom) (heldFrom (suc k) xs) (f 0 x refl q) h
-      go true p false q h = ap (all ok) (held-skip k x xs (rw (p, q))) ∙ h
-      go false p u q h = ap (all ok) (held-skip k x xs (rw p)) ∙ h
+      go : (t : Bool) → eff k ≡ t → (u : Bool) → named x ≡ u → allOf ok (heldFrom (suc k) xs) ≡ true → allOf ok (heldFrom k (x ∷ xs)) ≡ true
+      go true p true q h = ap (allOf ok) (held-keep k x xs p q) ∙ all-cons ok (x .atom) (heldFrom (suc k) xs) (f 0 x refl q) h
+      go true p false q h = ap (allOf ok) (held-skip k x xs (rw (p, q))) ∙ h
+      go false p u q h = ap (allOf ok) (held-skip k x xs (rw p)) ∙ h
 
   pub held-none : (k : ℕ) (xs : List Pair) → ((i : ℕ) (x : Pair) → nth xs i ≡ some x → named x ≡ false) → heldFrom k xs ≡ []
   held-none k [] f = refl

@@ -7,7 +7,7 @@ use mathlib.Core.List.{List}
 use native.Mathlib.Decide.{ℕ-discrete, decLt}
 use native.Mathlib.Omega.{arith}
 use lib.ListN.{length, getD}
-use Rattle.model.specs.Notation.{any}
+use Rattle.model.specs.Notation.{anyOf}
 use Rattle.model.specs.Declarations.{Declarations, isHolder, holderNumbersOf}
 use Rattle.model.specs.Ties.{Ties, up}
 use Rattle.model.specs.Ties
@@ -63,7 +63,7 @@ module _ (ups own slots : List ℕ) (D : Declarations) (T : Ties) (standing : St
 
   -- the sentence, over slots
   inherits : (k p : ℕ) → k < length ups
-      → any (λ g. effective (holderNumbersOf D) T g p) (Ties.ups (holderNumbersOf D) T k)
+      → anyOf (λ g. effective (holderNumbersOf D) T g p) (Ties.ups (holderNumbersOf D) T k)
       ≡ anyBelow 64 (λ q. tiedUp ups k q && effective (holderNumbersOf D) T (getD slots q 0) p)
   inherits k p few =
       same-truth _ (anyBelow 64 (λ q. tiedUp ups k q && effective (holderNumbersOf D) T (getD slots q 0) p))

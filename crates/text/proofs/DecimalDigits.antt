@@ -8,7 +8,7 @@ use native.Mathlib.Omega.{arith}
 use borrow.Author.Tests.{le-leb, lt-leb}
 use lib.ListN.{length, getD, drop}
 use lib.Dec.{eqb, leb}
-use Rattle.model.specs.Notation.{all, onlyIf}
+use Rattle.model.specs.Notation.{allOf, onlyIf}
 use Rattle.model.specs.Limits.{largestInt}
 use Rattle.model.specs.Bytes.{Bytes}
 use Rattle.model.specs.Atoms.{numberFrom, noLeadingZero, readInt}
@@ -39,7 +39,7 @@ module _ (s : Bytes) where
   -- each byte is a digit
   pub decimal-at : isDecimal s ≡ true → (i : ℕ) → i < length s → (48 ≤ getD s i 0) × (getD s i 0 ≤ 57)
   unfolding isDecimal
-  decimal-at e i h = digit-range (getD s i 0) (all-at digit s (parts (leb 1 (length s)) (all digit s) (parts (leb 1 (length s) && all digit s) (noLeadingZero s) e .0) .1) i h)
+  decimal-at e i h = digit-range (getD s i 0) (all-at digit s (parts (leb 1 (length s)) (allOf digit s) (parts (leb 1 (length s) && allOf digit s) (noLeadingZero s) e .0) .1) i h)
 
 module _ (s : Bytes) (i v : ℕ) where
   pub number-on : i < length s → numberFrom v (drop i s) ≡ numberFrom (v * 10 + (getD s i 0 - 48)) (drop (i + 1) s)

@@ -10,7 +10,7 @@ use borrow.Author.Tests.{eq-eqb, ne-eqb, not-true}
 use lib.ListN.{length, getD, take, drop, length-drop, drop-of-length-le}
 use lib.Seq.{drop-cons, take-suc, take-all}
 use lib.Dec.{eqb}
-use Rattle.model.specs.Notation.{all}
+use Rattle.model.specs.Notation.{allOf}
 use Rattle.model.specs.Bytes.{Bytes, cut, same}
 use Rattle.model.proofs.WordTables.{same-eq}
 use Rattle.model.proofs.Lists.{all-parts, all-cons, all-append}
@@ -29,13 +29,13 @@ tail-part a s = take-all (length s - a) (drop a s) (omega (arith, length-drop a 
 
 -- a test that each byte passes
 module _ (p : ℕ → Bool) (s : Bytes) (i : ℕ) where
-  pub all-on : i < length s → p (getD s i 0) ≡ true → all p (drop i s) ≡ all p (drop (i + 1) s)
-  all-on h e = rw (next s i h, all, e)
+  pub all-on : i < length s → p (getD s i 0) ≡ true → allOf p (drop i s) ≡ allOf p (drop (i + 1) s)
+  all-on h e = rw (next s i h, allOf, e)
 
-  pub all-off : i < length s → p (getD s i 0) ≡ false → all p (drop i s) ≡ false
-  all-off h e = rw (next s i h, all, e)
+  pub all-off : i < length s → p (getD s i 0) ≡ false → allOf p (drop i s) ≡ false
+  all-off h e = rw (next s i h, allOf, e)
 
-  pub all-end : length s ≤ i → all p (drop i s) ≡ true
+  pub all-end : length s ≤ i → allOf p (drop i s) ≡ true
   all-end h = rw (done s i h)
 
 -- no b among the bytes passed
@@ -67,7 +67,7 @@ module _ (s t : Bytes) (i : ℕ) where
   same-end h k = rw (done s i h, done t i k)
 
 -- what passes, passes at each place
-pub all-at : (p : ℕ → Bool) (s : Bytes) → all p s ≡ true → (i : ℕ) → i < length s → p (getD s i 0) ≡ true
+pub all-at : (p : ℕ → Bool) (s : Bytes) → allOf p s ≡ true → (i : ℕ) → i < length s → p (getD s i 0) ≡ true
 all-at p [] e i h = absurd (omega arith)
 all-at p (x ∷ s) e zero h = all-parts p x s e .0
 all-at p (x ∷ s) e (suc i) h = all-at p s (all-parts p x s e .1) i (omega arith)

@@ -10,7 +10,7 @@ use borrow.Author.Tests.{leb-true, le-leb, eqb-true, eq-eqb}
 use lib.ListN.{length, getD, take, drop, take-append-drop, length-drop}
 use lib.Seq.{getD-drop}
 use lib.Dec.{eqb, leb, lit<}
-use Rattle.model.specs.Notation.{all}
+use Rattle.model.specs.Notation.{allOf}
 use Rattle.model.specs.Limits.{nameBytes, textBytes}
 use Rattle.model.specs.Bytes.{Bytes, same, inRange, isByte}
 use Rattle.model.specs.Names.{nameByte, isName}
@@ -51,7 +51,7 @@ range-solid : (x : ℕ) → 1 ≤ x → x ≤ 255 → solid x ≡ true
 range-solid x p q = both (le-leb 1 x p) (le-leb x 255 q)
 
 -- bytes of one number are the same bytes
-pub number-injective : (s t : Bytes) → all solid s ≡ true → all solid t ≡ true → number s ≡ number t → s ≡ t
+pub number-injective : (s t : Bytes) → allOf solid s ≡ true → allOf solid t ≡ true → number s ≡ number t → s ≡ t
 number-injective [] [] p q e = refl
 number-injective [] (y ∷ ys) p q e = absurd (omega (arith, solid-range y (all-parts solid y ys q .0) .0))
 number-injective (x ∷ xs) [] p q e = absurd (omega (arith, solid-range x (all-parts solid x xs p .0) .0))
@@ -66,18 +66,18 @@ number-injective (x ∷ xs) (y ∷ ys) p q e =
     cc
 
 module _ (p : ℕ → Bool) where
-  pub all-take : (n : ℕ) (s : Bytes) → all p s ≡ true → all p (take n s) ≡ true
+  pub all-take : (n : ℕ) (s : Bytes) → allOf p s ≡ true → allOf p (take n s) ≡ true
   all-take zero s e = refl
   all-take (suc n) [] e = refl
   all-take (suc n) (x ∷ s) e = let (h, r) = all-parts p x s e in all-cons p x (take n s) h (all-take n s r)
 
-  pub all-drop : (n : ℕ) (s : Bytes) → all p s ≡ true → all p (drop n s) ≡ true
+  pub all-drop : (n : ℕ) (s : Bytes) → allOf p s ≡ true → allOf p (drop n s) ≡ true
   all-drop zero s e = e
   all-drop (suc n) [] e = refl
   all-drop (suc n) (x ∷ s) e = all-drop n s (all-parts p x s e .1)
 
 -- bytes of the same words are the same bytes, whatever the number of words
-pub packed-injective : (n : ℕ) (s t : Bytes) → all solid s ≡ true → all solid t ≡ true → length s ≤ wordBytes * n → length t ≤ wordBytes * n
+pub packed-injective : (n : ℕ) (s t : Bytes) → allOf solid s ≡ true → allOf solid t ≡ true → length s ≤ wordBytes * n → length t ≤ wordBytes * n
     → packed n s ≡ packed n t → s ≡ t
 packed-injective zero [] [] p q h k e = refl
 packed-injective zero [] (y ∷ t) p q h k e = absurd (omega arith)
@@ -92,7 +92,7 @@ packed-injective (suc n) s t p q h k e =
     sym (take-append-drop wordBytes s) ∙ ap (λ (l : Bytes). l ++ drop wordBytes s) x ∙ ap (λ (l : Bytes). take wordBytes t ++ l) y ∙ take-append-drop wordBytes t
 
 -- as a test
-pub packed-same : (n : ℕ) (s t : Bytes) → all solid s ≡ true → all solid t ≡ true → length s ≤ wordBytes * n → length t ≤ wordBytes * n
+pub packed-same : (n : ℕ) (s t : Bytes) → allOf solid s ≡ true → allOf solid t ≡ true → length s ≤ wordBytes * n → length t ≤ wordBytes * n
     → same (packed n s) (packed n t) ≡ same s t
 packed-same n s t p q h k =
     same-truth (same (packed n s) (packed n t)) (same s t)
@@ -107,7 +107,7 @@ in-range a b x l h f =
     let n = leb-true x b q in
     range-solid x (omega arith) (omega arith)
 
-pub name-solid : (s : Bytes) → isName s ≡ true → all solid s ≡ true
+pub name-solid : (s : Bytes) → isName s ≡ true → allOf solid s ≡ true
 name-solid s e = all-by nameByte solid byte s (name-all s e)
   where
     other : (x : ℕ) → (inRange "a" "z" x ≡ true) ⊎ (inRange "0" "9" x ≡ true) → solid x ≡ true
@@ -123,11 +123,11 @@ name-solid s e = all-by nameByte solid byte s (name-all s e)
 
 pub name-length : (s : Bytes) → isName s ≡ true → length s ≤ 12
 unfolding isName
-name-length s e = leb-true (length s) 12 (parts (leb 1 (length s)) (leb (length s) nameBytes) (parts (leb 1 (length s) && leb (length s) nameBytes) (all nameByte s) e .0) .1)
+name-length s e = leb-true (length s) 12 (parts (leb 1 (length s)) (leb (length s) nameBytes) (parts (leb 1 (length s) && leb (length s) nameBytes) (allOf nameByte s) e .0) .1)
 
-pub text-solid : (s : Bytes) → isText s ≡ true → all solid s ≡ true
+pub text-solid : (s : Bytes) → isText s ≡ true → allOf solid s ≡ true
 unfolding isText
-text-solid s e = all-by textByte solid byte s (parts (leb (length s) textBytes) (all textByte s) e .1)
+text-solid s e = all-by textByte solid byte s (parts (leb (length s) textBytes) (allOf textByte s) e .1)
   where
     byte : (x : ℕ) → textByte x ≡ true → solid x ≡ true
     byte x f =
@@ -139,7 +139,7 @@ text-solid s e = all-by textByte solid byte s (parts (leb (length s) textBytes) 
 
 pub text-length : (s : Bytes) → isText s ≡ true → length s ≤ 12
 unfolding isText
-text-length s e = leb-true (length s) 12 (parts (leb (length s) textBytes) (all textByte s) e .0)
+text-length s e = leb-true (length s) 12 (parts (leb (length s) textBytes) (allOf textByte s) e .0)
 
 -- two words: names; three: texts
 words : (s t : Bytes) → packedOf s ≡ packedOf t → packed 2 s ≡ packed 2 t

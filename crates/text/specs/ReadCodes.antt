@@ -4,7 +4,7 @@ use mathlib.Core.Bool.{Bool, _&&_}
 use mathlib.Core.Option.{Option, none, some}
 use lib.ListN.{length}
 use lib.Dec.{leb}
-use Rattle.model.specs.Notation.{onlyIf, all}
+use Rattle.model.specs.Notation.{onlyIf, allOf}
 use Rattle.model.specs.Limits.{largestInt}
 use Rattle.model.specs.Bytes.{Bytes, inRange}
 use Rattle.model.specs.Attributes.{readSource, readType}
@@ -28,7 +28,7 @@ boolNumber s = coded boolCode (readBool s)
 
 -- decimal digits without leading zeros, and the number that digits write, if it is at most the largest
 unfoldable pub isDecimal : Bytes → Bool
-isDecimal s = leb 1 (length s) && all (inRange "0" "9") s && noLeadingZero s
+isDecimal s = leb 1 (length s) && allOf (inRange "0" "9") s && noLeadingZero s
 
 unfoldable pub limited : Bytes → Option ℕ
 limited s = onlyIf (leb (numberFrom 0 s) largestInt) (numberFrom 0 s)

@@ -3,7 +3,7 @@ ghost use mathlib.Core.Path.{_≡_};
 ghost use mathlib.Core.Bool.{true};
 ghost use Prim.Native.Nat.{_+_, _/_, _≤_, _<_};
 ghost use lib.ListN.{length};
-ghost use Rattle.model.specs.Notation.{if_then_else_, all};
+ghost use Rattle.model.specs.Notation.{if_then_else_, allOf};
 ghost use Rattle.model.specs.Bytes.{same};
 ghost use Rattle.model.specs.Names.{isName, nameByte};
 ghost use Rattle.model.specs.Atoms.{isText, textByte, readInt, readAtom};
@@ -150,7 +150,7 @@ fn in_class(b: u8, class: u8) -> bool
 
 // Whether each byte is of a class.
 fn all_in(s: &[u8], class: u8) -> bool
-    ensures { λ r. ⌜ r ≡ all (inClass class) (now (s .entry)) ⌝ }
+    ensures { λ r. ⌜ r ≡ allOf (inClass class) (now (s .entry)) ⌝ }
 {
     let mut i = 0;
     while i < s.len() {

@@ -21,7 +21,7 @@ abbrev pub HasNumbered : List ℕ → ℕ → ℕ → Type 0
 HasNumbered slots n m = (q : ℕ) → q < n → 0 < getD slots q 0 → bit m q ≡ true
 
 -- r has what the mask m has, and slot q if that has a number
-pub record Numbered (slots : List ℕ) (m q r : ℕ) : Type 0 where
+pub record AddsNumbered (slots : List ℕ) (m q r : ℕ) : Type 0 where
   pub kept : (j : ℕ) → bit m j ≡ true → bit r j ≡ true
   pub taken : 0 < getD slots q 0 → bit r q ≡ true
 

@@ -6,7 +6,7 @@ ghost use lib.Dec.{eqb, ltb};
 ghost use lib.ListN.{length, getD};
 ghost use Rattle.model.specs.Limits.{groupLimit, pairLimit};
 ghost use Rattle.bits.specs.Bits.{bit, member, anyBelow};
-ghost use Rattle.ties.specs.TieArrays.{inUse, meets, hasSlot, groupOf, under, HasNumbered, Numbered, Marks, Widened, LeadsTo, ClosesCircle};
+ghost use Rattle.ties.specs.TieArrays.{inUse, meets, hasSlot, groupOf, under, HasNumbered, AddsNumbered, Marks, Widened, LeadsTo, ClosesCircle};
 ghost use Rattle.ties.specs.TieEdits.{AddedUp, TakenUp, AddedValue, TakenValue, SlotGiven};
 
 fn wide(s: u64) -> usize
@@ -127,7 +127,7 @@ fn joins(ups: &[u64], slots: &[u64], m: u64, e: usize, q: usize) -> bool
 // The mask with slot q, if that has a number.
 fn with_numbered(mask: u64, slots: &[u64], q: usize) -> u64
     requires { ⌜ (length (now slots) ≡ groupLimit) × (q < groupLimit) ⌝ }
-    ensures { λ r. ⌜ Numbered (now (slots .entry)) mask q r ⌝ }
+    ensures { λ r. ⌜ AddsNumbered (now (slots .entry)) mask q r ⌝ }
 {
     if holder_at(slots, q) == 0 {
         return mask;

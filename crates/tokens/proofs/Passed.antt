@@ -7,7 +7,7 @@ use mathlib.Core.Option.{Option, none, some, Option·some-injective}
 use native.Mathlib.Omega.{arith}
 use lib.ListN.{length, set, take, drop, length-append, length-set, drop-of-length-le}
 use lib.Seq.{length-take-le, drop-drop, append-snoc, set-split, drop-set-lt}
-use Rattle.model.specs.Notation.{_>>=_, isNone, any, each}
+use Rattle.model.specs.Notation.{_>>=_, isNone, anyOf, each}
 use Rattle.model.specs.Bytes.{Bytes}
 use Rattle.model.specs.Tokens.{Token, str, wordByte, tokensWithin, tokensOf}
 use Rattle.model.specs.Declarations.{Declarations}
@@ -30,7 +30,7 @@ module _ {A : Type 0} where
   each-append f [] ys = refl
   each-append {B} f (x ∷ xs) ys = ap (λ (l : List B). f x ++ l) (each-append f xs ys) ∙ sym (append-assoc (f x) (each f xs) (each f ys))
 
-  any-append : (p : A → Bool) (xs : List A) (y : A) → any p (xs ++ (y ∷ [])) ≡ (any p xs || p y)
+  any-append : (p : A → Bool) (xs : List A) (y : A) → anyOf p (xs ++ (y ∷ [])) ≡ (anyOf p xs || p y)
   any-append p [] y = go (p y)
     where
       go : (t : Bool) → elim t as (λ _. Bool) [ true ↦ true | false ↦ false ] ≡ t
@@ -38,8 +38,8 @@ module _ {A : Type 0} where
       go false = refl
   any-append p (x ∷ xs) y = go (p x) (any-append p xs y)
     where
-      go : (t : Bool) → any p (xs ++ (y ∷ [])) ≡ (any p xs || p y)
-          → elim t as (λ _. Bool) [ true ↦ true | false ↦ any p (xs ++ (y ∷ [])) ] ≡ ((elim t as (λ _. Bool) [ true ↦ true | false ↦ any p xs ]) || p y)
+      go : (t : Bool) → anyOf p (xs ++ (y ∷ [])) ≡ (anyOf p xs || p y)
+          → elim t as (λ _. Bool) [ true ↦ true | false ↦ anyOf p (xs ++ (y ∷ [])) ] ≡ ((elim t as (λ _. Bool) [ true ↦ true | false ↦ anyOf p xs ]) || p y)
       go true e = refl
       go false e = e
 
@@ -55,7 +55,7 @@ pub record Passed (s : Bytes) (attributes : List ℕ) (before code : Bytes) (at 
   pub left : (n m : ℕ) → length s ≤ n → length (drop at s) ≤ m → tokensWithin n s ≡ (tokensWithin m (drop at s) >>= λ ts. some (tokens ++ ts))
   pub long : length code ≡ length before
   pub behind : drop len code ≡ drop len before
-  pub written : (D : Declarations) → WellDeclared D → AttributeRows attributes D → (take len code ≡ each (encodeToken D) tokens) × (unknown ≡ any (unknownName D) tokens)
+  pub written : (D : Declarations) → WellDeclared D → AttributeRows attributes D → (take len code ≡ each (encodeToken D) tokens) × (unknown ≡ anyOf (unknownName D) tokens)
 
 pub passed-as : {s : Bytes} {attributes : List ℕ} {before code : Bytes} {at len : ℕ} {a b : Bool} → a ≡ b
     → Passed s attributes before code at len a → Passed s attributes before code at len b
@@ -143,7 +143,7 @@ module _ {s : Bytes} {attributes : List ℕ} {before code : Bytes} {at len : ℕ
       step : (next : ℕ) (more : List Token) → t .next ≡ next → next ≤ length s → CodeRoom s next (w .len)
           → ((n m : ℕ) → length s ≤ n → length (drop next s) ≤ m → tokensWithin n s ≡ (tokensWithin m (drop next s) >>= λ ts. some (p .tokens ++ more ++ ts)))
           → ((D : Declarations) → WellDeclared D → AttributeRows attributes D
-          → (put .bytes ≡ each (encodeToken D) more) × (any (unknownName D) (p .tokens ++ more) ≡ (any (unknownName D) (p .tokens) || w .unknown)))
+          → (put .bytes ≡ each (encodeToken D) more) × (anyOf (unknownName D) (p .tokens ++ more) ≡ (anyOf (unknownName D) (p .tokens) || w .unknown)))
           → Passed s attributes before after (t .next) (w .len) (unknown || w .unknown)
       step next more n h r left known =
           let f = r .few in
@@ -184,7 +184,7 @@ module _ {s : Bytes} {attributes : List ℕ} {before code : Bytes} {at len : ℕ
               (λ n m i j. p .left n (length (drop at s)) i (omega arith) ∙ ap (λ (o : Option (List Token)). o >>= λ ts. some (p .tokens ++ ts)) (f (length (drop at s)) (omega arith))
               ∙ ap {B = Option (List Token)} (λ (l : List Token). some (l ++ [])) (sym (append-nil (p .tokens)))
               ∙ ap (λ (o : Option (List Token)). o >>= λ ts. some (p .tokens ++ [] ++ ts)) (sym (ap (tokensWithin m) nil ∙ within-nil m)))
-              (λ D ord ar. (b, ap (any (unknownName D)) (append-nil (p .tokens)) ∙ or-false (any (unknownName D) (p .tokens)) ∙ ap (λ (x : Bool). any (unknownName D) (p .tokens) || x) (sym v)))
+              (λ D ord ar. (b, ap (anyOf (unknownName D)) (append-nil (p .tokens)) ∙ or-false (anyOf (unknownName D) (p .tokens)) ∙ ap (λ (x : Bool). anyOf (unknownName D) (p .tokens) || x) (sym v)))
           go (refused e f) = absurd (good (ap (λ (v : Placed). v .code .kind) (here ∙ e)))
           go (read u next r) =
               let st = stands t u next here r in
@@ -196,7 +196,7 @@ module _ {s : Bytes} {attributes : List ℕ} {before code : Bytes} {at len : ℕ
               ∙ bind-more u (tokensWithin m (drop next s)))
               (λ D ord ar.
               let (x, y) = put .token D ord ar u st in
-              (x ∙ sym (append-nil (encodeToken D u)), any-append (unknownName D) (p .tokens) u ∙ ap (λ (v : Bool). any (unknownName D) (p .tokens) || v) (sym y)))
+              (x ∙ sym (append-nil (encodeToken D u)), any-append (unknownName D) (p .tokens) u ∙ ap (λ (v : Bool). anyOf (unknownName D) (p .tokens) || v) (sym y)))
 
   -- at the end, the byte that ends the code
   pub passed-all : 3 * length s + 3 ≤ length before → length s ≤ at → Encodes s attributes before (set code len 0) (record { bad = false; unknown = unknown; len = len + 1 })

@@ -7,7 +7,7 @@ use mathlib.Core.Option.{Option, none, some}
 use native.Mathlib.Omega.{arith}
 use borrow.Author.Tests.{leb-true}
 use lib.ListN.{length, take, drop}
-use Rattle.model.specs.Notation.{all, any, isNone}
+use Rattle.model.specs.Notation.{allOf, anyOf, isNone}
 use Rattle.model.specs.Limits.{largestInt}
 use Rattle.model.specs.Bytes.{Bytes}
 use Rattle.model.specs.Tokens.{Token, name, int, str, truth, operator, mark, isToken}
@@ -21,10 +21,10 @@ use Rattle.tokens.specs.RuleCode.{unknownNumber, ruleCode, Coded, size}
 use Rattle.tokens.proofs.RuleCode.{coded-end, coded-front, name-number, int-value, str-length, str-text}
 
 -- none of some tokens passes: neither the first nor the others
-any-parts : {A : Type 0} (p : A → Bool) (x : A) (xs : List A) → any p (x ∷ xs) ≡ false → (p x ≡ false) × (any p xs ≡ false)
+any-parts : {A : Type 0} (p : A → Bool) (x : A) (xs : List A) → anyOf p (x ∷ xs) ≡ false → (p x ≡ false) × (anyOf p xs ≡ false)
 any-parts p x xs e = go (p x) e
   where
-    go : (t : Bool) → elim t as (λ _. Bool) [ true ↦ true | false ↦ any p xs ] ≡ false → (t ≡ false) × (any p xs ≡ false)
+    go : (t : Bool) → elim t as (λ _. Bool) [ true ↦ true | false ↦ anyOf p xs ] ≡ false → (t ≡ false) × (anyOf p xs ≡ false)
     go true f = absurd (true≢false f)
     go false f = (refl, f)
 
@@ -59,8 +59,8 @@ module _ (D : Declarations) (code : Bytes) (at : ℕ) (ts us : List Token) where
 
 -- tokens in order, of declared names
 pub record Known (D : Declarations) (ts : List Token) : Type 0 where
-  pub well : all isToken ts ≡ true
-  pub declared : any (unknownName D) ts ≡ false
+  pub well : allOf isToken ts ≡ true
+  pub declared : anyOf (unknownName D) ts ≡ false
 
 pub coded-unique : (D : Declarations) (code : Bytes) (at : ℕ) (ts us : List Token) → Known D ts → Known D us → Coded D code at ts → Coded D code at us → ts ≡ us
 coded-unique D code at [] [] k l c d = refl

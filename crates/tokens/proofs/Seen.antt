@@ -8,7 +8,7 @@ use native.Mathlib.Omega.{arith}
 use native.Mathlib.Decide.{decLt}
 use lib.ListN.{length, take, drop, length-append, length-drop}
 use lib.Seq.{drop-drop, drop-at, take-at}
-use Rattle.model.specs.Notation.{_>>=_, isEmpty, all}
+use Rattle.model.specs.Notation.{_>>=_, isEmpty, allOf}
 use Rattle.model.specs.Bytes.{Bytes, isByte}
 use Rattle.model.specs.Tokens.{Token, str, Read, wordByte, readToken, tokensWithin, tokensOf, isToken}
 use Rattle.model.proofs.Options.{bound, condition}
@@ -206,18 +206,18 @@ seen s at = go (unspaced (drop at s)) refl
     go (x ∷ u) e = token x u e (readToken (x ∷ u)) refl
 
 -- the tokens of a policy are in order
-within-well : (n : ℕ) (s : Bytes) (ts : List Token) → tokensWithin n s ≡ some ts → all isToken ts ≡ true
-within-well zero s ts e = let z : [] ≡ ts = condition {t = isEmpty s} e .1 in ap (all isToken) (sym z)
-within-well (suc n) [] ts e = ap (all isToken) (sym (Option·some-injective _ _ e))
+within-well : (n : ℕ) (s : Bytes) (ts : List Token) → tokensWithin n s ≡ some ts → allOf isToken ts ≡ true
+within-well zero s ts e = let z : [] ≡ ts = condition {t = isEmpty s} e .1 in ap (allOf isToken) (sym z)
+within-well (suc n) [] ts e = ap (allOf isToken) (sym (Option·some-injective _ _ e))
 within-well (suc n) (x ∷ s) ts e = go (isByte " " x) e (within-well n)
   where
     go : (b : Bool) → elim b as (λ _. Option (List Token)) [ true ↦ tokensWithin n s | false ↦ others n (readToken (x ∷ s)) ] ≡ some ts
-        → ((r : Bytes) (us : List Token) → tokensWithin n r ≡ some us → all isToken us ≡ true) → all isToken ts ≡ true
+        → ((r : Bytes) (us : List Token) → tokensWithin n r ≡ some us → allOf isToken us ≡ true) → allOf isToken ts ≡ true
     go true f more = more s ts f
     go false f more =
         bound {o = readToken (x ∷ s)} f λ p g h. bound {o = tokensWithin n (p .1)} h λ us i j.
-        ap (all isToken) (sym (Option·some-injective _ _ j)) ∙ all-cons isToken (p .0) us (taken (x ∷ s) {t = p .0} {rest = p .1} g .well) (more (p .1) us i)
+        ap (allOf isToken) (sym (Option·some-injective _ _ j)) ∙ all-cons isToken (p .0) us (taken (x ∷ s) {t = p .0} {rest = p .1} g .well) (more (p .1) us i)
 
-pub tokens-well : (s : Bytes) (ts : List Token) → tokensOf s ≡ some ts → all isToken ts ≡ true
+pub tokens-well : (s : Bytes) (ts : List Token) → tokensOf s ≡ some ts → allOf isToken ts ≡ true
 unfolding tokensOf
 tokens-well s ts e = within-well (length s) s ts e

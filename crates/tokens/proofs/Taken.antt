@@ -9,7 +9,7 @@ use borrow.Author.Tests.{leb-true, le-leb}
 use lib.ListN.{length, length-append, take-append-drop}
 use lib.Seq.{length-take-le}
 use lib.Dec.{leb, eqb}
-use Rattle.model.specs.Notation.{_>>=_, _or-else_, isEmpty, all}
+use Rattle.model.specs.Notation.{_>>=_, _or-else_, isEmpty, allOf}
 use Rattle.model.specs.Limits.{largestInt}
 use Rattle.model.specs.Bytes.{Bytes, bytes, cutAt, behind, oneOf}
 use Rattle.model.specs.Names.{readName}
@@ -61,7 +61,7 @@ no-str t e u f = true≢false (sym e ∙ ap (λ (v : Token). not (eqb (kindOf v)
 abbrev sign : Token → Bool
 sign t = isToken t && (leb (size t) 1 && leb 1 (length (spelling t)))
 
-sign-taken : (table : List Token) (s : Bytes) {t : Token} {rest : Bytes} → all sign table ≡ true → readSign table s ≡ some (t, rest) → Taken s t rest
+sign-taken : (table : List Token) (s : Bytes) {t : Token} {rest : Bytes} → allOf sign table ≡ true → readSign table s ≡ some (t, rest) → Taken s t rest
 sign-taken [] s h e = none-is-some e
 sign-taken (u ∷ table) s {t} {rest} h e =
     let (a, b) = all-parts sign u table h in

@@ -8,7 +8,7 @@ use native.Mathlib.Omega.{arith}
 use borrow.Author.Tests.{eqb-true}
 use lib.ListN.{length, take, drop}
 use lib.Dec.{eqb}
-use Rattle.model.specs.Notation.{_>>=_, _or-else_, all}
+use Rattle.model.specs.Notation.{_>>=_, _or-else_, allOf}
 use Rattle.model.specs.Bytes.{Bytes, oneOf, same}
 use Rattle.model.specs.Names.{isName, readName}
 use Rattle.model.specs.Attributes.{Source, readSource, user, object, admin, env, connect}
@@ -26,7 +26,7 @@ use Rattle.text.specs.Packing.{packedOf}
 use Rattle.tokens.specs.TokenAt.{codeWith, plainCode, sourceIn, lowIn, highIn, codeOf, codedToken, capitalKind}
 
 -- what is read among the words of a table passes what all of the table pass
-pub one-of-all : {A : Type 0} (word : A → Bytes) (p : A → Bool) (table : List A) (s : Bytes) (a : A) → all p table ≡ true → oneOf word table s ≡ some a → p a ≡ true
+pub one-of-all : {A : Type 0} (word : A → Bytes) (p : A → Bool) (table : List A) (s : Bytes) (a : A) → allOf p table ≡ true → oneOf word table s ≡ some a → p a ≡ true
 one-of-all word p [] s a h e = none-is-some e
 one-of-all {A} word p (b ∷ rest) s a h e = let (i, j) = all-parts p b rest h in go (same (word b) s) i e (one-of-all word p rest s a j)
   where

@@ -4,7 +4,7 @@ use mathlib.Core.Path.{_≡_}
 use mathlib.Core.List.{List, [], _∷_, _++_}
 use mathlib.Core.Option.{some}
 use lib.ListN.{length, drop}
-use Rattle.model.specs.Notation.{isNone, any, each}
+use Rattle.model.specs.Notation.{isNone, anyOf, each}
 use Rattle.model.specs.Bytes.{Bytes}
 use Rattle.model.specs.Tokens.{Token, name, int, str, truth, operator, mark, tokensOf}
 use Rattle.model.specs.Declarations.{Declarations, attributeNumber}
@@ -56,7 +56,7 @@ size (mark m) = 1
 pub record CodeOf (D : Declarations) (ts : List Token) (before after : Bytes) (r : Encoded) : Type 0 where
   pub code : after ≡ ruleCode D ts ++ drop (length (ruleCode D ts)) before
   pub len : r .len ≡ length (ruleCode D ts)
-  pub unknown : r .unknown ≡ any (unknownName D) ts
+  pub unknown : r .unknown ≡ anyOf (unknownName D) ts
 
 -- r is what is found in the policy s; where it has tokens, their code is written, whatever declarations the rows are those of
 pub record Encodes (s : Bytes) (attributes : List ℕ) (before after : Bytes) (r : Encoded) : Type 0 where

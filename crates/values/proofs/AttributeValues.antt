@@ -7,7 +7,7 @@ use mathlib.Core.List.{List, _∷_}
 use lib.Dec.{eqb}
 use lib.ListN.{length, getD, take, drop, length-take, length-drop}
 use lib.Seq.{drop-cons}
-use borrow.Author.Tests.{eq-eqb, ne-eqb, lt-ltb, le-ltb}
+use borrow.Author.Tests.{eq-eqb, ne-eqb, lt-ltb, le-ltb, le-leb, lt-leb}
 use Rattle.model.specs.Notation.{if_then_else_}
 use Rattle.model.specs.Bytes.{Bytes}
 use Rattle.model.specs.Block.{number, byteAt, valueAt}
@@ -18,7 +18,7 @@ use Rattle.text.specs.declared.Words.{Words}
 use Rattle.text.specs.Values.{words, truthBit}
 use Rattle.values.specs.declared.Found.{Found}
 use Rattle.values.specs.declared.Operand.{Operand}
-use Rattle.values.specs.Operands.{Lent, constantsFrom, valuesFrom, chosen, First, Finds, found, nothing, pairWords, wordsFrom, entryWords, entriesFrom}
+use Rattle.values.specs.Operands.{Lent, constantsFrom, valuesFrom, firstOf, operandValues, chosen, First, Finds, found, nothing, pairWords, wordsFrom, entryWords, entriesFrom}
 use Rattle.values.proofs.Chosen.{finds-none, finds-by, finds-next, finds-end}
 
 -- four bytes, low byte first
@@ -100,17 +100,40 @@ module _ (entries : Bytes) (kind k i j : ℕ) (first : First (λ n. eqb (byteAt 
 
 -- ---- an operand's place
 
-module _ (L : Lent) (o : Operand) (i : ℕ) (r : Found) where
-  pub in-session : o .place ≡ 0 → Finds (wordsFrom (L .pairs) (L .session) (o .start)) i r → Finds (valuesFrom L o) i r
+module _ (L : Lent) (o : Operand) where
+  -- its values from each position on
+  session-from : o .place ≡ 0 → (j : ℕ) → valuesFrom L o j ≡ wordsFrom (L .pairs) (L .session) (o .start) j
   unfolding valuesFrom
-  in-session e = finds-by (valuesFrom L o) (wordsFrom (L .pairs) (L .session) (o .start)) (λ j. rw (eq-eqb (o .place) 0 e)) i r
+  session-from e j = rw (eq-eqb (o .place) 0 e)
 
-  pub in-block : o .place ≡ 1 → Finds (entriesFrom (L .entries) (o .kind) (o .start)) i r → Finds (valuesFrom L o) i r
+  block-from : o .place ≡ 1 → (j : ℕ) → valuesFrom L o j ≡ entriesFrom (L .entries) (o .kind) (o .start) j
   unfolding valuesFrom
-  in-block e =
-      let n : o .place ≡ 0 → ⊥ = λ z. omega arith in
-      finds-by (valuesFrom L o) (entriesFrom (L .entries) (o .kind) (o .start)) (λ j. rw (ne-eqb (o .place) 0 n, eq-eqb (o .place) 1 e)) i r
+  block-from e j = let n : o .place ≡ 0 → ⊥ = λ z. omega arith in rw (ne-eqb (o .place) 0 n, eq-eqb (o .place) 1 e)
 
-  pub in-code : (o .place ≡ 0 → ⊥) → (o .place ≡ 1 → ⊥) → Finds (constantsFrom (o .kind) (L .code) (o .end)) i r → Finds (valuesFrom L o) i r
+  code-from : (o .place ≡ 0 → ⊥) → (o .place ≡ 1 → ⊥) → (j : ℕ) → valuesFrom L o j ≡ constantsFrom (o .kind) (L .code) (o .end) j
   unfolding valuesFrom
-  in-code n m = finds-by (valuesFrom L o) (constantsFrom (o .kind) (L .code) (o .end)) (λ j. rw (ne-eqb (o .place) 0 n, ne-eqb (o .place) 1 m)) i r
+  code-from n m j = rw (ne-eqb (o .place) 0 n, ne-eqb (o .place) 1 m)
+
+  -- and all of them
+  pub session-values : o .place ≡ 0 → wordsFrom (L .pairs) (L .session) (o .start) 0 ≡ operandValues L o
+  unfolding firstOf
+  session-values e = sym (rw (le-leb (o .place) 1 (omega arith)) (session-from e 0))
+
+  pub block-values : o .place ≡ 1 → entriesFrom (L .entries) (o .kind) (o .start) 0 ≡ operandValues L o
+  unfolding firstOf
+  block-values e = sym (rw (le-leb (o .place) 1 (omega arith)) (block-from e 0))
+
+  pub code-values : (o .place ≡ 0 → ⊥) → (o .place ≡ 1 → ⊥) → constantsFrom (o .kind) (L .code) (o .end) (o .start) ≡ operandValues L o
+  unfolding firstOf
+  code-values n m = sym (rw (lt-leb (o .place) 1 (omega arith)) (code-from n m (o .start)))
+
+  -- the first of them, from a position on
+  module _ (i : ℕ) (r : Found) where
+    pub in-session : o .place ≡ 0 → Finds (wordsFrom (L .pairs) (L .session) (o .start)) i r → Finds (valuesFrom L o) i r
+    in-session e = finds-by (valuesFrom L o) (wordsFrom (L .pairs) (L .session) (o .start)) (session-from e) i r
+
+    pub in-block : o .place ≡ 1 → Finds (entriesFrom (L .entries) (o .kind) (o .start)) i r → Finds (valuesFrom L o) i r
+    in-block e = finds-by (valuesFrom L o) (entriesFrom (L .entries) (o .kind) (o .start)) (block-from e) i r
+
+    pub in-code : (o .place ≡ 0 → ⊥) → (o .place ≡ 1 → ⊥) → Finds (constantsFrom (o .kind) (L .code) (o .end)) i r → Finds (valuesFrom L o) i r
+    in-code n m = finds-by (valuesFrom L o) (constantsFrom (o .kind) (L .code) (o .end)) (code-from n m) i r

@@ -1,5 +1,5 @@
 -- A comparison of values is the one of the atoms that they stand for. Assumes nothing.
-use Prim.Native.Nat.{ℕ, suc, _≤_, _<_}
+use Prim.Native.Nat.{ℕ, _≤_, _<_}
 use mathlib.Core.Path.{_≡_, refl, sym, ap, ap₂, subst, _∙_}
 use mathlib.Core.Logic.{_⊎_, inl, inr}
 use mathlib.Core.Bool.{Bool, true, false, not, _&&_, and-false, Bool·beq}
@@ -7,8 +7,8 @@ use mathlib.Core.List.{List, [], _∷_, List·Memᴰ·head as here}
 use native.Mathlib.Omega.{arith}
 use native.Mathlib.Decide.{decLt}
 use lib.Dec.{eqb, leb, ltb}
-use borrow.Author.Tests.{eq-eqb, ne-eqb, eqb-true, eqb-false, le-leb, lt-leb}
-use Rattle.model.specs.Notation.{if_then_else_, any, map, isEmpty}
+use borrow.Author.Tests.{eq-eqb, ne-eqb, eqb-true, eqb-false}
+use Rattle.model.specs.Notation.{if_then_else_, anyOf, map, isEmpty}
 use Rattle.model.specs.Attributes.{sameType}
 use Rattle.model.specs.Atoms.{Atom, int, str, bool, typeOf, isAtom}
 use Rattle.model.specs.Truth as model
@@ -16,6 +16,8 @@ use Rattle.model.specs.Truth.{truth, NOT}
 use Rattle.model.specs.Tokens.{Operator}
 use Rattle.model.specs.Comparison.{ordered, order, compareLike, compareSets, loneValue}
 use Rattle.codes.specs.Codes.{typeCode, operatorCode}
+use Rattle.codes.proofs.Codes.{operator-injective}
+use Rattle.codes.proofs.TokenKinds.{operator-range}
 use Rattle.truth.specs.declared.Truth.{Truth}
 use Rattle.truth.specs.declared.Truth.the-variants.{Undef}
 use Rattle.truth.specs.Truths.{truthOf}
@@ -23,46 +25,28 @@ use Rattle.text.specs.declared.Words.{Words}
 use Rattle.text.specs.Values.{words, sameWords, atomWords}
 use Rattle.values.specs.declared.Operand.{Operand}
 use Rattle.values.specs.Operands.{Lent, operandValues, Stands}
-use Rattle.values.specs.Compared.{amongValues, someFound, greatestOf, leastOf, leastBelowGreatest, orNext, soughtFrom, amongOf, asked, foundOf, ofPresent}
-use Rattle.values.specs.Compared.{toldBy, orEqual, orderOf, likeValues, compareValues, loneOf, Compared, Lone}
+use Rattle.values.specs.Compared.{greatestOf, leastOf, leastBelowGreatest, orNext, soughtFrom, amongOf, asked, foundOf, ofPresent, orderOf, belowOf, Compared, Lone}
 use Rattle.values.proofs.Orders.{below-so, not-above-so}
-use Rattle.values.proofs.ComparedAtoms.{all-in, int-small, Typed, among-atoms, common-atoms, subset-atoms, before-atoms, after-atoms}
+use Rattle.values.proofs.ComparedAtoms.{amongValues, someFound, all-in, int-small, Typed, among-atoms, common-atoms, subset-atoms, before-atoms, after-atoms}
 
--- the ways through the tests of an operator's number
-module _ (n k : ℕ) (l r : List Words) where
-  like-equality : 16 ≤ n → n ≤ 18 → likeValues n k l r ≡ toldBy n (truth (someFound true l r))
-  unfolding likeValues
-  like-equality h m = simp (le-leb 16 n h, le-leb n 18 m)
+-- what an operator says of present values of one type
+unfoldable likeValues : Operator → ℕ → List Words → List Words → model.Truth
+likeValues Operator.equal kind l r = truth (someFound true l r)
+likeValues Operator.IN kind l r = truth (someFound true l r)
+likeValues Operator.unequal kind l r = NOT (truth (someFound true l r))
+likeValues Operator.SUBSET kind l r = NOT (truth (someFound false l r))
+likeValues Operator.less kind l r = orderOf kind false l r
+likeValues Operator.atMost kind l r = orderOf kind true l r
+likeValues Operator.greater kind l r = orderOf kind false r l
+likeValues Operator.atLeast kind l r = orderOf kind true r l
 
-  like-subset : 19 ≤ n → n ≤ 19 → likeValues n k l r ≡ toldBy n (truth (someFound false l r))
-  unfolding likeValues
-  like-subset h m =
-      let a : 16 ≤ n = omega arith in
-      let b : 18 < n = omega arith in
-      simp (le-leb 16 n a, lt-leb n 18 b, le-leb 19 n h, le-leb n 19 m)
+-- and of any values
+unfoldable compareValues : Operator → ℕ → ℕ → List Words → List Words → model.Truth
+compareValues o kind kind′ l r = if eqb kind kind′ then ofPresent l r (likeValues o kind l r) else model.UNDEF
 
-  -- none of the ranges before
-  behind-subset : 19 < n → likeValues n k l r ≡ (if (leb 20 n && leb n 23) then (if eqb k 1 then truth (orderOf n l r) else model.UNDEF) else model.UNDEF)
-  unfolding likeValues
-  behind-subset h =
-      let a : 16 ≤ n = omega arith in
-      let b : 18 < n = omega arith in
-      let d : 19 ≤ n = omega arith in
-      simp (le-leb 16 n a, lt-leb n 18 b, le-leb 19 n d, lt-leb n 19 h)
-
-  like-order : 20 ≤ n → n ≤ 23 → likeValues n k l r ≡ (if eqb k 1 then truth (orderOf n l r) else model.UNDEF)
-  like-order h m = let a : 19 < n = omega arith in behind-subset a ∙ simp (le-leb 20 n h, le-leb n 23 m)
-
-  like-none : (n < 16) ⊎ (23 < n) → likeValues n k l r ≡ model.UNDEF
-  unfolding likeValues
-  like-none (inl h) =
-      let a : n < 19 = omega arith in
-      let b : n < 20 = omega arith in
-      simp (lt-leb 16 n h, lt-leb 19 n a, lt-leb 20 n b)
-  like-none (inr h) =
-      let a : 19 < n = omega arith in
-      let b : 20 ≤ n = omega arith in
-      behind-subset a ∙ simp (le-leb 20 n b, lt-leb n 23 h)
+-- what a lone attribute with these values comes to
+unfoldable loneOf : ℕ → List Words → model.Truth
+loneOf kind values = if (eqb kind 3 && not (isEmpty values)) then truth (amongValues values (words 1 0 0)) else model.UNDEF
 
 -- what is said of two operands that have values, by the test for them
 undef-either : (b : Bool) → (if b then model.UNDEF else model.UNDEF) ≡ model.UNDEF
@@ -93,17 +77,13 @@ never : (l r : List Words) → ofPresent l r model.UNDEF ≡ model.UNDEF
 unfolding ofPresent
 never l r = undef-either (not (isEmpty l) && not (isEmpty r))
 
-told-inside : (n : ℕ) (l r : List Words) (t : model.Truth) → toldBy n (ofPresent l r t) ≡ ofPresent l r (toldBy n t)
+not-inside : (l r : List Words) (t : model.Truth) → NOT (ofPresent l r t) ≡ ofPresent l r (NOT t)
 unfolding ofPresent
-told-inside n l r t = go (not (isEmpty l) && not (isEmpty r))
+not-inside l r t = go (not (isEmpty l) && not (isEmpty r))
   where
-    go : (b : Bool) → toldBy n (if b then t else model.UNDEF) ≡ (if b then toldBy n t else model.UNDEF)
+    go : (b : Bool) → NOT (if b then t else model.UNDEF) ≡ (if b then NOT t else model.UNDEF)
     go true = refl
-    go false = undef-either (leb n 17)
-
-test-inside : (b : Bool) (l r : List Words) (t : model.Truth) → (if b then ofPresent l r t else model.UNDEF) ≡ ofPresent l r (if b then t else model.UNDEF)
-test-inside true l r t = refl
-test-inside false l r t = sym (never l r)
+    go false = refl
 
 -- by what was found out of each side
 module _ (l r : List Words) (t : model.Truth) (a : Bool) (ea : a ≡ not (isEmpty l)) where
@@ -123,32 +103,32 @@ module _ (l r : List Words) (t : model.Truth) (a : Bool) (ea : a ≡ not (isEmpt
     with-both tb = sym (tested-both ∙ ap (λ (x : Bool). if x then t else model.UNDEF) tb)
 
 -- the ways through the tests before it
-module _ (n k k′ : ℕ) (l r : List Words) where
-  unlike : (k ≡ k′ → ⊥) → compareValues n k k′ l r ≡ model.UNDEF
+module _ (o : Operator) (k k′ : ℕ) (l r : List Words) where
+  unlike : (k ≡ k′ → ⊥) → compareValues o k k′ l r ≡ model.UNDEF
   unfolding compareValues
   unlike h = simp (ne-eqb k k′ h)
 
-  alike : k ≡ k′ → compareValues n k k′ l r ≡ ofPresent l r (likeValues n k l r)
+  alike : k ≡ k′ → compareValues o k k′ l r ≡ ofPresent l r (likeValues o k l r)
   unfolding compareValues
   alike e = simp (eq-eqb k k′ e)
 
   -- whatever the types
-  empty : ofPresent l r (likeValues n k l r) ≡ model.UNDEF → compareValues n k k′ l r ≡ model.UNDEF
+  empty : ofPresent l r (likeValues o k l r) ≡ model.UNDEF → compareValues o k k′ l r ≡ model.UNDEF
   unfolding compareValues
   empty h = ap (λ (t : model.Truth). if eqb k k′ then t else model.UNDEF) h ∙ undef-either (eqb k k′)
 
 -- searches: what they say of values that are there
 module _ (answer : Words → model.Truth) (p : Words → Bool) (so : (w : Words) → answer w ≡ truth (p w)) where
-  sought-all : (l : List Words) → soughtFrom answer true l ≡ truth (any p l)
+  sought-all : (l : List Words) → soughtFrom answer true l ≡ truth (anyOf p l)
   unfolding soughtFrom
   sought-all [] = refl
   sought-all (w ∷ l) = ap₂ orNext (so w) (sought-all l) ∙ go (p w)
     where
-      go : (b : Bool) → orNext (truth b) (truth (any p l)) ≡ truth (elim b as (λ _. Bool) [ true ↦ true | false ↦ any p l ])
+      go : (b : Bool) → orNext (truth b) (truth (anyOf p l)) ≡ truth (elim b as (λ _. Bool) [ true ↦ true | false ↦ anyOf p l ])
       go true = refl
       go false = refl
 
-  sought-so : (l : List Words) → soughtFrom answer false l ≡ (if not (isEmpty l) then truth (any p l) else model.UNDEF)
+  sought-so : (l : List Words) → soughtFrom answer false l ≡ (if not (isEmpty l) then truth (anyOf p l) else model.UNDEF)
   unfolding soughtFrom
   sought-so [] = refl
   sought-so (w ∷ l) = sought-all (w ∷ l)
@@ -193,22 +173,21 @@ not-truth false = refl
 
 -- present atoms of one type
 module _ (k : ℕ) (a : Atom) (l : List Atom) (b : Atom) (m : List Atom) (tl : Typed k (a ∷ l)) (tm : Typed k (b ∷ m)) where
-  order-so : (n : ℕ) (before : ℕ → ℕ → Bool)
-      → (Typed 1 (a ∷ l) → Typed 1 (b ∷ m) → orderOf n (map atomWords (a ∷ l)) (map atomWords (b ∷ m)) ≡ any (λ x. any (ordered before x) (b ∷ m)) (a ∷ l))
-      → (if eqb k 1 then truth (orderOf n (map atomWords (a ∷ l)) (map atomWords (b ∷ m))) else model.UNDEF) ≡ order before (typeOf a) (a ∷ l) (b ∷ m)
-  order-so n before f = go a refl
+  order-so : (equal : Bool) (low high : List Words) (before : ℕ → ℕ → Bool)
+      → (Typed 1 (a ∷ l) → Typed 1 (b ∷ m) → leastBelowGreatest equal low high ≡ anyOf (λ x. anyOf (ordered before x) (b ∷ m)) (a ∷ l))
+      → orderOf k equal low high ≡ order before (typeOf a) (a ∷ l) (b ∷ m)
+  unfolding orderOf
+  order-so equal low high before f = go a refl
     where
-      go : (x : Atom) → x ≡ a
-          → (if eqb k 1 then truth (orderOf n (map atomWords (a ∷ l)) (map atomWords (b ∷ m))) else model.UNDEF) ≡ order before (typeOf x) (a ∷ l) (b ∷ m)
+      kind : (x : Atom) → x ≡ a → k ≡ typeCode (typeOf x)
+      kind x p = sym (tl .kinds a (here refl)) ∙ ap (λ (y : Atom). typeCode (typeOf y)) (sym p)
+
+      go : (x : Atom) → x ≡ a → (if eqb k 1 then truth (leastBelowGreatest equal low high) else model.UNDEF) ≡ order before (typeOf x) (a ∷ l) (b ∷ m)
       go (int x) p =
-          let e : k ≡ 1 = sym (tl .kinds a (here refl)) ∙ ap (λ (y : Atom). typeCode (typeOf y)) (sym p) in
+          let e : k ≡ 1 = kind (int x) p in
           rw (eq-eqb k 1 e) (ap truth (f (subst (λ (j : ℕ). Typed j (a ∷ l)) e tl) (subst (λ (j : ℕ). Typed j (b ∷ m)) e tm)))
-      go (str x) p =
-          let e : k ≡ 2 = sym (tl .kinds a (here refl)) ∙ ap (λ (y : Atom). typeCode (typeOf y)) (sym p) in
-          rw e
-      go (bool x) p =
-          let e : k ≡ 3 = sym (tl .kinds a (here refl)) ∙ ap (λ (y : Atom). typeCode (typeOf y)) (sym p) in
-          rw e
+      go (str x) p = let e : k ≡ 2 = kind (str x) p in rw e
+      go (bool x) p = let e : k ≡ 3 = kind (bool x) p in rw e
 
   small-left : Typed 1 (a ∷ l) → atomWords a .first ≤ Rattle.model.specs.Limits.largestInt
   small-left t = int-small a (t .written a (here refl)) (t .kinds a (here refl))
@@ -216,59 +195,50 @@ module _ (k : ℕ) (a : Atom) (l : List Atom) (b : Atom) (m : List Atom) (tl : T
   small-right : Typed 1 (b ∷ m) → atomWords b .first ≤ Rattle.model.specs.Limits.largestInt
   small-right t = int-small b (t .written b (here refl)) (t .kinds b (here refl))
 
-  like-atoms : (o : Operator) → likeValues (operatorCode o) k (map atomWords (a ∷ l)) (map atomWords (b ∷ m)) ≡ compareLike o (typeOf a) (a ∷ l) (b ∷ m)
-  unfolding orderOf
-  like-atoms Operator.equal =
-      like-equality 16 k (map atomWords (a ∷ l)) (map atomWords (b ∷ m)) (omega arith) (omega arith) ∙ ap truth (common-atoms k (a ∷ l) (b ∷ m) tl tm)
-  like-atoms Operator.IN =
-      like-equality 17 k (map atomWords (a ∷ l)) (map atomWords (b ∷ m)) (omega arith) (omega arith) ∙ ap truth (common-atoms k (a ∷ l) (b ∷ m) tl tm)
-  like-atoms Operator.unequal =
-      like-equality 18 k (map atomWords (a ∷ l)) (map atomWords (b ∷ m)) (omega arith) (omega arith)
-      ∙ ap (λ (t : Bool). NOT (truth t)) (common-atoms k (a ∷ l) (b ∷ m) tl tm)
+  like-atoms : (o : Operator) → likeValues o k (map atomWords (a ∷ l)) (map atomWords (b ∷ m)) ≡ compareLike o (typeOf a) (a ∷ l) (b ∷ m)
+  unfolding likeValues
+  like-atoms Operator.equal = ap truth (common-atoms k (a ∷ l) (b ∷ m) tl tm)
+  like-atoms Operator.IN = ap truth (common-atoms k (a ∷ l) (b ∷ m) tl tm)
+  like-atoms Operator.unequal = ap (λ (t : Bool). NOT (truth t)) (common-atoms k (a ∷ l) (b ∷ m) tl tm)
   like-atoms Operator.SUBSET =
-      like-subset 19 k (map atomWords (a ∷ l)) (map atomWords (b ∷ m)) (omega arith) (omega arith)
-      ∙ not-truth (someFound false (map atomWords (a ∷ l)) (map atomWords (b ∷ m))) ∙ ap truth (subset-atoms k (a ∷ l) (b ∷ m) tl tm)
+      not-truth (someFound false (map atomWords (a ∷ l)) (map atomWords (b ∷ m))) ∙ ap truth (subset-atoms k (a ∷ l) (b ∷ m) tl tm)
   like-atoms Operator.less =
-      like-order 20 k (map atomWords (a ∷ l)) (map atomWords (b ∷ m)) (omega arith) (omega arith)
-      ∙ order-so 20 (λ x y. ltb x y) (λ u v.
+      order-so false (map atomWords (a ∷ l)) (map atomWords (b ∷ m)) (λ x y. ltb x y) (λ u v.
       below-so (atomWords a) (map atomWords l) (atomWords b) (map atomWords m) (small-left u) ∙ before-atoms (λ x y. ltb x y) (a ∷ l) (b ∷ m) u v)
   like-atoms Operator.atMost =
-      like-order 21 k (map atomWords (a ∷ l)) (map atomWords (b ∷ m)) (omega arith) (omega arith)
-      ∙ order-so 21 (λ x y. leb x y) (λ u v.
+      order-so true (map atomWords (a ∷ l)) (map atomWords (b ∷ m)) (λ x y. leb x y) (λ u v.
       not-above-so (atomWords a) (map atomWords l) (atomWords b) (map atomWords m) (small-left u) ∙ before-atoms (λ x y. leb x y) (a ∷ l) (b ∷ m) u v)
   like-atoms Operator.greater =
-      like-order 22 k (map atomWords (a ∷ l)) (map atomWords (b ∷ m)) (omega arith) (omega arith)
-      ∙ order-so 22 (λ x y. ltb y x) (λ u v.
+      order-so false (map atomWords (b ∷ m)) (map atomWords (a ∷ l)) (λ x y. ltb y x) (λ u v.
       below-so (atomWords b) (map atomWords m) (atomWords a) (map atomWords l) (small-right v)
       ∙ before-atoms (λ x y. ltb x y) (b ∷ m) (a ∷ l) v u ∙ after-atoms (λ x y. ltb x y) (a ∷ l) (b ∷ m))
   like-atoms Operator.atLeast =
-      like-order 23 k (map atomWords (a ∷ l)) (map atomWords (b ∷ m)) (omega arith) (omega arith)
-      ∙ order-so 23 (λ x y. leb y x) (λ u v.
+      order-so true (map atomWords (b ∷ m)) (map atomWords (a ∷ l)) (λ x y. leb y x) (λ u v.
       not-above-so (atomWords b) (map atomWords m) (atomWords a) (map atomWords l) (small-right v)
       ∙ before-atoms (λ x y. leb x y) (b ∷ m) (a ∷ l) v u ∙ after-atoms (λ x y. leb x y) (a ∷ l) (b ∷ m))
 
 compare-atoms : (o : Operator) (k k′ : ℕ) (l m : List Atom) → Typed k l → Typed k′ m
-    → compareValues (operatorCode o) k k′ (map atomWords l) (map atomWords m) ≡ compareSets o l m
+    → compareValues o k k′ (map atomWords l) (map atomWords m) ≡ compareSets o l m
 unfolding compareSets
 compare-atoms o k k′ [] m tl tm =
-    empty (operatorCode o) k k′ [] (map atomWords m) (absent-left (map atomWords m) (likeValues (operatorCode o) k [] (map atomWords m)))
+    empty o k k′ [] (map atomWords m) (absent-left (map atomWords m) (likeValues o k [] (map atomWords m)))
 compare-atoms o k k′ (a ∷ l) [] tl tm =
-    empty (operatorCode o) k k′ (map atomWords (a ∷ l)) [] (absent-right (map atomWords (a ∷ l)) (likeValues (operatorCode o) k (map atomWords (a ∷ l)) []))
+    empty o k k′ (map atomWords (a ∷ l)) [] (absent-right (map atomWords (a ∷ l)) (likeValues o k (map atomWords (a ∷ l)) []))
 compare-atoms o k k′ (a ∷ l) (b ∷ m) tl tm = go (eqb k k′) refl
   where
     kinds : sameType (typeOf a) (typeOf b) ≡ eqb k k′
     kinds = same-kind a b ∙ ap₂ eqb (tl .kinds a (here refl)) (tm .kinds b (here refl))
 
-    go : (t : Bool) → eqb k k′ ≡ t → compareValues (operatorCode o) k k′ (map atomWords (a ∷ l)) (map atomWords (b ∷ m))
+    go : (t : Bool) → eqb k k′ ≡ t → compareValues o k k′ (map atomWords (a ∷ l)) (map atomWords (b ∷ m))
         ≡ (elim (sameType (typeOf a) (typeOf b)) as (λ _. model.Truth) [ true ↦ compareLike o (typeOf a) (a ∷ l) (b ∷ m) | false ↦ model.UNDEF ])
     go true e =
         let same : k ≡ k′ = eqb-true k k′ e in
-        alike (operatorCode o) k k′ (map atomWords (a ∷ l)) (map atomWords (b ∷ m)) same
-        ∙ both-there (atomWords a) (map atomWords l) (atomWords b) (map atomWords m) (likeValues (operatorCode o) k (map atomWords (a ∷ l)) (map atomWords (b ∷ m)))
+        alike o k k′ (map atomWords (a ∷ l)) (map atomWords (b ∷ m)) same
+        ∙ both-there (atomWords a) (map atomWords l) (atomWords b) (map atomWords m) (likeValues o k (map atomWords (a ∷ l)) (map atomWords (b ∷ m)))
         ∙ like-atoms k a l b m tl (record { kinds = λ x p. tm .kinds x p ∙ sym same; written = tm .written }) o
         ∙ ap (λ (t : Bool). elim t as (λ _. model.Truth) [ true ↦ compareLike o (typeOf a) (a ∷ l) (b ∷ m) | false ↦ model.UNDEF ]) (sym (kinds ∙ e))
     go false e =
-        unlike (operatorCode o) k k′ (map atomWords (a ∷ l)) (map atomWords (b ∷ m)) (eqb-false k k′ e)
+        unlike o k k′ (map atomWords (a ∷ l)) (map atomWords (b ∷ m)) (eqb-false k k′ e)
         ∙ ap (λ (t : Bool). elim t as (λ _. model.Truth) [ true ↦ compareLike o (typeOf a) (a ∷ l) (b ∷ m) | false ↦ model.UNDEF ]) (sym (kinds ∙ e))
 
 -- the atoms that an operand stands for have its type
@@ -279,75 +249,88 @@ stands-typed L o {l} s =
       written = λ a p. all-in isAtom (s .written) p;
     }
 
--- a number of no operator is below theirs or above
-no-number : (n : ℕ) → ((o : Operator) → n ≡ operatorCode o → ⊥) → (n < 16) ⊎ (23 < n)
-no-number n f = go (decLt n 16)
-  where
-    next : (k : ℕ) → k ≤ n → (n ≡ k → ⊥) → suc k ≤ n
-    next k h d = omega arith
-
-    go : Dec (n < 16) → (n < 16) ⊎ (23 < n)
-    go (yes h) = inl h
-    go (no h) =
-        inr (next 23 (next 22 (next 21 (next 20 (next 19 (next 18 (next 17 (next 16 (omega arith) (f Operator.equal)) (f Operator.IN))
-        (f Operator.unequal)) (f Operator.SUBSET)) (f Operator.less)) (f Operator.atMost)) (f Operator.greater)) (f Operator.atLeast))
-
-module _ (L : Lent) (n : ℕ) (left right : Operand) (r : Truth) where
-  compared : truthOf r ≡ compareValues n (left .kind) (right .kind) (operandValues L left) (operandValues L right) → Compared L n left right r
-  unfolding compareValues
-  compared e =
-      record {
-        by-operator = λ o l m f s t.
-            e ∙ ap (λ (i : ℕ). compareValues i (left .kind) (right .kind) (operandValues L left) (operandValues L right)) f
-            ∙ ap₂ (compareValues (operatorCode o) (left .kind) (right .kind)) (s .coded) (t .coded)
-            ∙ compare-atoms o (left .kind) (right .kind) l m (stands-typed L left s) (stands-typed L right t);
-        by-none = λ f. e ∙ none f;
-      }
-    where
-      none : ((o : Operator) → n ≡ operatorCode o → ⊥) → compareValues n (left .kind) (right .kind) (operandValues L left) (operandValues L right) ≡ model.UNDEF
-      none f =
-          empty n (left .kind) (right .kind) (operandValues L left) (operandValues L right)
-          (ap (ofPresent (operandValues L left) (operandValues L right)) (like-none n (left .kind) (operandValues L left) (operandValues L right) (no-number n f))
-          ∙ never (operandValues L left) (operandValues L right))
-
 -- the ways of a comparison: what was found out of two operands, and the answer
 module _ (L : Lent) (n : ℕ) (left right : Operand) where
+  -- the comparison by an operator, whose number it is
+  compared : (x : Operator) → n ≡ operatorCode x → (r : Truth)
+      → truthOf r ≡ compareValues x (left .kind) (right .kind) (operandValues L left) (operandValues L right) → Compared L n left right r
+  compared x e r f =
+      record {
+        by-operator = λ o l m d s t.
+            f ∙ ap (λ (y : Operator). compareValues y (left .kind) (right .kind) (operandValues L left) (operandValues L right)) (operator-injective x o (sym e ∙ d))
+            ∙ ap₂ (compareValues o (left .kind) (right .kind)) (s .coded) (t .coded)
+            ∙ compare-atoms o (left .kind) (right .kind) l m (stands-typed L left s) (stands-typed L right t);
+        by-none = λ g. absurd (g x e);
+      }
+
   pub types-differ : (left .kind ≡ right .kind → ⊥) → Compared L n left right Undef
-  types-differ h = compared L n left right Undef (sym (unlike n (left .kind) (right .kind) (operandValues L left) (operandValues L right) h))
+  types-differ h =
+      record {
+        by-operator = λ o l m d s t.
+            sym (unlike o (left .kind) (right .kind) (operandValues L left) (operandValues L right) h)
+            ∙ ap₂ (compareValues o (left .kind) (right .kind)) (s .coded) (t .coded)
+            ∙ compare-atoms o (left .kind) (right .kind) l m (stands-typed L left s) (stands-typed L right t);
+        by-none = λ g. refl;
+      }
 
-  module _ (same : left .kind ≡ right .kind) where
-    like : (r : Truth) → truthOf r ≡ ofPresent (operandValues L left) (operandValues L right) (likeValues n (left .kind) (operandValues L left) (operandValues L right))
+  pub by-nothing : (n < 16) ⊎ (23 < n) → Compared L n left right Undef
+  by-nothing h = record { by-operator = λ o l m d s t. outside o d h; by-none = λ g. refl }
+    where
+      outside : {t : model.Truth} (o : Operator) → n ≡ operatorCode o → (n < 16) ⊎ (23 < n) → model.UNDEF ≡ t
+      outside o d (inl a) = let (low, high) = operator-range o in absurd (omega arith)
+      outside o d (inr b) = let (low, high) = operator-range o in absurd (omega arith)
+
+  module _ (same : left .kind ≡ right .kind) (r : Truth) where
+    -- by what the operator says of present values
+    present : (x : Operator) → n ≡ operatorCode x
+        → truthOf r ≡ ofPresent (operandValues L left) (operandValues L right) (likeValues x (left .kind) (operandValues L left) (operandValues L right))
         → Compared L n left right r
-    like r e = compared L n left right r (e ∙ sym (alike n (left .kind) (right .kind) (operandValues L left) (operandValues L right) same))
+    present x e f = compared x e r (f ∙ sym (alike x (left .kind) (right .kind) (operandValues L left) (operandValues L right) same))
 
-    module _ (wanted : Bool) (found r : Truth) (e : truthOf found ≡ foundOf wanted (operandValues L left) (operandValues L right)) (f : truthOf r ≡ toldBy n (truthOf found)) where
-      by-found : likeValues n (left .kind) (operandValues L left) (operandValues L right) ≡ toldBy n (truth (someFound wanted (operandValues L left) (operandValues L right)))
-          → Compared L n left right r
-      by-found d =
-          like r
-          (f ∙ ap (toldBy n) (e ∙ found-so wanted (operandValues L left) (operandValues L right))
-          ∙ told-inside n (operandValues L left) (operandValues L right) (truth (someFound wanted (operandValues L left) (operandValues L right)))
-          ∙ ap (ofPresent (operandValues L left) (operandValues L right)) (sym d))
+    pub by-equality : 16 ≤ n → n ≤ 17 → truthOf r ≡ foundOf true (operandValues L left) (operandValues L right) → Compared L n left right r
+    unfolding likeValues
+    by-equality h m f = go (decLt n 17)
+      where
+        go : Dec (n < 17) → Compared L n left right r
+        go (yes l) = present Operator.equal (omega arith) (f ∙ found-so true (operandValues L left) (operandValues L right))
+        go (no l) = present Operator.IN (omega arith) (f ∙ found-so true (operandValues L left) (operandValues L right))
 
-      for-wanted : {w : Bool} → wanted ≡ w → toldBy n (truth (someFound w (operandValues L left) (operandValues L right))) ≡ toldBy n (truth (someFound wanted (operandValues L left) (operandValues L right)))
-      for-wanted g = ap (λ (w : Bool). toldBy n (truth (someFound w (operandValues L left) (operandValues L right)))) (sym g)
+    -- a search that is negated
+    negated : (wanted : Bool) → truthOf r ≡ NOT (foundOf wanted (operandValues L left) (operandValues L right))
+        → truthOf r ≡ ofPresent (operandValues L left) (operandValues L right) (NOT (truth (someFound wanted (operandValues L left) (operandValues L right))))
+    negated wanted f =
+        f ∙ ap NOT (found-so wanted (operandValues L left) (operandValues L right))
+        ∙ not-inside (operandValues L left) (operandValues L right) (truth (someFound wanted (operandValues L left) (operandValues L right)))
 
-      pub by-equality : 16 ≤ n → n < 19 → wanted ≡ true → Compared L n left right r
-      by-equality h m g = by-found (like-equality n (left .kind) (operandValues L left) (operandValues L right) h (omega arith) ∙ for-wanted g)
+    pub by-inequality : n ≡ 18 → truthOf r ≡ NOT (foundOf true (operandValues L left) (operandValues L right)) → Compared L n left right r
+    unfolding likeValues
+    by-inequality e f = present Operator.unequal e (negated true f)
 
-      pub by-subset : n ≡ 19 → wanted ≡ false → Compared L n left right r
-      by-subset h g = by-found (like-subset n (left .kind) (operandValues L left) (operandValues L right) (omega arith) (omega arith) ∙ for-wanted g)
+    pub by-subset : n ≡ 19 → truthOf r ≡ NOT (foundOf false (operandValues L left) (operandValues L right)) → Compared L n left right r
+    unfolding likeValues
+    by-subset e f = present Operator.SUBSET e (negated false f)
 
-    pub by-order : 20 ≤ n → n ≤ 23 → (r : Truth)
-        → truthOf r ≡ (if eqb (left .kind) 1 then ofPresent (operandValues L left) (operandValues L right) (truth (orderOf n (operandValues L left) (operandValues L right))) else model.UNDEF)
-        → Compared L n left right r
-    by-order h m r e =
-        like r
-        (e ∙ test-inside (eqb (left .kind) 1) (operandValues L left) (operandValues L right) (truth (orderOf n (operandValues L left) (operandValues L right)))
-        ∙ ap (ofPresent (operandValues L left) (operandValues L right)) (sym (like-order n (left .kind) (operandValues L left) (operandValues L right) h m)))
+    -- an order whose low side is on the right
+    from-right : (equal : Bool) → belowOf L equal right left ≡ ofPresent (operandValues L left) (operandValues L right) (orderOf (left .kind) equal (operandValues L right) (operandValues L left))
+    from-right equal =
+        turned (operandValues L left) (operandValues L right) (orderOf (right .kind) equal (operandValues L right) (operandValues L left))
+        ∙ ap (λ (k : ℕ). ofPresent (operandValues L left) (operandValues L right) (orderOf k equal (operandValues L right) (operandValues L left))) (sym same)
 
-    pub by-nothing : (n < 16) ⊎ (23 < n) → Compared L n left right Undef
-    by-nothing h = like Undef (sym (ap (ofPresent (operandValues L left) (operandValues L right)) (like-none n (left .kind) (operandValues L left) (operandValues L right) h) ∙ never (operandValues L left) (operandValues L right)))
+    pub by-less : n ≡ 20 → truthOf r ≡ belowOf L false left right → Compared L n left right r
+    unfolding likeValues
+    by-less e f = present Operator.less e f
+
+    pub by-at-most : n ≡ 21 → truthOf r ≡ belowOf L true left right → Compared L n left right r
+    unfolding likeValues
+    by-at-most e f = present Operator.atMost e f
+
+    pub by-greater : n ≡ 22 → truthOf r ≡ belowOf L false right left → Compared L n left right r
+    unfolding likeValues
+    by-greater e f = present Operator.greater e (f ∙ from-right false)
+
+    pub by-at-least : n ≡ 23 → truthOf r ≡ belowOf L true right left → Compared L n left right r
+    unfolding likeValues
+    by-at-least e f = present Operator.atLeast e (f ∙ from-right true)
 
 -- a lone attribute
 lone-atoms : (k : ℕ) (l : List Atom) → Typed k l → loneOf k (map atomWords l) ≡ loneValue l
@@ -374,34 +357,21 @@ module _ (L : Lent) (o : Operand) where
   some-alone e w ew r er =
       alone L o r (er ∙ ap (amongOf (operandValues L o)) ew ∙ among-so (operandValues L o) (words 1 0 0) ∙ sym (rw (eq-eqb (o .kind) 3 e)))
 
--- an order: of the least and the greatest
-module _ (equal : Bool) (low high : List Words) where
-  pub at-most : equal ≡ true → leb (leastOf low) (greatestOf high) ≡ leastBelowGreatest equal low high
-  unfolding leastBelowGreatest
-  at-most e = sym (rw e)
+-- the ways through an order's tests
+module _ (kind : ℕ) (equal : Bool) (low high : List Words) where
+  pub not-ints : (kind ≡ 1 → ⊥) → model.UNDEF ≡ ofPresent low high (orderOf kind equal low high)
+  unfolding orderOf
+  not-ints h = sym (ap (ofPresent low high) (rw (ne-eqb kind 1 h)) ∙ never low high)
 
-  pub strictly : equal ≡ false → ltb (leastOf low) (greatestOf high) ≡ leastBelowGreatest equal low high
-  unfolding leastBelowGreatest
-  strictly e = sym (rw e)
+  module _ (e : kind ≡ 1) where
+    ints : truth (leastBelowGreatest equal low high) ≡ orderOf kind equal low high
+    unfolding orderOf
+    ints = sym (rw (eq-eqb kind 1 e))
 
--- an order: of its two sides
-module _ (L : Lent) (n : ℕ) (left right : Operand) (low high : Operand) (el : low ≡ (if leb n 21 then left else right)) (eh : high ≡ (if leb n 21 then right else left)) where
-  sides : ofPresent (operandValues L low) (operandValues L high) (truth (leastBelowGreatest (orEqual n) (operandValues L low) (operandValues L high)))
-      ≡ ofPresent (operandValues L left) (operandValues L right) (truth (orderOf n (operandValues L left) (operandValues L right)))
-  unfolding orderOf ofPresent
-  sides = ap₂ said el eh ∙ go (leb n 21)
-    where
-      said : Operand → Operand → model.Truth
-      said a b = ofPresent (operandValues L a) (operandValues L b) (truth (leastBelowGreatest (orEqual n) (operandValues L a) (operandValues L b)))
+    pub at-most : equal ≡ true → truth (leb (leastOf low) (greatestOf high)) ≡ orderOf kind equal low high
+    unfolding leastBelowGreatest
+    at-most f = sym (ap (λ (t : Bool). truth (if t then leb (leastOf low) (greatestOf high) else ltb (leastOf low) (greatestOf high))) f) ∙ ints
 
-      go : (t : Bool) → said (if t then left else right) (if t then right else left)
-          ≡ ofPresent (operandValues L left) (operandValues L right) (truth (if t then leastBelowGreatest (orEqual n) (operandValues L left) (operandValues L right) else leastBelowGreatest (orEqual n) (operandValues L right) (operandValues L left)))
-      go true = refl
-      go false = turned (operandValues L left) (operandValues L right) (truth (leastBelowGreatest (orEqual n) (operandValues L right) (operandValues L left)))
-
-  pub by-sides : left .kind ≡ 1 → (equal : Bool) → equal ≡ orEqual n → (r : Truth)
-      → truthOf r ≡ ofPresent (operandValues L low) (operandValues L high) (truth (leastBelowGreatest equal (operandValues L low) (operandValues L high)))
-      → truthOf r ≡ (if eqb (left .kind) 1 then ofPresent (operandValues L left) (operandValues L right) (truth (orderOf n (operandValues L left) (operandValues L right))) else model.UNDEF)
-  by-sides e equal f r g =
-      g ∙ ap (λ (b : Bool). ofPresent (operandValues L low) (operandValues L high) (truth (leastBelowGreatest b (operandValues L low) (operandValues L high)))) f ∙ sides
-      ∙ sym (rw (eq-eqb (left .kind) 1 e))
+    pub strictly : equal ≡ false → truth (ltb (leastOf low) (greatestOf high)) ≡ orderOf kind equal low high
+    unfolding leastBelowGreatest
+    strictly f = sym (ap (λ (t : Bool). truth (if t then leb (leastOf low) (greatestOf high) else ltb (leastOf low) (greatestOf high))) f) ∙ ints

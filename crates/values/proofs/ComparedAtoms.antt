@@ -5,7 +5,7 @@ use mathlib.Core.Bool.{Bool, true, false, not, Bool·beq}
 use mathlib.Core.List.{List, [], _∷_, List·Memᴰ·head as here, List·Memᴰ·tail as there}
 use native.Mathlib.Omega.{arith}
 use borrow.Author.Tests.{leb-true}
-use Rattle.model.specs.Notation.{any, all, map}
+use Rattle.model.specs.Notation.{anyOf, allOf, map}
 use Rattle.model.specs.Limits.{largestInt}
 use Rattle.model.specs.Atoms.{Atom, int, str, bool, typeOf, isAtom, sameAtom}
 use Rattle.model.specs.Comparison as model
@@ -13,27 +13,35 @@ use Rattle.model.specs.Comparison.{ordered}
 use Rattle.model.proofs.Lists.{_∈_, any-ext, any-in, in-any, all-parts, same-truth}
 use Rattle.codes.specs.Codes.{typeCode}
 use Rattle.codes.proofs.Codes.{type-injective}
+use Rattle.text.specs.declared.Words.{Words}
 use Rattle.text.specs.Values.{atomWords, sameWords}
 use Rattle.text.proofs.Values.{words-same}
-use Rattle.values.specs.Compared.{amongValues, someFound}
 use Rattle.values.proofs.Orders.{someBefore}
 
+-- a value is among others
+abbrev pub amongValues : List Words → Words → Bool
+amongValues values w = anyOf (sameWords w) values
+
+-- some left value is among the right, or with `wanted` false, some is not
+unfoldable pub someFound : Bool → List Words → List Words → Bool
+someFound wanted left right = anyOf (λ w. Bool·beq (amongValues right w) wanted) left
+
 -- lists
-pub any-map : {A B : Type 0} (p : B → Bool) (f : A → B) (l : List A) → any p (map f l) ≡ any (λ x. p (f x)) l
+pub any-map : {A B : Type 0} (p : B → Bool) (f : A → B) (l : List A) → anyOf p (map f l) ≡ anyOf (λ x. p (f x)) l
 any-map p f [] = refl
 any-map p f (x ∷ l) = ap (λ (b : Bool). elim (p (f x)) as (λ _. Bool) [ true ↦ true | false ↦ b ]) (any-map p f l)
 
-pub all-in : {A : Type 0} (p : A → Bool) {l : List A} {x : A} → all p l ≡ true → x ∈ l → p x ≡ true
+pub all-in : {A : Type 0} (p : A → Bool) {l : List A} {x : A} → allOf p l ≡ true → x ∈ l → p x ≡ true
 all-in p e (here {x = y} {xs = l} q) = ap p q ∙ all-parts p y l e .0
 all-in p e (there {x = y} {xs = l} m) = all-in p (all-parts p y l e .1) m
 
 -- each passes exactly if none fails
-none-fails : {A : Type 0} (p : A → Bool) (l : List A) → not (any (λ x. Bool·beq (p x) false) l) ≡ all p l
+none-fails : {A : Type 0} (p : A → Bool) (l : List A) → not (anyOf (λ x. Bool·beq (p x) false) l) ≡ allOf p l
 none-fails p [] = refl
 none-fails p (x ∷ l) = go (p x) (none-fails p l)
   where
-    go : (t : Bool) → not (any (λ y. Bool·beq (p y) false) l) ≡ all p l → not (elim (Bool·beq t false) as (λ _. Bool) [ true ↦ true | false ↦ any (λ y. Bool·beq (p y) false) l ])
-        ≡ elim t as (λ _. Bool) [ true ↦ all p l | false ↦ false ]
+    go : (t : Bool) → not (anyOf (λ y. Bool·beq (p y) false) l) ≡ allOf p l → not (elim (Bool·beq t false) as (λ _. Bool) [ true ↦ true | false ↦ anyOf (λ y. Bool·beq (p y) false) l ])
+        ≡ elim t as (λ _. Bool) [ true ↦ allOf p l | false ↦ false ]
     go true e = e
     go false e = refl
 
@@ -70,7 +78,7 @@ among-atoms k a m w t tm =
     (λ b q. words-same a b w (tm .written b q) (type-injective (typeOf a) (typeOf b) (t ∙ sym (tm .kinds b q))))
 
 module _ (k : ℕ) (l m : List Atom) (tl : Typed k l) (tm : Typed k m) where
-  found-atoms : (wanted : Bool) → someFound wanted (map atomWords l) (map atomWords m) ≡ any (λ a. Bool·beq (model.among m a) wanted) l
+  found-atoms : (wanted : Bool) → someFound wanted (map atomWords l) (map atomWords m) ≡ anyOf (λ a. Bool·beq (model.among m a) wanted) l
   unfolding someFound
   found-atoms wanted =
       any-map (λ w. Bool·beq (amongValues (map atomWords m) w) wanted) atomWords l
@@ -85,28 +93,28 @@ module _ (k : ℕ) (l m : List Atom) (tl : Typed k l) (tm : Typed k m) where
 
 -- some are so ordered, seen from either side
 pub before-atoms : (before : ℕ → ℕ → Bool) (l m : List Atom) → Typed 1 l → Typed 1 m
-    → someBefore before (map atomWords l) (map atomWords m) ≡ any (λ a. any (ordered before a) m) l
+    → someBefore before (map atomWords l) (map atomWords m) ≡ anyOf (λ a. anyOf (ordered before a) m) l
 before-atoms before l m tl tm =
-    any-map (λ v. any (λ w. before (v .first) (w .first)) (map atomWords m)) atomWords l
-    ∙ any-ext (λ a. any (λ w. before (atomWords a .first) (w .first)) (map atomWords m)) (λ a. any (ordered before a) m) l
+    any-map (λ v. anyOf (λ w. before (v .first) (w .first)) (map atomWords m)) atomWords l
+    ∙ any-ext (λ a. anyOf (λ w. before (atomWords a .first) (w .first)) (map atomWords m)) (λ a. anyOf (ordered before a) m) l
     (λ a p.
     any-map (λ w. before (atomWords a .first) (w .first)) atomWords m
     ∙ any-ext (λ b. before (atomWords a .first) (atomWords b .first)) (ordered before a) m (λ b q. ordered-numbers before a b (tl .kinds a p) (tm .kinds b q)))
 
-pub turned : {A : Type 0} (f : A → A → Bool) (l m : List A) → any (λ a. any (f a) m) l ≡ any (λ b. any (λ a. f a b) l) m
-turned f l m = same-truth (any (λ a. any (f a) m) l) (any (λ b. any (λ a. f a b) l) m) there-so back
+pub turned : {A : Type 0} (f : A → A → Bool) (l m : List A) → anyOf (λ a. anyOf (f a) m) l ≡ anyOf (λ b. anyOf (λ a. f a b) l) m
+turned f l m = same-truth (anyOf (λ a. anyOf (f a) m) l) (anyOf (λ b. anyOf (λ a. f a b) l) m) there-so back
   where
-    there-so : any (λ a. any (f a) m) l ≡ true → any (λ b. any (λ a. f a b) l) m ≡ true
+    there-so : anyOf (λ a. anyOf (f a) m) l ≡ true → anyOf (λ b. anyOf (λ a. f a b) l) m ≡ true
     there-so e =
-        let (a, p, d) = any-in (λ a. any (f a) m) l e in
+        let (a, p, d) = any-in (λ a. anyOf (f a) m) l e in
         let (b, q, t) = any-in (f a) m d in
-        in-any (λ b. any (λ a. f a b) l) q (in-any (λ a. f a b) p t)
+        in-any (λ b. anyOf (λ a. f a b) l) q (in-any (λ a. f a b) p t)
 
-    back : any (λ b. any (λ a. f a b) l) m ≡ true → any (λ a. any (f a) m) l ≡ true
+    back : anyOf (λ b. anyOf (λ a. f a b) l) m ≡ true → anyOf (λ a. anyOf (f a) m) l ≡ true
     back e =
-        let (b, q, d) = any-in (λ b. any (λ a. f a b) l) m e in
+        let (b, q, d) = any-in (λ b. anyOf (λ a. f a b) l) m e in
         let (a, p, t) = any-in (λ a. f a b) l d in
-        in-any (λ a. any (f a) m) p (in-any (f a) q t)
+        in-any (λ a. anyOf (f a) m) p (in-any (f a) q t)
 
 -- an order the other way round
 ordered-turned : (before : ℕ → ℕ → Bool) (a b : Atom) → ordered (λ x y. before y x) a b ≡ ordered before b a
@@ -120,8 +128,8 @@ ordered-turned before (bool a) (int n) = refl
 ordered-turned before (bool a) (str t) = refl
 ordered-turned before (bool a) (bool b) = refl
 
-pub after-atoms : (before : ℕ → ℕ → Bool) (l m : List Atom) → any (λ b. any (ordered before b) l) m ≡ any (λ a. any (ordered (λ x y. before y x) a) m) l
+pub after-atoms : (before : ℕ → ℕ → Bool) (l m : List Atom) → anyOf (λ b. anyOf (ordered before b) l) m ≡ anyOf (λ a. anyOf (ordered (λ x y. before y x) a) m) l
 after-atoms before l m =
     turned (ordered before) m l
-    ∙ any-ext (λ a. any (λ b. ordered before b a) m) (λ a. any (ordered (λ x y. before y x) a) m) l
+    ∙ any-ext (λ a. anyOf (λ b. ordered before b a) m) (λ a. anyOf (ordered (λ x y. before y x) a) m) l
     (λ a p. any-ext (λ b. ordered before b a) (ordered (λ x y. before y x) a) m (λ b q. sym (ordered-turned before a b)))

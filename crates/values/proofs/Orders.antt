@@ -8,7 +8,7 @@ use mathlib.Core.Bool.{Bool, true, false}
 use mathlib.Core.List.{List, [], _∷_, List·Memᴰ·head as here, List·Memᴰ·tail as there}
 use lib.Dec.{leb, ltb}
 use borrow.Author.Tests.{lt-ltb, le-ltb, ltb-true, le-leb, leb-true}
-use Rattle.model.specs.Notation.{any, if_then_else_}
+use Rattle.model.specs.Notation.{anyOf, if_then_else_}
 use Rattle.model.specs.Limits.{largestInt}
 use Rattle.model.proofs.Lists.{_∈_, any-in, in-any, same-truth}
 use Rattle.text.specs.declared.Words.{Words}
@@ -105,7 +105,7 @@ least-in v l b = go (extreme-in false largestInt (v ∷ l)) (none-less largestIn
 
 -- "some left and some right value are so ordered"
 abbrev pub someBefore : (ℕ → ℕ → Bool) → List Words → List Words → Bool
-someBefore before low high = any (λ a. any (λ b. before (a .first) (b .first)) high) low
+someBefore before low high = anyOf (λ a. anyOf (λ b. before (a .first) (b .first)) high) low
 
 module _ (before : ℕ → ℕ → Bool) (wider : (a b x y : ℕ) → x ≤ a → b ≤ y → before a b ≡ true → before x y ≡ true)
     (v : Words) (low : List Words) (w : Words) (high : List Words) (small : v .first ≤ largestInt) where
@@ -115,10 +115,10 @@ module _ (before : ℕ → ℕ → Bool) (wider : (a b x y : ℕ) → x ≤ a �
       (λ e.
       let (a, m, p) = least-in v low small in
       let (b, n, q) = greatest-in w high in
-      in-any (λ a. any (λ b. before (a .first) (b .first)) (w ∷ high)) m
+      in-any (λ a. anyOf (λ b. before (a .first) (b .first)) (w ∷ high)) m
       (in-any (λ b. before (a .first) (b .first)) n (sym (ap (λ (x : ℕ). before x (b .first)) p) ∙ sym (ap (before (leastOf (v ∷ low))) q) ∙ e)))
       (λ e.
-      let (a, m, p) = any-in (λ a. any (λ b. before (a .first) (b .first)) (w ∷ high)) (v ∷ low) e in
+      let (a, m, p) = any-in (λ a. anyOf (λ b. before (a .first) (b .first)) (w ∷ high)) (v ∷ low) e in
       let (b, n, q) = any-in (λ b. before (a .first) (b .first)) (w ∷ high) p in
       wider (a .first) (b .first) (leastOf (v ∷ low)) (greatestOf (w ∷ high)) (none-less largestInt m) (none-greater 0 n) q)
 

@@ -10,7 +10,7 @@ use lib.Dec.{eqb}
 use lib.ListN.{length, getD, take, drop, length-append, length-drop}
 use lib.Seq.{getD-drop, drop-drop, drop-at, take-at}
 use borrow.Author.Tests.{eqb-true, eq-eqb, leb-true}
-use Rattle.model.specs.Notation.{map, each, all}
+use Rattle.model.specs.Notation.{map, each, allOf}
 use Rattle.model.specs.Limits.{largestInt}
 use Rattle.model.specs.Bytes.{Bytes}
 use Rattle.model.specs.Atoms.{Atom, typeOf, isAtom}
@@ -92,7 +92,7 @@ module _ (D : Declarations) (kind : ℕ) (code : Bytes) (end : ℕ) (within : en
       constants-find kind code end i (found (atomWords a) (i + length (encodeToken D t) + 1)) (sym (one t a e k w i tail d h)) .more refl
 
   -- constants parted by commas
-  items : {ts : List Token} {l : List Atom} → Items ts l → all (λ a. eqb (typeCode (typeOf a)) kind) l ≡ true → all isAtom l ≡ true → (i : ℕ) (rest : Bytes)
+  items : {ts : List Token} {l : List Atom} → Items ts l → allOf (λ a. eqb (typeCode (typeOf a)) kind) l ≡ true → allOf isAtom l ≡ true → (i : ℕ) (rest : Bytes)
       → drop i code ≡ each (encodeToken D) ts ++ rest → end ≡ i + length (each (encodeToken D) ts) → constantsFrom kind code end i ≡ map atomWords l
   items (Items.last {t} {a} e) k w i rest d h =
       let (typed, more) = all-parts (λ x. eqb (typeCode (typeOf x)) kind) a [] k in
@@ -117,7 +117,7 @@ module _ (D : Declarations) (kind : ℕ) (code : Bytes) (end : ℕ) (within : en
 
 -- the operand of the constants from `start` up to `end` stands for them, where the code there is that of their tokens
 pub constants-stand : (D : Declarations) (L : Lent) (kind start end : ℕ) {ts : List Token} {l : List Atom} (rest : Bytes) → Items ts l
-    → all (λ a. eqb (typeCode (typeOf a)) kind) l ≡ true → all isAtom l ≡ true
+    → allOf (λ a. eqb (typeCode (typeOf a)) kind) l ≡ true → allOf isAtom l ≡ true
     → drop start (L .code) ≡ each (encodeToken D) ts ++ rest → end ≡ start + length (each (encodeToken D) ts) → Stands L (operand kind 2 start end) l
 unfolding valuesFrom firstOf
 constants-stand D L kind start end {ts} {l} rest i k w d h =

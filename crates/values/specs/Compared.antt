@@ -1,10 +1,10 @@
 -- What a comparison asks of the values of two operands.
 use Prim.Native.Nat.{ℕ}
 use mathlib.Core.Path.{_≡_}
-use mathlib.Core.Bool.{Bool, true, false, not, _&&_, _||_, Bool·beq}
+use mathlib.Core.Bool.{Bool, true, false, not, _&&_}
 use mathlib.Core.List.{List, [], _∷_}
 use lib.Dec.{eqb, leb, ltb}
-use Rattle.model.specs.Notation.{any, isEmpty, if_then_else_}
+use Rattle.model.specs.Notation.{isEmpty, if_then_else_}
 use Rattle.model.specs.Limits.{largestInt}
 use Rattle.model.specs.Atoms.{Atom}
 use Rattle.model.specs.Truth as model
@@ -15,16 +15,9 @@ use Rattle.codes.specs.Codes.{operatorCode}
 use Rattle.truth.specs.declared.Truth.{Truth}
 use Rattle.truth.specs.Truths.{truthOf}
 use Rattle.text.specs.declared.Words.{Words}
-use Rattle.text.specs.Values.{words, sameWords}
+use Rattle.text.specs.Values.{sameWords}
 use Rattle.values.specs.declared.Operand.{Operand}
-use Rattle.values.specs.Operands.{Lent, Stands}
-
-abbrev pub amongValues : List Words → Words → Bool
-amongValues values w = any (sameWords w) values
-
--- some left value is among the right, or with `wanted` false, some is not
-unfoldable pub someFound : Bool → List Words → List Words → Bool
-someFound wanted left right = any (λ w. Bool·beq (amongValues right w) wanted) left
+use Rattle.values.specs.Operands.{Lent, operandValues, Stands}
 
 -- the greater of two numbers, or the less
 unfoldable pub further : Bool → ℕ → ℕ → ℕ
@@ -88,33 +81,13 @@ foundOf wanted left right = soughtFrom (λ w. asked wanted (amongOf right w)) fa
 unfoldable pub ofPresent : List Words → List Words → model.Truth → model.Truth
 ofPresent left right t = if (not (isEmpty left) && not (isEmpty right)) then t else model.UNDEF
 
--- ---- the operators by their numbers
+-- an order, "of integers alone", by the least of some values and the greatest of others
+unfoldable pub orderOf : ℕ → Bool → List Words → List Words → model.Truth
+orderOf kind equal low high = if eqb kind 1 then truth (leastBelowGreatest equal low high) else model.UNDEF
 
--- `=` and IN tell what was found, `!=` and SUBSET the negation
-abbrev pub toldBy : ℕ → model.Truth → model.Truth
-toldBy n t = if leb n 17 then t else NOT t
-
--- an order, by the least and the greatest: `<` and `<=` have the low side on the left
-abbrev pub orEqual : ℕ → Bool
-orEqual n = eqb n 21 || eqb n 23
-
-unfoldable pub orderOf : ℕ → List Words → List Words → Bool
-orderOf n left right = if leb n 21 then leastBelowGreatest (orEqual n) left right else leastBelowGreatest (orEqual n) right left
-
--- the operator of a number, on present values of one type: `=`, IN and `!=` ask for a common value, SUBSET for a left value that is not among the
--- right; UNDEF where the number is no operator's
-unfoldable pub likeValues : ℕ → ℕ → List Words → List Words → model.Truth
-likeValues n kind left right =
-    if (leb 16 n && leb n 18) then toldBy n (truth (someFound true left right))
-    else (if (leb 19 n && leb n 19) then toldBy n (truth (someFound false left right))
-    else (if (leb 20 n && leb n 23) then (if eqb kind 1 then truth (orderOf n left right) else model.UNDEF)
-    else model.UNDEF))
-
-unfoldable pub compareValues : ℕ → ℕ → ℕ → List Words → List Words → model.Truth
-compareValues n kind kind′ left right = if eqb kind kind′ then ofPresent left right (likeValues n kind left right) else model.UNDEF
-
-unfoldable pub loneOf : ℕ → List Words → model.Truth
-loneOf kind values = if (eqb kind 3 && not (isEmpty values)) then truth (amongValues values (words 1 0 0)) else model.UNDEF
+-- what an order says of two operands, the low one first
+abbrev pub belowOf : Lent → Bool → Operand → Operand → model.Truth
+belowOf L equal low high = ofPresent (operandValues L low) (operandValues L high) (orderOf (low .kind) equal (operandValues L low) (operandValues L high))
 
 -- r is what the operator of a number says of the atoms that two operands stand for; of a number that is no operator's, UNDEF
 pub record Compared (L : Lent) (n : ℕ) (left right : Operand) (r : Truth) : Type 0 where

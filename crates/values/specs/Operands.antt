@@ -5,7 +5,7 @@ use mathlib.Core.Bool.{Bool, true, false, _&&_}
 use mathlib.Core.List.{List, [], _∷_}
 use lib.Dec.{eqb, leb, ltb}
 use lib.ListN.{length, getD, take, drop}
-use Rattle.model.specs.Notation.{map, filter, all, if_then_else_}
+use Rattle.model.specs.Notation.{map, filter, allOf, if_then_else_}
 use Rattle.model.specs.Limits.{attributeLimit, pairLimit, entryBytes}
 use Rattle.model.specs.Bytes.{Bytes}
 use Rattle.model.specs.Block.{byteAt, valueAt}
@@ -115,8 +115,8 @@ pub record Finds (from : ℕ → List Words) (i : ℕ) (r : Found) : Type 0 wher
 -- an operand stands for these atoms
 pub record Stands (L : Lent) (o : Operand) (atoms : List Atom) : Type 0 where
   pub coded : operandValues L o ≡ map atomWords atoms
-  pub typed : all (λ a. eqb (typeCode (typeOf a)) (o .kind)) atoms ≡ true
-  pub written : all isAtom atoms ≡ true
+  pub typed : allOf (λ a. eqb (typeCode (typeOf a)) (o .kind)) atoms ≡ true
+  pub written : allOf isAtom atoms ≡ true
 
 -- ---- the operands that rules have
 

@@ -3,21 +3,21 @@
 ghost use mathlib.Core.Path.{_≡_};
 ghost use mathlib.Core.Bool.{true, false, not};
 ghost use Prim.Native.Nat.{_+_, _*_, _/_, _<_, _≤_};
-ghost use lib.Dec.{eqb, leb};
+ghost use lib.Dec.{eqb};
 ghost use lib.ListN.{length};
-ghost use Rattle.model.specs.Notation.{if_then_else_, isEmpty};
+ghost use Rattle.model.specs.Notation.{isEmpty};
 ghost use Rattle.model.specs.Block.{byteAt, valueAt};
-ghost use Rattle.model.specs.Truth.{truth, UNDEF};
+ghost use Rattle.model.specs.Truth.{NOT};
 ghost use Rattle.truth.specs.Truths.{truthOf};
 ghost use Rattle.text.specs.Values.{words, sameWords};
 ghost use Rattle.values.specs.Operands.{lent, First, wordsFrom, entryWords, entriesFrom, intAt, strAt, constantsFrom, valuesFrom, firstOf};
 ghost use Rattle.values.specs.Operands.{operandValues, Finds, nothing, operand, noValues, rowType, attributeOperand};
-ghost use Rattle.values.specs.Compared.{further, worst, extremeFrom, leastBelowGreatest, isFalse, atEnd, amongOf, asked, foundOf, ofPresent};
-ghost use Rattle.values.specs.Compared.{toldBy, orEqual, orderOf, Compared, Lone};
+ghost use Rattle.values.specs.Compared.{further, worst, extremeFrom, isFalse, atEnd, amongOf, asked, foundOf, belowOf, Compared, Lone};
 use codes::AT_LEAST;
 use codes::AT_MOST;
 use codes::BOOL;
 use codes::EQUAL;
+use codes::GREATER;
 use codes::IN;
 use codes::INT;
 use codes::LESS;
@@ -60,7 +60,7 @@ struct Bound {
     number: u64,
 }
 
-fn none_found() -> Found
+fn nothing() -> Found
     ensures { λ r. ⌜ r ≡ nothing ⌝ }
 {
     Found {
@@ -108,14 +108,14 @@ fn pair_from(pairs: &[u64], session: &[u64; 128], k: usize, i: usize) -> Found
     ensures { λ r. ⌜ Finds (wordsFrom (now (pairs .entry)) (now (session .entry)) k) i r ⌝ }
 {
     if 32 <= k {
-        return none_found();
+        return nothing();
     }
     let all = &session[..];
     let start = 4 * k;
     let end = 4 * k + 4;
     let p = bits::first_from(&all[start..end], i);
     if 256 <= p {
-        return none_found();
+        return nothing();
     }
     Found {
         here: true,
@@ -162,7 +162,7 @@ fn entry_from(entries: &[u8], kind: u8, k: usize, i: usize) -> Found
 {
     let j = entry_number(entries, k, i);
     if entries.len() / 5 <= j {
-        return none_found();
+        return nothing();
     }
     Found {
         here: true,
@@ -176,13 +176,13 @@ fn int_at(code: &[u8], end: usize, i: usize) -> Found
     ensures { λ r. ⌜ r ≡ intAt (now (code .entry)) end i ⌝ }
 {
     if code.len() < end {
-        return none_found();
+        return nothing();
     }
     if end < 5 {
-        return none_found();
+        return nothing();
     }
     if end - 5 < i {
-        return none_found();
+        return nothing();
     }
     Found {
         here: true,
@@ -196,22 +196,22 @@ fn str_at(code: &[u8], end: usize, i: usize) -> Found
     ensures { λ r. ⌜ r ≡ strAt (now (code .entry)) end i ⌝ }
 {
     if code.len() < end {
-        return none_found();
+        return nothing();
     }
     if end < 2 {
-        return none_found();
+        return nothing();
     }
     if end - 2 < i {
-        return none_found();
+        return nothing();
     }
     let start = i + 2;
     let n = code[i + 1] as usize;
     if 24 < n {
-        return none_found();
+        return nothing();
     }
     let past = start + n;
     if end < past {
-        return none_found();
+        return nothing();
     }
     Found {
         here: true,
@@ -280,7 +280,68 @@ fn at_end(some: bool) -> Truth
     if some { Truth::False } else { Truth::Undef }
 }
 
-// Whether a value is among those of an operand.
+// Whether a value is among those that the session has of attribute k.
+fn among_pairs(pairs: &[u64], session: &[u64; 128], wanted: Words, k: usize) -> Truth
+    requires { ⌜ length (now pairs) ≡ 1024 ⌝ }
+    ensures { λ r. ⌜ truthOf r ≡ amongOf (wordsFrom (now (pairs .entry)) (now (session .entry)) k 0) wanted ⌝ }
+{
+    let mut some = false;
+    let mut i: usize = 0;
+    loop {
+        let f = pair_from(pairs, session, k, i);
+        if !f.here {
+            return at_end(some);
+        }
+        let words = f.words;
+        if same(wanted, words) {
+            return Truth::True;
+        }
+        some = true;
+        i = f.next;
+    }
+}
+
+// Whether a value is among those that the entries have of attribute k.
+fn among_entries(entries: &[u8], kind: u8, wanted: Words, k: usize) -> Truth
+    ensures { λ r. ⌜ truthOf r ≡ amongOf (entriesFrom (now (entries .entry)) kind k 0) wanted ⌝ }
+{
+    let mut some = false;
+    let mut i: usize = 0;
+    loop {
+        let f = entry_from(entries, kind, k, i);
+        if !f.here {
+            return at_end(some);
+        }
+        let words = f.words;
+        if same(wanted, words) {
+            return Truth::True;
+        }
+        some = true;
+        i = f.next;
+    }
+}
+
+// Whether a value is among the constants from byte `start` up to byte `end`.
+fn among_constants(code: &[u8], kind: u8, wanted: Words, start: usize, end: usize) -> Truth
+    ensures { λ r. ⌜ truthOf r ≡ amongOf (constantsFrom kind (now (code .entry)) end start) wanted ⌝ }
+{
+    let mut some = false;
+    let mut i = start;
+    loop {
+        let f = constant_from(code, kind, end, i);
+        if !f.here {
+            return at_end(some);
+        }
+        let words = f.words;
+        if same(wanted, words) {
+            return Truth::True;
+        }
+        some = true;
+        i = f.next;
+    }
+}
+
+// Whether a value is among those of an operand. Each place has its loop, so that the compiler sets the finder into it.
 fn among(
     code: &[u8],
     pairs: &[u64],
@@ -292,19 +353,11 @@ fn among(
     requires { ⌜ length (now pairs) ≡ 1024 ⌝ }
     ensures { λ r. ⌜ truthOf r ≡ amongOf (operandValues (lent (now (code .entry)) (now (pairs .entry)) (now (session .entry)) (now (entries .entry))) operand) wanted ⌝ }
 {
-    let mut some = false;
-    let mut i = first(operand);
-    loop {
-        let f = value_from(code, pairs, session, entries, operand, i);
-        if !f.here {
-            return at_end(some);
-        }
-        let words = f.words;
-        if same(wanted, words) {
-            return Truth::True;
-        }
-        some = true;
-        i = f.next;
+    let place = operand.place;
+    match place {
+        WORDS => among_pairs(pairs, session, wanted, operand.start),
+        ENTRIES => among_entries(entries, operand.kind, wanted, operand.start),
+        _ => among_constants(code, operand.kind, wanted, operand.start, operand.end),
     }
 }
 
@@ -355,6 +408,22 @@ fn some_found(
         some = true;
         i = f.next;
     }
+}
+
+// Whether no left value is among the right, or with `wanted` false, whether each is.
+fn none_found(
+    code: &[u8],
+    pairs: &[u64],
+    session: &[u64; 128],
+    entries: &[u8],
+    left: Operand,
+    right: Operand,
+    wanted: bool,
+) -> Truth
+    requires { ⌜ length (now pairs) ≡ 1024 ⌝ }
+    ensures { λ r. ⌜ truthOf r ≡ NOT (foundOf wanted (operandValues (lent (now (code .entry)) (now (pairs .entry)) (now (session .entry)) (now (entries .entry))) left) (operandValues (lent (now (code .entry)) (now (pairs .entry)) (now (session .entry)) (now (entries .entry))) right)) ⌝ }
+{
+    truth::not(some_found(code, pairs, session, entries, left, right, wanted))
 }
 
 // The greater of two numbers, or the less.
@@ -409,7 +478,8 @@ fn extreme(
     }
 }
 
-// Whether some value of `low` is below some value of `high`, or with `equal` equal to it: so it is exactly if the least and the greatest are.
+// Whether some value of `low` is below some value of `high`, or with `equal` equal to it: so it is exactly if the least and the greatest are. An order
+// is one of integers alone.
 fn below(
     code: &[u8],
     pairs: &[u64],
@@ -420,8 +490,11 @@ fn below(
     equal: bool,
 ) -> Truth
     requires { ⌜ length (now pairs) ≡ 1024 ⌝ }
-    ensures { λ r. ⌜ truthOf r ≡ ofPresent (operandValues (lent (now (code .entry)) (now (pairs .entry)) (now (session .entry)) (now (entries .entry))) low) (operandValues (lent (now (code .entry)) (now (pairs .entry)) (now (session .entry)) (now (entries .entry))) high) (truth (leastBelowGreatest equal (operandValues (lent (now (code .entry)) (now (pairs .entry)) (now (session .entry)) (now (entries .entry))) low) (operandValues (lent (now (code .entry)) (now (pairs .entry)) (now (session .entry)) (now (entries .entry))) high))) ⌝ }
+    ensures { λ r. ⌜ truthOf r ≡ belowOf (lent (now (code .entry)) (now (pairs .entry)) (now (session .entry)) (now (entries .entry))) equal low high ⌝ }
 {
+    if low.kind != INT {
+        return Truth::Undef;
+    }
     let least = extreme(code, pairs, session, entries, low, false);
     if !least.here {
         return Truth::Undef;
@@ -434,53 +507,6 @@ fn below(
         return truth::tested(least.number <= greatest.number);
     }
     truth::tested(least.number < greatest.number)
-}
-
-// The low side of an order, and with the operands swapped the high side.
-fn low_side(operator: u8, left: Operand, right: Operand) -> Operand
-    ensures { λ r. ⌜ r ≡ (if leb operator 21 then left else right) ⌝ }
-{
-    if operator <= AT_MOST { left } else { right }
-}
-
-fn or_equal(operator: u8) -> bool
-    ensures { λ r. ⌜ r ≡ orEqual operator ⌝ }
-{
-    if operator == AT_MOST {
-        return true;
-    }
-    operator == AT_LEAST
-}
-
-// An order: of integers alone.
-fn order(
-    code: &[u8],
-    pairs: &[u64],
-    session: &[u64; 128],
-    entries: &[u8],
-    operator: u8,
-    left: Operand,
-    right: Operand,
-) -> Truth
-    requires { ⌜ length (now pairs) ≡ 1024 ⌝ }
-    ensures { λ r. ⌜ truthOf r ≡ (if eqb (left .kind) 1 then ofPresent (operandValues (lent (now (code .entry)) (now (pairs .entry)) (now (session .entry)) (now (entries .entry))) left) (operandValues (lent (now (code .entry)) (now (pairs .entry)) (now (session .entry)) (now (entries .entry))) right) (truth (orderOf operator (operandValues (lent (now (code .entry)) (now (pairs .entry)) (now (session .entry)) (now (entries .entry))) left) (operandValues (lent (now (code .entry)) (now (pairs .entry)) (now (session .entry)) (now (entries .entry))) right))) else UNDEF) ⌝ }
-{
-    if left.kind != INT {
-        return Truth::Undef;
-    }
-    let low = low_side(operator, left, right);
-    let high = low_side(operator, right, left);
-    below(code, pairs, session, entries, low, high, or_equal(operator))
-}
-
-// `=` and IN tell what was found, `!=` and SUBSET the negation.
-fn told(operator: u8, found: Truth) -> Truth
-    ensures { λ r. ⌜ truthOf r ≡ toldBy operator (truthOf found) ⌝ }
-{
-    if operator <= IN {
-        return found;
-    }
-    truth::not(found)
 }
 
 // What an operator says of its operands. "Absent operands, different types, and an order between non-integers give UNDEF."
@@ -499,18 +525,16 @@ pub fn compare(
     if left.kind != right.kind {
         return Truth::Undef;
     }
-    let wanted = match operator {
-        EQUAL..=UNEQUAL => true,
-        SUBSET..=SUBSET => false,
-        LESS..=AT_LEAST => {
-            return order(code, pairs, session, entries, operator, left, right);
-        }
-        _ => {
-            return Truth::Undef;
-        }
-    };
-    let found = some_found(code, pairs, session, entries, left, right, wanted);
-    told(operator, found)
+    match operator {
+        EQUAL..=IN => some_found(code, pairs, session, entries, left, right, true),
+        UNEQUAL..=UNEQUAL => none_found(code, pairs, session, entries, left, right, true),
+        SUBSET..=SUBSET => none_found(code, pairs, session, entries, left, right, false),
+        LESS..=LESS => below(code, pairs, session, entries, left, right, false),
+        AT_MOST..=AT_MOST => below(code, pairs, session, entries, left, right, true),
+        GREATER..=GREATER => below(code, pairs, session, entries, right, left, false),
+        AT_LEAST..=AT_LEAST => below(code, pairs, session, entries, right, left, true),
+        _ => Truth::Undef,
+    }
 }
 
 // What an attribute that stands alone comes to: whether TRUE is among its values.

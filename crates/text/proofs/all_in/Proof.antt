@@ -4,14 +4,14 @@ use mathlib.Core.Path.{_≡_, refl, sym, _∙_}
 use native.Mathlib.Omega.{arith}
 use borrow.Author.Tests.{not-true, not-false}
 use lib.ListN.{length, drop}
-use Rattle.model.specs.Notation.{all}
+use Rattle.model.specs.Notation.{allOf}
 use Rattle.text.specs.Parts.{inClass}
 use Rattle.text.proofs.LoopPlaces.{all-on, all-off, all-end}
 use Rattle.text.proofs.all_in.Statement.{statement}
 use Rattle.text.proofs.all_in.Tie as tie
 
 abbrev Inv-loop : tie.InvT-loop
-Inv-loop s class i₀ i = (i ≤ length s) × (all (inClass class) s ≡ all (inClass class) (drop i s))
+Inv-loop s class i₀ i = (i ≤ length s) × (allOf (inClass class) s ≡ allOf (inClass class) (drop i s))
 
 abbrev μ-loop : tie.MeasureT-loop
 μ-loop s class i₀ i = length s - i

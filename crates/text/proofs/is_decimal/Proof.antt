@@ -4,7 +4,7 @@ use mathlib.Core.Bool.{true, false}
 use native.Mathlib.Omega.{arith}
 use borrow.Author.Needs.{needs}
 use borrow.Author.Tests.{le-leb, lt-leb, not-true, not-false}
-use Rattle.model.specs.Notation.{all}
+use Rattle.model.specs.Notation.{allOf}
 use Rattle.model.proofs.Decimals.{digit}
 use Rattle.text.specs.ReadCodes.{isDecimal}
 use Rattle.text.proofs.DecimalDigits.{lead-one, lead-more}
@@ -22,14 +22,14 @@ returns-2 : tie.Need-returns-2
 unfolding isDecimal
 returns-2 c =
     let s = c .before .before .before .before .args .s .now in
-    let e : all digit s ≡ false = sym (c .before .all-in .ensures) ∙ not-true _ (c .if2 .taken) in
+    let e : allOf digit s ≡ false = sym (c .before .all-in .ensures) ∙ not-true _ (c .if2 .taken) in
     rw (le-leb 1 _ (c .before .before .if1 .left), e)
 
 returns-3 : tie.Need-returns-3
 unfolding isDecimal
 returns-3 c =
     let s = c .before .before .before .before .before .args .s .now in
-    let e : all digit s ≡ true = sym (c .before .before .all-in .ensures) ∙ not-false _ (c .before .if2 .left) in
+    let e : allOf digit s ≡ true = sym (c .before .before .all-in .ensures) ∙ not-false _ (c .before .if2 .left) in
     rw (le-leb 1 _ (c .before .before .before .if1 .left), e, lead-one s (c .if3 .taken))
 
 shared-slice-read-result : tie.Need-shared-slice-read-result
@@ -39,7 +39,7 @@ returns-4 : tie.Need-returns-4
 unfolding isDecimal
 returns-4 c =
     let s = c .before .before .before .before .before .before .args .s .now in
-    let e : all digit s ≡ true = sym (c .before .before .before .all-in .ensures) ∙ not-false _ (c .before .before .if2 .left) in
+    let e : allOf digit s ≡ true = sym (c .before .before .before .all-in .ensures) ∙ not-false _ (c .before .before .if2 .left) in
     rw (le-leb 1 _ (c .before .before .before .before .if1 .left), e, lead-more s (omega arith) (c .before .if3 .left))
 
 pub is-decimal-spec : {M : Type 1} → statement M

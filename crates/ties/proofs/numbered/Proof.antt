@@ -7,11 +7,11 @@ use mathlib.Core.Bool.{true}
 use mathlib.Core.List.{List}
 use lib.ListN.{getD}
 use Rattle.bits.specs.Bits.{bit}
-use Rattle.ties.specs.TieArrays.{HasNumbered, Numbered}
+use Rattle.ties.specs.TieArrays.{HasNumbered, AddsNumbered}
 use Rattle.ties.proofs.numbered.Statement.{statement}
 use Rattle.ties.proofs.numbered.Tie as tie
 
-one-more : (slots : List ℕ) (m q r : ℕ) → HasNumbered slots q m → Numbered slots m q r → HasNumbered slots (q + 1) r
+one-more : (slots : List ℕ) (m q r : ℕ) → HasNumbered slots q m → AddsNumbered slots m q r → HasNumbered slots (q + 1) r
 one-more slots m q r has more j l n = go (decLt j q)
   where
     go : Dec (j < q) → bit r j ≡ true

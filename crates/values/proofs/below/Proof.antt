@@ -5,52 +5,89 @@ use borrow.Author.Tests.{not-true, not-false}
 use borrow.Author.Needs.{needs}
 use Rattle.model.specs.Truth.{truth}
 use Rattle.values.specs.Operands.{lent, operandValues}
-use Rattle.values.specs.Compared.{leastBelowGreatest}
-use Rattle.values.proofs.Compared.{without-left, without-right, with-both, at-most, strictly}
+use Rattle.values.specs.Compared.{orderOf}
+use Rattle.values.proofs.Compared.{not-ints, without-left, without-right, with-both, at-most, strictly}
 use Rattle.values.proofs.below.Statement.{statement}
 use Rattle.values.proofs.below.Tie as tie
+
+returns : tie.Need-returns
+returns c =
+    let a = c .before .before .before .before .before .args in
+    let lend = lent (a .code .now) (a .pairs .now) (a .session .now) (a .entries .now) in
+    not-ints (a .low .kind) (a .equal) (operandValues lend (a .low)) (operandValues lend (a .high)) (c .if1 .taken)
 
 extreme-requires : tie.Need-extreme-requires
 extreme-requires c κs = search needs
 
-returns : tie.Need-returns
-returns c =
-    let a = c .before .before .before .before .before .before .args in
-    without-left (operandValues (lent (a .code .now) (a .pairs .now) (a .session .now) (a .entries .now)) (a .low)) (operandValues (lent (a .code .now) (a .pairs .now) (a .session .now) (a .entries .now)) (a .high)) (truth (leastBelowGreatest (a .equal) (operandValues (lent (a .code .now) (a .pairs .now) (a .session .now) (a .entries .now)) (a .low)) (operandValues (lent (a .code .now) (a .pairs .now) (a .session .now) (a .entries .now)) (a .high)))) (c .before .before .extreme .result .here) (c .before .before .extreme .ensures .0) (not-true _ (c .if1 .taken))
+returns-2 : tie.Need-returns-2
+returns-2 c =
+    let a = c .before .before .before .before .before .before .before .before .args in
+    let lend = lent (a .code .now) (a .pairs .now) (a .session .now) (a .entries .now) in
+    let low = operandValues lend (a .low) in
+    let high = operandValues lend (a .high) in
+    let said = orderOf (a .low .kind) (a .equal) low high in
+    let least = c .before .before .extreme in
+    without-left low high said (least .result .here) (least .ensures .0) (not-true _ (c .if2 .taken))
 
 extreme-requires-2 : tie.Need-extreme-requires-2
 extreme-requires-2 c κs = search needs
 
-returns-2 : tie.Need-returns-2
-returns-2 c =
-    let a = c .before .before .before .before .before .before .before .before .before .args in
-    without-right (operandValues (lent (a .code .now) (a .pairs .now) (a .session .now) (a .entries .now)) (a .low)) (operandValues (lent (a .code .now) (a .pairs .now) (a .session .now) (a .entries .now)) (a .high)) (truth (leastBelowGreatest (a .equal) (operandValues (lent (a .code .now) (a .pairs .now) (a .session .now) (a .entries .now)) (a .low)) (operandValues (lent (a .code .now) (a .pairs .now) (a .session .now) (a .entries .now)) (a .high)))) (c .before .before .before .before .before .extreme .result .here) (c .before .before .before .before .before .extreme .ensures .0) (not-false _ (c .before .before .before .if1 .left)) (c .before .before .extreme2 .result .here) (c .before .before .extreme2 .ensures .0) (not-true _ (c .if2 .taken))
+returns-3 : tie.Need-returns-3
+returns-3 c =
+    let a = c .before .before .before .before .before .before .before .before .before .before .before .args in
+    let lend = lent (a .code .now) (a .pairs .now) (a .session .now) (a .entries .now) in
+    let low = operandValues lend (a .low) in
+    let high = operandValues lend (a .high) in
+    let said = orderOf (a .low .kind) (a .equal) low high in
+    let least = c .before .before .before .before .before .extreme in
+    let greatest = c .before .before .extreme2 in
+    without-right low high said (least .result .here) (least .ensures .0) (not-false _ (c .before .before .before .if2 .left))
+    (greatest .result .here) (greatest .ensures .0) (not-true _ (c .if3 .taken))
 
 tested-requires : tie.Need-tested-requires
 tested-requires c κs = search needs
 
-returns-3 : tie.Need-returns-3
-returns-3 c =
-    let a = c .before .before .before .before .before .before .before .before .before .before .before .before .before .args in
-    c .tested .ensures ∙ ap truth (ap₂ leb (c .before .before .before .before .before .before .before .before .before .extreme .ensures .1) (c .before .before .before .before .before .before .extreme2 .ensures .1) ∙ at-most (a .equal) (operandValues (lent (a .code .now) (a .pairs .now) (a .session .now) (a .entries .now)) (a .low)) (operandValues (lent (a .code .now) (a .pairs .now) (a .session .now) (a .entries .now)) (a .high)) (c .before .before .before .if3 .taken)) ∙ with-both (operandValues (lent (a .code .now) (a .pairs .now) (a .session .now) (a .entries .now)) (a .low)) (operandValues (lent (a .code .now) (a .pairs .now) (a .session .now) (a .entries .now)) (a .high)) (truth (leastBelowGreatest (a .equal) (operandValues (lent (a .code .now) (a .pairs .now) (a .session .now) (a .entries .now)) (a .low)) (operandValues (lent (a .code .now) (a .pairs .now) (a .session .now) (a .entries .now)) (a .high)))) (c .before .before .before .before .before .before .before .before .before .extreme .result .here) (c .before .before .before .before .before .before .before .before .before .extreme .ensures .0) (not-false _ (c .before .before .before .before .before .before .before .if1 .left)) (c .before .before .before .before .before .before .extreme2 .result .here) (c .before .before .before .before .before .before .extreme2 .ensures .0) (not-false _ (c .before .before .before .before .if2 .left))
+returns-4 : tie.Need-returns-4
+returns-4 c =
+    let a = c .before .before .before .before .before .before .before .before .before .before .before .before .before .before .before .args in
+    let lend = lent (a .code .now) (a .pairs .now) (a .session .now) (a .entries .now) in
+    let low = operandValues lend (a .low) in
+    let high = operandValues lend (a .high) in
+    let said = orderOf (a .low .kind) (a .equal) low high in
+    let least = c .before .before .before .before .before .before .before .before .before .extreme in
+    let greatest = c .before .before .before .before .before .before .extreme2 in
+    c .tested .ensures ∙ ap truth (ap₂ leb (least .ensures .1) (greatest .ensures .1))
+    ∙ at-most (a .low .kind) (a .equal) low high (c .before .before .before .before .before .before .before .before .before .before .if1 .left) (c .before .before .before .if4 .taken)
+    ∙ with-both low high said (least .result .here) (least .ensures .0) (not-false _ (c .before .before .before .before .before .before .before .if2 .left))
+    (greatest .result .here) (greatest .ensures .0) (not-false _ (c .before .before .before .before .if3 .left))
 
 tested-requires-2 : tie.Need-tested-requires-2
 tested-requires-2 c κs = search needs
 
-returns-4 : tie.Need-returns-4
-returns-4 c =
-    let a = c .before .before .before .before .before .before .before .before .before .before .before .before .before .args in
-    c .tested2 .ensures ∙ ap truth (ap₂ ltb (c .before .before .before .before .before .before .before .before .before .extreme .ensures .1) (c .before .before .before .before .before .before .extreme2 .ensures .1) ∙ strictly (a .equal) (operandValues (lent (a .code .now) (a .pairs .now) (a .session .now) (a .entries .now)) (a .low)) (operandValues (lent (a .code .now) (a .pairs .now) (a .session .now) (a .entries .now)) (a .high)) (c .before .before .before .if3 .left)) ∙ with-both (operandValues (lent (a .code .now) (a .pairs .now) (a .session .now) (a .entries .now)) (a .low)) (operandValues (lent (a .code .now) (a .pairs .now) (a .session .now) (a .entries .now)) (a .high)) (truth (leastBelowGreatest (a .equal) (operandValues (lent (a .code .now) (a .pairs .now) (a .session .now) (a .entries .now)) (a .low)) (operandValues (lent (a .code .now) (a .pairs .now) (a .session .now) (a .entries .now)) (a .high)))) (c .before .before .before .before .before .before .before .before .before .extreme .result .here) (c .before .before .before .before .before .before .before .before .before .extreme .ensures .0) (not-false _ (c .before .before .before .before .before .before .before .if1 .left)) (c .before .before .before .before .before .before .extreme2 .result .here) (c .before .before .before .before .before .before .extreme2 .ensures .0) (not-false _ (c .before .before .before .before .if2 .left))
+returns-5 : tie.Need-returns-5
+returns-5 c =
+    let a = c .before .before .before .before .before .before .before .before .before .before .before .before .before .before .before .args in
+    let lend = lent (a .code .now) (a .pairs .now) (a .session .now) (a .entries .now) in
+    let low = operandValues lend (a .low) in
+    let high = operandValues lend (a .high) in
+    let said = orderOf (a .low .kind) (a .equal) low high in
+    let least = c .before .before .before .before .before .before .before .before .before .extreme in
+    let greatest = c .before .before .before .before .before .before .extreme2 in
+    c .tested2 .ensures ∙ ap truth (ap₂ ltb (least .ensures .1) (greatest .ensures .1))
+    ∙ strictly (a .low .kind) (a .equal) low high (c .before .before .before .before .before .before .before .before .before .before .if1 .left) (c .before .before .before .if4 .left)
+    ∙ with-both low high said (least .result .here) (least .ensures .0) (not-false _ (c .before .before .before .before .before .before .before .if2 .left))
+    (greatest .result .here) (greatest .ensures .0) (not-false _ (c .before .before .before .before .if3 .left))
 
 pub below-spec : {M : Type 1} → statement M
 below-spec =
     tie.close
     (tie.spec
-    extreme-requires
     returns
-    extreme-requires-2
+    extreme-requires
     returns-2
-    tested-requires
+    extreme-requires-2
     returns-3
+    tested-requires
+    returns-4
     tested-requires-2
-    returns-4)
+    returns-5)

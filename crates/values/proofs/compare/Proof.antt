@@ -1,10 +1,10 @@
--- `values::compare` meets its contract: a way for each range of operator numbers. Assumes nothing.
+-- `values::compare` meets its contract: a way for each operator, `=` and IN in one. Assumes nothing.
 use Prim.Native.Nat.{_<_}
 use native.Mathlib.Omega.{arith}
-use mathlib.Core.Logic.{inl, inr, ⊎-elim}
+use mathlib.Core.Logic.{inl, inr}
 use borrow.Author.Needs.{needs}
 use Rattle.values.specs.Operands.{lent}
-use Rattle.values.proofs.Compared.{types-differ, by-equality, by-subset, by-order, by-nothing}
+use Rattle.values.proofs.Compared.{types-differ, by-nothing, by-equality, by-inequality, by-subset, by-less, by-at-most, by-greater, by-at-least}
 use Rattle.values.proofs.compare.Statement.{statement}
 use Rattle.values.proofs.compare.Tie as tie
 
@@ -13,53 +13,92 @@ returns c =
     let a = c .before .before .before .before .before .before .args in
     types-differ (lent (a .code .now) (a .pairs .now) (a .session .now) (a .entries .now)) (a .operator) (a .left) (a .right) (c .if1 .taken)
 
-order-requires : tie.Need-order-requires
-order-requires c κs = search needs
+none-found-requires : tie.Need-none-found-requires
+none-found-requires c κs = search needs
 
-returns-2 : tie.Need-returns-2
-returns-2 c =
-    let a = c .before .before .before .before .before .before .before .before .before .before .before .args in
-    by-order (lent (a .code .now) (a .pairs .now) (a .session .now) (a .entries .now)) (a .operator) (a .left) (a .right) (c .before .before .before .before .before .if1 .left) (omega arith) (omega arith) (c .order .result) (c .order .ensures)
+none-found-requires-2 : tie.Need-none-found-requires-2
+none-found-requires-2 c κs = search needs
 
-returns-3 : tie.Need-returns-3
-returns-3 c =
-    let a = c .before .before .before .before .before .before .before .before .args in
-    let h : a .operator < 16 = omega arith in
-    by-nothing (lent (a .code .now) (a .pairs .now) (a .session .now) (a .entries .now)) (a .operator) (a .left) (a .right) (c .before .before .if1 .left) (inl h)
+below-requires : tie.Need-below-requires
+below-requires c κs = search needs
 
-returns-4 : tie.Need-returns-4
-returns-4 c =
-    let a = c .before .before .before .before .before .before .before .before .before .before .args in
-    let h : 23 < a .operator = omega arith in
-    by-nothing (lent (a .code .now) (a .pairs .now) (a .session .now) (a .entries .now)) (a .operator) (a .left) (a .right) (c .before .before .before .before .if1 .left) (inr h)
+below-requires-2 : tie.Need-below-requires-2
+below-requires-2 c κs = search needs
+
+below-requires-3 : tie.Need-below-requires-3
+below-requires-3 c κs = search needs
+
+below-requires-4 : tie.Need-below-requires-4
+below-requires-4 c κs = search needs
 
 some-found-requires : tie.Need-some-found-requires
 some-found-requires c κs = search needs
 
-told-requires : tie.Need-told-requires
-told-requires c κs = search needs
+returns-2 : tie.Need-returns-2
+returns-2 c =
+    let a = c .before .before .before .before .before .before .before .before .args in
+    by-inequality (lent (a .code .now) (a .pairs .now) (a .session .now) (a .entries .now)) (a .operator) (a .left) (a .right) (c .before .before .if1 .left) (c .none-found .result) (c .before .match .keys1) (c .none-found .ensures)
+
+returns-3 : tie.Need-returns-3
+returns-3 c =
+    let a = c .before .before .before .before .before .before .before .before .args in
+    by-subset (lent (a .code .now) (a .pairs .now) (a .session .now) (a .entries .now)) (a .operator) (a .left) (a .right) (c .before .before .if1 .left) (c .none-found2 .result) (c .before .match .keys2) (c .none-found2 .ensures)
+
+returns-4 : tie.Need-returns-4
+returns-4 c =
+    let a = c .before .before .before .before .before .before .before .before .args in
+    by-less (lent (a .code .now) (a .pairs .now) (a .session .now) (a .entries .now)) (a .operator) (a .left) (a .right) (c .before .before .if1 .left) (c .below .result) (c .before .match .keys3) (c .below .ensures)
 
 returns-5 : tie.Need-returns-5
 returns-5 c =
+    let a = c .before .before .before .before .before .before .before .before .args in
+    by-at-most (lent (a .code .now) (a .pairs .now) (a .session .now) (a .entries .now)) (a .operator) (a .left) (a .right) (c .before .before .if1 .left) (c .below2 .result) (c .before .match .keys4) (c .below2 .ensures)
+
+returns-6 : tie.Need-returns-6
+returns-6 c =
+    let a = c .before .before .before .before .before .before .before .before .args in
+    by-greater (lent (a .code .now) (a .pairs .now) (a .session .now) (a .entries .now)) (a .operator) (a .left) (a .right) (c .before .before .if1 .left) (c .below3 .result) (c .before .match .keys5) (c .below3 .ensures)
+
+returns-7 : tie.Need-returns-7
+returns-7 c =
+    let a = c .before .before .before .before .before .before .before .before .args in
+    by-at-least (lent (a .code .now) (a .pairs .now) (a .session .now) (a .entries .now)) (a .operator) (a .left) (a .right) (c .before .before .if1 .left) (c .below4 .result) (c .before .match .keys6) (c .below4 .ensures)
+
+returns-8 : tie.Need-returns-8
+returns-8 c =
+    let a = c .before .before .before .before .before .before .before .before .before .before .args in
+    by-equality (lent (a .code .now) (a .pairs .now) (a .session .now) (a .entries .now)) (a .operator) (a .left) (a .right) (c .before .before .before .before .if1 .left) (c .some-found .result) (omega arith) (omega arith) (c .some-found .ensures)
+
+returns-9 : tie.Need-returns-9
+returns-9 c =
+    let a = c .before .before .before .before .before .before .before .before .args in
+    let h : a .operator < 16 = omega arith in
+    by-nothing (lent (a .code .now) (a .pairs .now) (a .session .now) (a .entries .now)) (a .operator) (a .left) (a .right) (inl h)
+
+returns-10 : tie.Need-returns-10
+returns-10 c =
     let a = c .before .before .before .before .before .before .before .before .before .args in
-    let lend = lent (a .code .now) (a .pairs .now) (a .session .now) (a .entries .now) in
-    let same = c .before .before .before .if1 .left in
-    let found = c .before .some-found in
-    let way = c .before .before .match in
-    ⊎-elim
-    (λ x. by-subset lend (a .operator) (a .left) (a .right) same (way .wanted) (found .result) (c .told .result) (found .ensures) (c .told .ensures) (x .0 .keys1) (x .1))
-    (λ x. by-equality lend (a .operator) (a .left) (a .right) same (way .wanted) (found .result) (c .told .result) (found .ensures) (c .told .ensures) (x .1 .left) (x .2 .taken) (x .3))
-    (way .came)
+    let h : 23 < a .operator = omega arith in
+    by-nothing (lent (a .code .now) (a .pairs .now) (a .session .now) (a .entries .now)) (a .operator) (a .left) (a .right) (inr h)
 
 pub compare-spec : {M : Type 1} → statement M
 compare-spec =
     tie.close
     (tie.spec
     returns
-    order-requires
+    none-found-requires
+    none-found-requires-2
+    below-requires
+    below-requires-2
+    below-requires-3
+    below-requires-4
+    some-found-requires
     returns-2
     returns-3
     returns-4
-    some-found-requires
-    told-requires
-    returns-5)
+    returns-5
+    returns-6
+    returns-7
+    returns-8
+    returns-9
+    returns-10)

@@ -10,13 +10,13 @@ use Rattle.values.proofs.entry_from.Tie as tie
 entry-number-requires : tie.Need-entry-number-requires
 entry-number-requires c κs = search needs
 
-none-found-requires : tie.Need-none-found-requires
-none-found-requires c κs = search needs
+nothing-requires : tie.Need-nothing-requires
+nothing-requires c κs = search needs
 
 returns : tie.Need-returns
 returns c =
     let a = c .before .before .before .before .args in
-    entry-end (a .entries .now) (a .kind) (a .k) (a .i) (c .before .before .entry-number .result) (c .before .before .entry-number .ensures) (c .none-found .result) (c .none-found .ensures) (c .before .if1 .taken)
+    entry-end (a .entries .now) (a .kind) (a .k) (a .i) (c .before .before .entry-number .result) (c .before .before .entry-number .ensures) (c .nothing .result) (c .nothing .ensures) (c .before .if1 .taken)
 
 mul-four : tie.Need-mul-four
 mul-four c = search needs
@@ -43,7 +43,7 @@ entry-from-spec =
     tie.close
     (tie.spec
     entry-number-requires
-    none-found-requires
+    nothing-requires
     returns
     mul-four
     add-four

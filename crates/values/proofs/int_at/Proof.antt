@@ -10,29 +10,29 @@ use borrow.Author.Needs.{needs}
 use Rattle.values.proofs.int_at.Statement.{statement}
 use Rattle.values.proofs.int_at.Tie as tie
 
-none-found-requires : tie.Need-none-found-requires
-none-found-requires c κs = search needs
+nothing-requires : tie.Need-nothing-requires
+nothing-requires c κs = search needs
 
 returns : tie.Need-returns
 returns c =
     let a = c .before .before .before .args in
-    c .none-found .ensures ∙ int-beyond (a .code .now) (a .end) (a .i) (c .before .if1 .taken)
+    c .nothing .ensures ∙ int-beyond (a .code .now) (a .end) (a .i) (c .before .if1 .taken)
 
-none-found-requires-2 : tie.Need-none-found-requires-2
-none-found-requires-2 c κs = search needs
+nothing-requires-2 : tie.Need-nothing-requires-2
+nothing-requires-2 c κs = search needs
 
 returns-2 : tie.Need-returns-2
 returns-2 c =
     let a = c .before .before .before .before .args in
-    c .none-found2 .ensures ∙ int-short (a .code .now) (a .end) (a .i) (omega arith) (omega arith)
+    c .nothing2 .ensures ∙ int-short (a .code .now) (a .end) (a .i) (omega arith) (omega arith)
 
-none-found-requires-3 : tie.Need-none-found-requires-3
-none-found-requires-3 c κs = search needs
+nothing-requires-3 : tie.Need-nothing-requires-3
+nothing-requires-3 c κs = search needs
 
 returns-3 : tie.Need-returns-3
 returns-3 c =
     let a = c .before .before .before .before .before .args in
-    c .none-found3 .ensures ∙ int-short (a .code .now) (a .end) (a .i) (omega arith) (omega arith)
+    c .nothing3 .ensures ∙ int-short (a .code .now) (a .end) (a .i) (omega arith) (omega arith)
 
 add-four : tie.Need-add-four
 add-four c = search needs
@@ -55,11 +55,11 @@ pub int-at-spec : {M : Type 1} → statement M
 int-at-spec =
     tie.close
     (tie.spec
-    none-found-requires
+    nothing-requires
     returns
-    none-found-requires-2
+    nothing-requires-2
     returns-2
-    none-found-requires-3
+    nothing-requires-3
     returns-3
     add-four
     four-requires

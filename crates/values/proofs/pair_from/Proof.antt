@@ -5,13 +5,13 @@ use borrow.Author.Needs.{needs}
 use Rattle.values.proofs.pair_from.Statement.{statement}
 use Rattle.values.proofs.pair_from.Tie as tie
 
-none-found-requires : tie.Need-none-found-requires
-none-found-requires c κs = search needs
+nothing-requires : tie.Need-nothing-requires
+nothing-requires c κs = search needs
 
 returns : tie.Need-returns
 returns c =
     let a = c .before .before .before .args in
-    no-words (a .pairs .now) (a .session .now) (a .k) (a .i) (c .none-found .result) (c .none-found .ensures) (c .before .if1 .taken)
+    no-words (a .pairs .now) (a .session .now) (a .k) (a .i) (c .nothing .result) (c .nothing .ensures) (c .before .if1 .taken)
 
 mul-start : tie.Need-mul-start
 mul-start c = search needs
@@ -37,13 +37,13 @@ part-first-from-end c = search needs
 first-from-requires : tie.Need-first-from-requires
 first-from-requires c κs = search needs
 
-none-found-requires-2 : tie.Need-none-found-requires-2
-none-found-requires-2 c κs = search needs
+nothing-requires-2 : tie.Need-nothing-requires-2
+nothing-requires-2 c κs = search needs
 
 returns-2 : tie.Need-returns-2
 returns-2 c =
     let a = c .before .before .before .before .before .before .before .args in
-    words-end (a .pairs .now) (a .session .now) (a .k) (a .i) (omega arith) (omega arith) (c .before .before .first-from .result) (c .before .before .first-from .ensures) (c .none-found2 .result) (c .none-found2 .ensures) (c .before .if2 .taken)
+    words-end (a .pairs .now) (a .session .now) (a .k) (a .i) (omega arith) (omega arith) (c .before .before .first-from .result) (c .before .before .first-from .ensures) (c .nothing2 .result) (c .nothing2 .ensures) (c .before .if2 .taken)
 
 mul-t13 : tie.Need-mul-t13
 mul-t13 c = search needs
@@ -93,7 +93,7 @@ pub pair-from-spec : {M : Type 1} → statement M
 pair-from-spec =
     tie.close
     (tie.spec
-    none-found-requires
+    nothing-requires
     returns
     mul-start
     mul-end
@@ -103,7 +103,7 @@ pair-from-spec =
     part-first-from-start
     part-first-from-end
     first-from-requires
-    none-found-requires-2
+    nothing-requires-2
     returns-2
     mul-t13
     add-t11

@@ -7,29 +7,29 @@ use borrow.Author.Needs.{needs}
 use Rattle.values.proofs.str_at.Statement.{statement}
 use Rattle.values.proofs.str_at.Tie as tie
 
-none-found-requires : tie.Need-none-found-requires
-none-found-requires c κs = search needs
+nothing-requires : tie.Need-nothing-requires
+nothing-requires c κs = search needs
 
 returns : tie.Need-returns
 returns c =
     let a = c .before .before .before .args in
-    c .none-found .ensures ∙ str-beyond (a .code .now) (a .end) (a .i) (c .before .if1 .taken)
+    c .nothing .ensures ∙ str-beyond (a .code .now) (a .end) (a .i) (c .before .if1 .taken)
 
-none-found-requires-2 : tie.Need-none-found-requires-2
-none-found-requires-2 c κs = search needs
+nothing-requires-2 : tie.Need-nothing-requires-2
+nothing-requires-2 c κs = search needs
 
 returns-2 : tie.Need-returns-2
 returns-2 c =
     let a = c .before .before .before .before .args in
-    c .none-found2 .ensures ∙ str-short (a .code .now) (a .end) (a .i) (omega arith) (omega arith)
+    c .nothing2 .ensures ∙ str-short (a .code .now) (a .end) (a .i) (omega arith) (omega arith)
 
-none-found-requires-3 : tie.Need-none-found-requires-3
-none-found-requires-3 c κs = search needs
+nothing-requires-3 : tie.Need-nothing-requires-3
+nothing-requires-3 c κs = search needs
 
 returns-3 : tie.Need-returns-3
 returns-3 c =
     let a = c .before .before .before .before .before .args in
-    c .none-found3 .ensures ∙ str-short (a .code .now) (a .end) (a .i) (omega arith) (omega arith)
+    c .nothing3 .ensures ∙ str-short (a .code .now) (a .end) (a .i) (omega arith) (omega arith)
 
 add-start : tie.Need-add-start
 add-start c = search needs
@@ -43,24 +43,24 @@ shared-slice-read-n c = search needs
 cast-n : tie.Need-cast-n
 cast-n c = omega (arith, c .shared-slice-known2 .given (c .before .before .before .before .before .args .i + 1))
 
-none-found-requires-4 : tie.Need-none-found-requires-4
-none-found-requires-4 c κs = search needs
+nothing-requires-4 : tie.Need-nothing-requires-4
+nothing-requires-4 c κs = search needs
 
 returns-4 : tie.Need-returns-4
 returns-4 c =
     let a = c .before .before .before .before .before .before .before .args in
-    c .none-found4 .ensures ∙ str-long (a .code .now) (a .end) (a .i) (omega arith) (omega arith) (c .before .if4 .taken)
+    c .nothing4 .ensures ∙ str-long (a .code .now) (a .end) (a .i) (omega arith) (omega arith) (c .before .if4 .taken)
 
 add-past : tie.Need-add-past
 add-past c = search needs
 
-none-found-requires-5 : tie.Need-none-found-requires-5
-none-found-requires-5 c κs = search needs
+nothing-requires-5 : tie.Need-nothing-requires-5
+nothing-requires-5 c κs = search needs
 
 returns-5 : tie.Need-returns-5
 returns-5 c =
     let a = c .before .before .before .before .before .before .before .before .args in
-    c .none-found5 .ensures ∙ str-cut (a .code .now) (a .end) (a .i) (omega arith) (omega arith) (c .before .before .if4 .left) (c .before .if5 .taken)
+    c .nothing5 .ensures ∙ str-cut (a .code .now) (a .end) (a .i) (omega arith) (omega arith) (c .before .before .if4 .left) (c .before .if5 .taken)
 
 sub-words-of : tie.Need-sub-words-of
 sub-words-of c = search needs
@@ -86,20 +86,20 @@ pub str-at-spec : {M : Type 1} → statement M
 str-at-spec =
     tie.close
     (tie.spec
-    none-found-requires
+    nothing-requires
     returns
-    none-found-requires-2
+    nothing-requires-2
     returns-2
-    none-found-requires-3
+    nothing-requires-3
     returns-3
     add-start
     add-n
     shared-slice-read-n
     cast-n
-    none-found-requires-4
+    nothing-requires-4
     returns-4
     add-past
-    none-found-requires-5
+    nothing-requires-5
     returns-5
     sub-words-of
     part-words-of-start
