@@ -170,3 +170,28 @@ module _ (kind : ℕ) (code : Bytes) (end : ℕ) where
           ap (λ (n : ℕ). constantsWithin n kind code end i) s ∙ within-step (length code - suc i) i ∙ step-here (length code - suc i) i t
           ∙ ap (λ (l : List Words). constantAt kind code end i .words ∷ l)
           (same-within (length code - suc i) (length code - constantAt kind code end i .next) (constantAt kind code end i .next) (omega arith) (omega arith))
+
+-- those of one type: ints are all that are no strs
+module _ (code : Bytes) (end i : ℕ) (r : Found) where
+  pub ints-find : r ≡ intAt code end i → Finds (constantsFrom 1 code end) i r
+  ints-find e = constants-find 1 code end i r (e ∙ as-int 1 code end i (λ z. omega arith))
+
+  pub strs-find : r ≡ strAt code end i → Finds (constantsFrom 2 code end) i r
+  strs-find e = constants-find 2 code end i r (e ∙ as-str 2 code end i refl)
+
+module _ (kind : ℕ) (code : Bytes) (end i : ℕ) where
+  pub strs-of : kind ≡ 2 → constantsFrom 2 code end i ≡ constantsFrom kind code end i
+  strs-of e = ap (λ (k : ℕ). constantsFrom k code end i) (sym e)
+
+  pub ints-of : (kind ≡ 2 → ⊥) → constantsFrom 1 code end i ≡ constantsFrom kind code end i
+  unfolding constantsWithin
+  ints-of f = go (length code - i) i
+    where
+      at : (j : ℕ) → constantAt 1 code end j ≡ constantAt kind code end j
+      at j = sym (as-int 1 code end j (λ z. omega arith)) ∙ as-int kind code end j f
+
+      go : (n j : ℕ) → constantsWithin n 1 code end j ≡ constantsWithin n kind code end j
+      go zero j = refl
+      go (suc n) j =
+          ap (λ (x : Found). if x .here then x .words ∷ constantsWithin n 1 code end (x .next) else []) (at j)
+          ∙ ap (λ (l : List Words). if constantAt kind code end j .here then constantAt kind code end j .words ∷ l else []) (go n (constantAt kind code end j .next))

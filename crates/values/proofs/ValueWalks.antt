@@ -10,20 +10,12 @@ use Rattle.model.specs.Truth as model
 use Rattle.text.specs.declared.Words.{Words}
 use Rattle.values.specs.declared.Found.{Found}
 use Rattle.values.specs.Operands.{Finds}
-use Rattle.values.specs.Compared.{further, extremeFrom, orNext, isFalse, atEnd, soughtFrom}
+use Rattle.values.specs.Compared.{further, extremeFrom, worst, Extreme, orNext, isFalse, atEnd, soughtFrom}
 
 module _ (from : ℕ → List Words) (i : ℕ) (r : Found) (finds : Finds from i r) where
   -- fewer values are left
   pub fewer : r .here ≡ true → length (from (r .next)) < length (from i)
   fewer t = omega (arith, ap length (finds .more t))
-
-  -- whether there was a value, here or before
-  module _ (some : Bool) where
-    pub some-none : r .here ≡ false → (some || not (isEmpty (from i))) ≡ some
-    some-none t = ap (λ (l : List Words). some || not (isEmpty l)) (finds .none t) ∙ or-false some
-
-    pub some-more : r .here ≡ true → (some || not (isEmpty (from i))) ≡ true
-    some-more t = ap (λ (l : List Words). some || not (isEmpty l)) (finds .more t) ∙ or-true some
 
   -- a search among the values
   module _ (answer : Words → model.Truth) (some : Bool) where
@@ -51,12 +43,28 @@ module _ (from : ℕ → List Words) (i : ℕ) (r : Found) (finds : Finds from i
         go model.UNDEF f = absurd (true≢false (sym f))
         go model.TRUE f = absurd (true≢false (sym f))
 
-  -- the greatest or the least so far
-  module _ (greatest : Bool) (best : ℕ) where
-    pub best-none : r .here ≡ false → extremeFrom greatest best (from i) ≡ best
-    unfolding extremeFrom
-    best-none t = ap (extremeFrom greatest best) (finds .none t)
+-- ---- a walk to the greatest or the least
 
-    pub best-on : r .here ≡ true → extremeFrom greatest best (from i) ≡ extremeFrom greatest (further greatest best (r .words .first)) (from (r .next))
-    unfolding extremeFrom
-    best-on t = ap (extremeFrom greatest best) (finds .more t)
+-- what was seen before position i, and the values from there on, give what all from `start` on give
+abbrev pub Nearing : (ℕ → List Words) → Bool → ℕ → Bool → ℕ → ℕ → Type 0
+Nearing from greatest start some best i =
+    ((some || not (isEmpty (from i))) ≡ not (isEmpty (from start))) × (extremeFrom greatest best (from i) ≡ extremeFrom greatest (worst greatest) (from start))
+
+pub nearing-start : (from : ℕ → List Words) (greatest : Bool) (start best : ℕ) → best ≡ worst greatest → Nearing from greatest start false best start
+nearing-start from greatest start best e = (refl, ap (λ (b : ℕ). extremeFrom greatest b (from start)) e)
+
+module _ (from : ℕ → List Words) (i : ℕ) (r : Found) (finds : Finds from i r) (greatest : Bool) (start : ℕ) (some : Bool) (best : ℕ) (so-far : Nearing from greatest start some best i) where
+  pub nearing-end : r .here ≡ false → Extreme greatest (from start) (record { here = some; number = best })
+  unfolding extremeFrom
+  nearing-end t =
+      record {
+        there = sym (ap (λ (l : List Words). some || not (isEmpty l)) (finds .none t) ∙ or-false some) ∙ so-far .0;
+        number-is = sym (ap (extremeFrom greatest best) (finds .none t)) ∙ so-far .1;
+      }
+
+  pub nearing-on : r .here ≡ true → (next : ℕ) → next ≡ further greatest best (r .words .first) → Nearing from greatest start true next (r .next)
+  unfolding extremeFrom
+  nearing-on t next e = (
+    sym (ap (λ (l : List Words). some || not (isEmpty l)) (finds .more t) ∙ or-true some) ∙ so-far .0,
+    ap (λ (b : ℕ). extremeFrom greatest b (from (r .next))) e ∙ sym (ap (extremeFrom greatest best) (finds .more t)) ∙ so-far .1,
+  )

@@ -17,6 +17,7 @@ use Rattle.truth.specs.Truths.{truthOf}
 use Rattle.text.specs.declared.Words.{Words}
 use Rattle.text.specs.Values.{sameWords}
 use Rattle.values.specs.declared.Operand.{Operand}
+use Rattle.values.specs.declared.Bound.{Bound}
 use Rattle.values.specs.Operands.{Lent, operandValues, Stands}
 
 -- the greater of two numbers, or the less
@@ -39,6 +40,11 @@ greatestOf values = extremeFrom true (worst true) values
 
 abbrev pub leastOf : List Words → ℕ
 leastOf values = extremeFrom false (worst false) values
+
+-- r says whether there is a value, and has the greatest, or the least, of those that are there
+pub record Extreme (greatest : Bool) (values : List Words) (r : Bound) : Type 0 where
+  pub there : r .here ≡ not (isEmpty values)
+  pub number-is : r .number ≡ extremeFrom greatest (worst greatest) values
 
 -- the least of some values is below the greatest of others, or with `equal` not above it
 unfoldable pub leastBelowGreatest : Bool → List Words → List Words → Bool

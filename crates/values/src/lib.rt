@@ -1,18 +1,17 @@
 // Operands: where the values are that stand beside an operator; and their comparison. Nothing is copied: an operand is a few numbers, and its
 // values are found one after another where they are lent.
 ghost use mathlib.Core.Path.{_≡_};
-ghost use mathlib.Core.Bool.{true, false, not};
+ghost use mathlib.Core.Bool.{true, false};
 ghost use Prim.Native.Nat.{_+_, _*_, _/_, _<_, _≤_};
 ghost use lib.Dec.{eqb};
 ghost use lib.ListN.{length};
-ghost use Rattle.model.specs.Notation.{isEmpty};
 ghost use Rattle.model.specs.Block.{byteAt, valueAt};
 ghost use Rattle.model.specs.Truth.{NOT};
 ghost use Rattle.truth.specs.Truths.{truthOf};
 ghost use Rattle.text.specs.Values.{words, sameWords};
 ghost use Rattle.values.specs.Operands.{lent, First, wordsFrom, entryWords, entriesFrom, intAt, strAt, constantsFrom, valuesFrom, firstOf};
 ghost use Rattle.values.specs.Operands.{operandValues, Finds, nothing, operand, noValues, rowType, attributeOperand};
-ghost use Rattle.values.specs.Compared.{further, worst, extremeFrom, isFalse, atEnd, amongOf, asked, foundOf, belowOf, Compared, Lone};
+ghost use Rattle.values.specs.Compared.{further, worst, Extreme, isFalse, atEnd, amongOf, asked, foundOf, belowOf, Compared, Lone};
 use codes::AT_LEAST;
 use codes::AT_MOST;
 use codes::BOOL;
@@ -321,14 +320,14 @@ fn among_entries(entries: &[u8], kind: u8, wanted: Words, k: usize) -> Truth
     }
 }
 
-// Whether a value is among the constants from byte `start` up to byte `end`.
-fn among_constants(code: &[u8], kind: u8, wanted: Words, start: usize, end: usize) -> Truth
-    ensures { λ r. ⌜ truthOf r ≡ amongOf (constantsFrom kind (now (code .entry)) end start) wanted ⌝ }
+// Whether a value is among the int constants from byte `start` up to byte `end`.
+fn among_ints(code: &[u8], wanted: Words, start: usize, end: usize) -> Truth
+    ensures { λ r. ⌜ truthOf r ≡ amongOf (constantsFrom 1 (now (code .entry)) end start) wanted ⌝ }
 {
     let mut some = false;
     let mut i = start;
     loop {
-        let f = constant_from(code, kind, end, i);
+        let f = int_at(code, end, i);
         if !f.here {
             return at_end(some);
         }
@@ -341,7 +340,38 @@ fn among_constants(code: &[u8], kind: u8, wanted: Words, start: usize, end: usiz
     }
 }
 
-// Whether a value is among those of an operand. Each place has its loop, so that the compiler sets the finder into it.
+// Whether a value is among the str constants from byte `start` up to byte `end`.
+fn among_strs(code: &[u8], wanted: Words, start: usize, end: usize) -> Truth
+    ensures { λ r. ⌜ truthOf r ≡ amongOf (constantsFrom 2 (now (code .entry)) end start) wanted ⌝ }
+{
+    let mut some = false;
+    let mut i = start;
+    loop {
+        let f = str_at(code, end, i);
+        if !f.here {
+            return at_end(some);
+        }
+        let words = f.words;
+        if same(wanted, words) {
+            return Truth::True;
+        }
+        some = true;
+        i = f.next;
+    }
+}
+
+// Whether a value is among the constants from byte `start` up to byte `end`.
+fn among_constants(code: &[u8], kind: u8, wanted: Words, start: usize, end: usize) -> Truth
+    ensures { λ r. ⌜ truthOf r ≡ amongOf (constantsFrom kind (now (code .entry)) end start) wanted ⌝ }
+{
+    if kind == STR {
+        among_strs(code, wanted, start, end)
+    } else {
+        among_ints(code, wanted, start, end)
+    }
+}
+
+// Whether a value is among those of an operand. Each place has its own loop, so that the compiler sets the finder into it.
 fn among(
     code: &[u8],
     pairs: &[u64],
@@ -448,23 +478,16 @@ fn start_of(greatest: bool) -> u64
     if greatest { 0 } else { LARGEST }
 }
 
-// The greatest of an operand's values, or the least, where they are ints; and whether there is one.
-fn extreme(
-    code: &[u8],
-    pairs: &[u64],
-    session: &[u64; 128],
-    entries: &[u8],
-    operand: Operand,
-    greatest: bool,
-) -> Bound
+// The greatest of the ints that the session has of attribute k, or the least; and whether there is one.
+fn extreme_pairs(pairs: &[u64], session: &[u64; 128], k: usize, greatest: bool) -> Bound
     requires { ⌜ length (now pairs) ≡ 1024 ⌝ }
-    ensures { λ r. ⌜ (r .here ≡ not (isEmpty (operandValues (lent (now (code .entry)) (now (pairs .entry)) (now (session .entry)) (now (entries .entry))) operand))) × (r .number ≡ extremeFrom greatest (worst greatest) (operandValues (lent (now (code .entry)) (now (pairs .entry)) (now (session .entry)) (now (entries .entry))) operand)) ⌝ }
+    ensures { λ r. ⌜ Extreme greatest (wordsFrom (now (pairs .entry)) (now (session .entry)) k 0) r ⌝ }
 {
     let mut some = false;
     let mut best = start_of(greatest);
-    let mut i = first(operand);
+    let mut i: usize = 0;
     loop {
-        let f = value_from(code, pairs, session, entries, operand, i);
+        let f = pair_from(pairs, session, k, i);
         if !f.here {
             return Bound {
                 here: some,
@@ -475,6 +498,70 @@ fn extreme(
         best = further(greatest, best, words.first);
         some = true;
         i = f.next;
+    }
+}
+
+// The greatest of the ints that the entries have of attribute k, or the least.
+fn extreme_entries(entries: &[u8], k: usize, greatest: bool) -> Bound
+    ensures { λ r. ⌜ Extreme greatest (entriesFrom (now (entries .entry)) 1 k 0) r ⌝ }
+{
+    let mut some = false;
+    let mut best = start_of(greatest);
+    let mut i: usize = 0;
+    loop {
+        let f = entry_from(entries, INT, k, i);
+        if !f.here {
+            return Bound {
+                here: some,
+                number: best,
+            };
+        }
+        let words = f.words;
+        best = further(greatest, best, words.first);
+        some = true;
+        i = f.next;
+    }
+}
+
+// The greatest of the int constants from byte `start` up to byte `end`, or the least.
+fn extreme_ints(code: &[u8], start: usize, end: usize, greatest: bool) -> Bound
+    ensures { λ r. ⌜ Extreme greatest (constantsFrom 1 (now (code .entry)) end start) r ⌝ }
+{
+    let mut some = false;
+    let mut best = start_of(greatest);
+    let mut i = start;
+    loop {
+        let f = int_at(code, end, i);
+        if !f.here {
+            return Bound {
+                here: some,
+                number: best,
+            };
+        }
+        let words = f.words;
+        best = further(greatest, best, words.first);
+        some = true;
+        i = f.next;
+    }
+}
+
+// The greatest of an operand's values, which are ints, or the least.
+fn extreme(
+    code: &[u8],
+    pairs: &[u64],
+    session: &[u64; 128],
+    entries: &[u8],
+    operand: Operand,
+    greatest: bool,
+) -> Bound
+    requires { ⌜ (length (now pairs) ≡ 1024) × (operand .kind ≡ 1) ⌝ }
+    ensures { λ r. ⌜ Extreme greatest (operandValues (lent (now (code .entry)) (now (pairs .entry)) (now (session .entry)) (now (entries .entry))) operand) r ⌝ }
+{
+    let place = operand.place;
+    match place {
+        WORDS => extreme_pairs(pairs, session, operand.start, greatest),
+        ENTRIES => extreme_entries(entries, operand.start, greatest),
+        _ => extreme_ints(code, operand.start, operand.end, greatest),
     }
 }
 
@@ -489,7 +576,7 @@ fn below(
     high: Operand,
     equal: bool,
 ) -> Truth
-    requires { ⌜ length (now pairs) ≡ 1024 ⌝ }
+    requires { ⌜ (length (now pairs) ≡ 1024) × (low .kind ≡ high .kind) ⌝ }
     ensures { λ r. ⌜ truthOf r ≡ belowOf (lent (now (code .entry)) (now (pairs .entry)) (now (session .entry)) (now (entries .entry))) equal low high ⌝ }
 {
     if low.kind != INT {

@@ -1,83 +1,28 @@
 -- `values::among_constants` meets its contract. Assumes nothing.
-use mathlib.Core.Path.{_≡_, refl, sym, ap, _∙_}
-use mathlib.Core.Bool.{Bool}
-use lib.ListN.{length}
-use borrow.Author.Tests.{not-true, not-false}
+use mathlib.Core.Path.{ap, _∙_}
+use mathlib.Core.List.{List}
 use borrow.Author.Needs.{needs}
-use Rattle.model.specs.Truth as model
-use Rattle.model.specs.Truth.{truth}
 use Rattle.text.specs.declared.Words.{Words}
-use Rattle.text.specs.Values.{sameWords}
-use Rattle.values.specs.Operands.{constantsFrom}
-use Rattle.values.specs.Compared.{isFalse, soughtFrom, amongOf}
-use Rattle.values.proofs.ValueWalks.{fewer, sought-none, sought-here, sought-on}
+use Rattle.values.specs.Compared.{amongOf}
+use Rattle.values.proofs.Constants.{strs-of, ints-of}
 use Rattle.values.proofs.among_constants.Statement.{statement}
 use Rattle.values.proofs.among_constants.Tie as tie
 
-abbrev Inv-loop : tie.InvT-loop
-Inv-loop code kind wanted start end some₀ i₀ some i = soughtFrom (λ (v : Words). truth (sameWords wanted v)) some (constantsFrom kind code end i) ≡ amongOf (constantsFrom kind code end start) wanted
+among-strs-requires : tie.Need-among-strs-requires
+among-strs-requires c κs = search needs
 
-abbrev μ-loop : tie.MeasureT-loop
-μ-loop code kind wanted start end some₀ i₀ some i = length (constantsFrom kind code end i)
+among-ints-requires : tie.Need-among-ints-requires
+among-ints-requires c κs = search needs
 
-loop-holds : tie.Need-loop-holds Inv-loop μ-loop
-unfolding amongOf
-loop-holds c = refl
-
-constant-from-requires : tie.Need-constant-from-requires Inv-loop μ-loop
-constant-from-requires c κs = search needs
-
-at-end-requires : tie.Need-at-end-requires Inv-loop μ-loop
-at-end-requires c κs = search needs
-
-returns : tie.Need-returns Inv-loop μ-loop
+returns : tie.Need-returns
 returns c =
-    let a = c .before .before .before .before .before .before .args in
-    let here = c .before .before .before .before .loop in
-    let found = c .before .before .before .constant-from in
-    c .at-end .ensures
-    ∙ sym (sought-none (constantsFrom (a .kind) (a .code .now) (a .end)) (here .i) (found .result) (found .ensures) (λ (v : Words). truth (sameWords (a .wanted) v)) (here .some) (not-true _ (c .before .if1 .taken)))
-    ∙ here .inv
+    let a = c .before .before .before .args in
+    c .among-strs .ensures ∙ ap (λ (l : List Words). amongOf l (a .wanted)) (strs-of (a .kind) (a .code .now) (a .end) (a .start) (c .before .if1 .taken))
 
-same-requires : tie.Need-same-requires Inv-loop μ-loop
-same-requires c κs = search needs
-
-returns-2 : tie.Need-returns-2 Inv-loop μ-loop
+returns-2 : tie.Need-returns-2
 returns-2 c =
-    let a = c .before .before .before .before .before .before .before .before .args in
-    let here = c .before .before .before .before .before .before .loop in
-    let found = c .before .before .before .before .before .constant-from in
-    let e : truth (sameWords (a .wanted) (found .result .words)) ≡ model.TRUE = ap truth (sym (c .before .same .ensures) ∙ c .if2 .taken) in
-    sym e
-    ∙ sym (sought-here (constantsFrom (a .kind) (a .code .now) (a .end)) (here .i) (found .result) (found .ensures) (λ (v : Words). truth (sameWords (a .wanted) v)) (here .some) (not-false _ (c .before .before .before .if1 .left)) (ap isFalse e))
-    ∙ here .inv
-
-loop-less : tie.Need-loop-less Inv-loop μ-loop
-loop-less c =
-    let a = c .before .before .before .before .before .before .before .before .args in
-    let found = c .before .before .before .before .before .constant-from in
-    fewer (constantsFrom (a .kind) (a .code .now) (a .end)) (c .before .before .before .before .before .before .loop .i) (found .result) (found .ensures) (not-false _ (c .before .before .before .if1 .left))
-
-loop-again : tie.Need-loop-again Inv-loop μ-loop
-loop-again c =
-    let a = c .before .before .before .before .before .before .before .before .args in
-    let here = c .before .before .before .before .before .before .loop in
-    let found = c .before .before .before .before .before .constant-from in
-    sym (sought-on (constantsFrom (a .kind) (a .code .now) (a .end)) (here .i) (found .result) (found .ensures) (λ (v : Words). truth (sameWords (a .wanted) v)) (here .some) (not-false _ (c .before .before .before .if1 .left))
-    (ap (λ (b : Bool). isFalse (truth b)) (sym (c .before .same .ensures) ∙ c .if2 .left)))
-    ∙ here .inv
+    let a = c .before .before .before .args in
+    c .among-ints .ensures ∙ ap (λ (l : List Words). amongOf l (a .wanted)) (ints-of (a .kind) (a .code .now) (a .end) (a .start) (c .before .if1 .left))
 
 pub among-constants-spec : {M : Type 1} → statement M
-among-constants-spec =
-    tie.close
-    (tie.spec
-    Inv-loop
-    μ-loop
-    loop-holds
-    constant-from-requires
-    at-end-requires
-    returns
-    same-requires
-    returns-2
-    loop-less
-    loop-again)
+among-constants-spec = tie.close (tie.spec among-strs-requires among-ints-requires returns returns-2)

@@ -55,8 +55,9 @@ returns-2 c =
 loop-less : tie.Need-loop-less Inv-loop μ-loop
 loop-less c =
     let a = c .before .before .before .before .before .before .before .before .args in
+    let here = c .before .before .before .before .before .before .loop in
     let found = c .before .before .before .before .before .entry-from in
-    fewer (entriesFrom (a .entries .now) (a .kind) (a .k)) (c .before .before .before .before .before .before .loop .i) (found .result) (found .ensures) (not-false _ (c .before .before .before .if1 .left))
+    fewer (entriesFrom (a .entries .now) (a .kind) (a .k)) (here .i) (found .result) (found .ensures) (not-false _ (c .before .before .before .if1 .left))
 
 loop-again : tie.Need-loop-again Inv-loop μ-loop
 loop-again c =

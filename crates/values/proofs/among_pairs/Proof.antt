@@ -55,8 +55,9 @@ returns-2 c =
 loop-less : tie.Need-loop-less Inv-loop μ-loop
 loop-less c =
     let a = c .before .before .before .before .before .before .before .before .args in
+    let here = c .before .before .before .before .before .before .loop in
     let found = c .before .before .before .before .before .pair-from in
-    fewer (wordsFrom (a .pairs .now) (a .session .now) (a .k)) (c .before .before .before .before .before .before .loop .i) (found .result) (found .ensures) (not-false _ (c .before .before .before .if1 .left))
+    fewer (wordsFrom (a .pairs .now) (a .session .now) (a .k)) (here .i) (found .result) (found .ensures) (not-false _ (c .before .before .before .if1 .left))
 
 loop-again : tie.Need-loop-again Inv-loop μ-loop
 loop-again c =

@@ -1,5 +1,5 @@
 -- `values::below` meets its contract. Assumes nothing.
-use mathlib.Core.Path.{ap, ap₂, _∙_}
+use mathlib.Core.Path.{sym, ap, ap₂, _∙_}
 use lib.Dec.{leb, ltb}
 use borrow.Author.Tests.{not-true, not-false}
 use borrow.Author.Needs.{needs}
@@ -17,7 +17,7 @@ returns c =
     not-ints (a .low .kind) (a .equal) (operandValues lend (a .low)) (operandValues lend (a .high)) (c .if1 .taken)
 
 extreme-requires : tie.Need-extreme-requires
-extreme-requires c κs = search needs
+extreme-requires c κs = (search needs, c .if1 .left)
 
 returns-2 : tie.Need-returns-2
 returns-2 c =
@@ -27,10 +27,10 @@ returns-2 c =
     let high = operandValues lend (a .high) in
     let said = orderOf (a .low .kind) (a .equal) low high in
     let least = c .before .before .extreme in
-    without-left low high said (least .result .here) (least .ensures .0) (not-true _ (c .if2 .taken))
+    without-left low high said (least .result .here) (least .ensures .there) (not-true _ (c .if2 .taken))
 
 extreme-requires-2 : tie.Need-extreme-requires-2
-extreme-requires-2 c κs = search needs
+extreme-requires-2 c κs = (search needs, sym (c .before .before .before .before .before .before .before .before .pre .1) ∙ c .before .before .before .if1 .left)
 
 returns-3 : tie.Need-returns-3
 returns-3 c =
@@ -41,8 +41,8 @@ returns-3 c =
     let said = orderOf (a .low .kind) (a .equal) low high in
     let least = c .before .before .before .before .before .extreme in
     let greatest = c .before .before .extreme2 in
-    without-right low high said (least .result .here) (least .ensures .0) (not-false _ (c .before .before .before .if2 .left))
-    (greatest .result .here) (greatest .ensures .0) (not-true _ (c .if3 .taken))
+    without-right low high said (least .result .here) (least .ensures .there) (not-false _ (c .before .before .before .if2 .left))
+    (greatest .result .here) (greatest .ensures .there) (not-true _ (c .if3 .taken))
 
 tested-requires : tie.Need-tested-requires
 tested-requires c κs = search needs
@@ -56,10 +56,10 @@ returns-4 c =
     let said = orderOf (a .low .kind) (a .equal) low high in
     let least = c .before .before .before .before .before .before .before .before .before .extreme in
     let greatest = c .before .before .before .before .before .before .extreme2 in
-    c .tested .ensures ∙ ap truth (ap₂ leb (least .ensures .1) (greatest .ensures .1))
+    c .tested .ensures ∙ ap truth (ap₂ leb (least .ensures .number-is) (greatest .ensures .number-is))
     ∙ at-most (a .low .kind) (a .equal) low high (c .before .before .before .before .before .before .before .before .before .before .if1 .left) (c .before .before .before .if4 .taken)
-    ∙ with-both low high said (least .result .here) (least .ensures .0) (not-false _ (c .before .before .before .before .before .before .before .if2 .left))
-    (greatest .result .here) (greatest .ensures .0) (not-false _ (c .before .before .before .before .if3 .left))
+    ∙ with-both low high said (least .result .here) (least .ensures .there) (not-false _ (c .before .before .before .before .before .before .before .if2 .left))
+    (greatest .result .here) (greatest .ensures .there) (not-false _ (c .before .before .before .before .if3 .left))
 
 tested-requires-2 : tie.Need-tested-requires-2
 tested-requires-2 c κs = search needs
@@ -73,10 +73,10 @@ returns-5 c =
     let said = orderOf (a .low .kind) (a .equal) low high in
     let least = c .before .before .before .before .before .before .before .before .before .extreme in
     let greatest = c .before .before .before .before .before .before .extreme2 in
-    c .tested2 .ensures ∙ ap truth (ap₂ ltb (least .ensures .1) (greatest .ensures .1))
+    c .tested2 .ensures ∙ ap truth (ap₂ ltb (least .ensures .number-is) (greatest .ensures .number-is))
     ∙ strictly (a .low .kind) (a .equal) low high (c .before .before .before .before .before .before .before .before .before .before .if1 .left) (c .before .before .before .if4 .left)
-    ∙ with-both low high said (least .result .here) (least .ensures .0) (not-false _ (c .before .before .before .before .before .before .before .if2 .left))
-    (greatest .result .here) (greatest .ensures .0) (not-false _ (c .before .before .before .before .if3 .left))
+    ∙ with-both low high said (least .result .here) (least .ensures .there) (not-false _ (c .before .before .before .before .before .before .before .if2 .left))
+    (greatest .result .here) (greatest .ensures .there) (not-false _ (c .before .before .before .before .if3 .left))
 
 pub below-spec : {M : Type 1} → statement M
 below-spec =

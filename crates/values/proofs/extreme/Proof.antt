@@ -1,66 +1,52 @@
 -- `values::extreme` meets its contract. Assumes nothing.
-use borrow.Author.Tests.{not-true, not-false}
 use Prim.Native.Nat.{ℕ}
-use mathlib.Core.Path.{_≡_, sym, ap, ap₂, _∙_}
-use mathlib.Core.Bool.{not, _||_}
+use mathlib.Core.Path.{sym, ap, subst, _∙_}
+use mathlib.Core.List.{List}
 use borrow.Author.Needs.{needs}
-use lib.ListN.{length}
-use Rattle.model.specs.Notation.{isEmpty}
-use Rattle.values.specs.Operands.{lent, valuesFrom, operandValues}
-use Rattle.values.specs.Compared.{extremeFrom, worst}
-use Rattle.values.proofs.ValueWalks.{fewer, some-none, some-more, best-none, best-on}
+use Rattle.text.specs.declared.Words.{Words}
+use Rattle.values.specs.Operands.{lent, entriesFrom, constantsFrom}
+use Rattle.values.specs.Compared.{Extreme}
+use Rattle.values.proofs.AttributeValues.{session-values, block-values, code-values}
 use Rattle.values.proofs.extreme.Statement.{statement}
 use Rattle.values.proofs.extreme.Tie as tie
 
-abbrev Inv-loop : tie.InvT-loop
-Inv-loop code pairs session entries operand greatest some₀ best₀ i₀ some best i = ((some || not (isEmpty (valuesFrom (lent code pairs session entries) operand i))) ≡ not (isEmpty (operandValues (lent code pairs session entries) operand))) × (extremeFrom greatest best (valuesFrom (lent code pairs session entries) operand i) ≡ extremeFrom greatest (worst greatest) (operandValues (lent code pairs session entries) operand))
+extreme-pairs-requires : tie.Need-extreme-pairs-requires
+extreme-pairs-requires c κs = search needs
 
-abbrev μ-loop : tie.MeasureT-loop
-μ-loop code pairs session entries operand greatest some₀ best₀ i₀ some best i = length (valuesFrom (lent code pairs session entries) operand i)
+extreme-entries-requires : tie.Need-extreme-entries-requires
+extreme-entries-requires c κs = search needs
 
-start-of-requires : tie.Need-start-of-requires Inv-loop μ-loop
-start-of-requires c κs = search needs
+extreme-ints-requires : tie.Need-extreme-ints-requires
+extreme-ints-requires c κs = search needs
 
-first-requires : tie.Need-first-requires Inv-loop μ-loop
-first-requires c κs = search needs
-
-loop-holds : tie.Need-loop-holds Inv-loop μ-loop
-loop-holds c =
-    let a = c .before .before .before .before .before .args in
-    (ap (λ (i : ℕ). not (isEmpty ((valuesFrom (lent (a .code .now) (a .pairs .now) (a .session .now) (a .entries .now)) (a .operand)) i))) (c .first .ensures), ap₂ (λ (b i : ℕ). extremeFrom (a .greatest) b ((valuesFrom (lent (a .code .now) (a .pairs .now) (a .session .now) (a .entries .now)) (a .operand)) i)) (c .before .start-of .ensures) (c .first .ensures))
-
-value-from-requires : tie.Need-value-from-requires Inv-loop μ-loop
-value-from-requires c κs = search needs
-
-returns : tie.Need-returns Inv-loop μ-loop
+returns : tie.Need-returns
 returns c =
-    let a = c .before .before .before .before .before .before .before .before .before .args in
-    (sym (some-none (valuesFrom (lent (a .code .now) (a .pairs .now) (a .session .now) (a .entries .now)) (a .operand)) (c .before .before .before .loop .i) (c .before .before .value-from .result) (c .before .before .value-from .ensures) (c .before .before .before .loop .some) (not-true _ (c .if1 .taken))) ∙ c .before .before .before .loop .inv .0, sym (best-none (valuesFrom (lent (a .code .now) (a .pairs .now) (a .session .now) (a .entries .now)) (a .operand)) (c .before .before .before .loop .i) (c .before .before .value-from .result) (c .before .before .value-from .ensures) (a .greatest) (c .before .before .before .loop .best) (not-true _ (c .if1 .taken))) ∙ c .before .before .before .loop .inv .1)
+    let a = c .before .before .before .before .before .args in
+    let lend = lent (a .code .now) (a .pairs .now) (a .session .now) (a .entries .now) in
+    subst (λ (l : List Words). Extreme (a .greatest) l (c .extreme-pairs .result)) (session-values lend (a .operand) (c .before .match .keys1)) (c .extreme-pairs .ensures)
 
-further-requires : tie.Need-further-requires Inv-loop μ-loop
-further-requires c κs = search needs
+returns-2 : tie.Need-returns-2
+returns-2 c =
+    let a = c .before .before .before .before .before .args in
+    let lend = lent (a .code .now) (a .pairs .now) (a .session .now) (a .entries .now) in
+    subst (λ (l : List Words). Extreme (a .greatest) l (c .extreme-entries .result))
+    (ap (λ (k : ℕ). entriesFrom (a .entries .now) k (a .operand .start) 0) (sym (c .before .before .before .before .before .pre .1)) ∙ block-values lend (a .operand) (c .before .match .keys2)) (c .extreme-entries .ensures)
 
-loop-less : tie.Need-loop-less Inv-loop μ-loop
-loop-less c =
-    let a = c .before .before .before .before .before .before .before .before .before .before .before .args in
-    fewer (valuesFrom (lent (a .code .now) (a .pairs .now) (a .session .now) (a .entries .now)) (a .operand)) (c .before .before .before .before .before .loop .i) (c .before .before .before .before .value-from .result) (c .before .before .before .before .value-from .ensures) (not-false _ (c .before .before .if1 .left))
-
-loop-again : tie.Need-loop-again Inv-loop μ-loop
-loop-again c =
-    let a = c .before .before .before .before .before .before .before .before .before .before .before .args in
-    (sym (some-more (valuesFrom (lent (a .code .now) (a .pairs .now) (a .session .now) (a .entries .now)) (a .operand)) (c .before .before .before .before .before .loop .i) (c .before .before .before .before .value-from .result) (c .before .before .before .before .value-from .ensures) (c .before .before .before .before .before .loop .some) (not-false _ (c .before .before .if1 .left))) ∙ c .before .before .before .before .before .loop .inv .0, ap (λ (b : ℕ). extremeFrom (a .greatest) b ((valuesFrom (lent (a .code .now) (a .pairs .now) (a .session .now) (a .entries .now)) (a .operand)) (c .before .before .before .before .value-from .result .next))) (c .further .ensures) ∙ sym (best-on (valuesFrom (lent (a .code .now) (a .pairs .now) (a .session .now) (a .entries .now)) (a .operand)) (c .before .before .before .before .before .loop .i) (c .before .before .before .before .value-from .result) (c .before .before .before .before .value-from .ensures) (a .greatest) (c .before .before .before .before .before .loop .best) (not-false _ (c .before .before .if1 .left))) ∙ c .before .before .before .before .before .loop .inv .1)
+returns-3 : tie.Need-returns-3
+returns-3 c =
+    let a = c .before .before .before .before .before .args in
+    let lend = lent (a .code .now) (a .pairs .now) (a .session .now) (a .entries .now) in
+    subst (λ (l : List Words). Extreme (a .greatest) l (c .extreme-ints .result))
+    (ap (λ (k : ℕ). constantsFrom k (a .code .now) (a .operand .end) (a .operand .start)) (sym (c .before .before .before .before .before .pre .1))
+    ∙ code-values lend (a .operand) (c .before .match .rest .0 .1) (c .before .match .rest .1)) (c .extreme-ints .ensures)
 
 pub extreme-spec : {M : Type 1} → statement M
 extreme-spec =
     tie.close
     (tie.spec
-    Inv-loop
-    μ-loop
-    start-of-requires
-    first-requires
-    loop-holds
-    value-from-requires
+    extreme-pairs-requires
+    extreme-entries-requires
+    extreme-ints-requires
     returns
-    further-requires
-    loop-less
-    loop-again)
+    returns-2
+    returns-3)

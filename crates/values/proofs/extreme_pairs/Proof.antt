@@ -1,0 +1,61 @@
+-- `values::extreme_pairs` meets its contract. Assumes nothing.
+use lib.ListN.{length}
+use borrow.Author.Tests.{not-true, not-false}
+use borrow.Author.Needs.{needs}
+use Rattle.values.specs.Operands.{wordsFrom}
+use Rattle.values.proofs.ValueWalks.{fewer, Nearing, nearing-start, nearing-end, nearing-on}
+use Rattle.values.proofs.extreme_pairs.Statement.{statement}
+use Rattle.values.proofs.extreme_pairs.Tie as tie
+
+abbrev Inv-loop : tie.InvT-loop
+Inv-loop pairs session k greatest some₀ best₀ i₀ some best i = Nearing (wordsFrom pairs session k) greatest 0 some best i
+
+abbrev μ-loop : tie.MeasureT-loop
+μ-loop pairs session k greatest some₀ best₀ i₀ some best i = length (wordsFrom pairs session k i)
+
+start-of-requires : tie.Need-start-of-requires Inv-loop μ-loop
+start-of-requires c κs = search needs
+
+loop-holds : tie.Need-loop-holds Inv-loop μ-loop
+loop-holds c = let a = c .before .before .args in nearing-start (wordsFrom (a .pairs .now) (a .session .now) (a .k)) (a .greatest) 0 (c .start-of .result) (c .start-of .ensures)
+
+pair-from-requires : tie.Need-pair-from-requires Inv-loop μ-loop
+pair-from-requires c κs = search needs
+
+returns : tie.Need-returns Inv-loop μ-loop
+returns c =
+    let a = c .before .before .before .before .before .before .args in
+    let here = c .before .before .before .loop in
+    let found = c .before .before .pair-from in
+    nearing-end (wordsFrom (a .pairs .now) (a .session .now) (a .k)) (here .i) (found .result) (found .ensures) (a .greatest) 0 (here .some) (here .best) (here .inv) (not-true _ (c .if1 .taken))
+
+further-requires : tie.Need-further-requires Inv-loop μ-loop
+further-requires c κs = search needs
+
+loop-less : tie.Need-loop-less Inv-loop μ-loop
+loop-less c =
+    let a = c .before .before .before .before .before .before .before .before .args in
+    let here = c .before .before .before .before .before .loop in
+    let found = c .before .before .before .before .pair-from in
+    fewer (wordsFrom (a .pairs .now) (a .session .now) (a .k)) (here .i) (found .result) (found .ensures) (not-false _ (c .before .before .if1 .left))
+
+loop-again : tie.Need-loop-again Inv-loop μ-loop
+loop-again c =
+    let a = c .before .before .before .before .before .before .before .before .args in
+    let here = c .before .before .before .before .before .loop in
+    let found = c .before .before .before .before .pair-from in
+    nearing-on (wordsFrom (a .pairs .now) (a .session .now) (a .k)) (here .i) (found .result) (found .ensures) (a .greatest) 0 (here .some) (here .best) (here .inv) (not-false _ (c .before .before .if1 .left)) (c .further .result) (c .further .ensures)
+
+pub extreme-pairs-spec : {M : Type 1} → statement M
+extreme-pairs-spec =
+    tie.close
+    (tie.spec
+    Inv-loop
+    μ-loop
+    start-of-requires
+    loop-holds
+    pair-from-requires
+    returns
+    further-requires
+    loop-less
+    loop-again)
