@@ -14,10 +14,10 @@
    answers 3 with line 1, as for every file without its first line, and makes the table all 0. On the empty book, which every refused load leaves, each
    edit is refused, and each request gets 15 or 16.
 
-   Stack, as hosts/stack measures it on x86-64 (KB of 1000 bytes, rounded up; measured, not proved): zhul_pass 304 KB, zhul_load 238 KB, zhul_edit
-   16 KB, zhul_decide 21 KB. The first two are for a refused file with a rule line full of parentheses, as a policy is read to its end before its depth
-   is judged, some 0.9 KB for each parenthesis; for the largest files that are accepted it is 97 KB and 31 KB. The last is for rules that a load left:
-   on other bytes, which must not be lent, zhul_decide takes up to 703 KB.
+   Stack, as hosts/stack measures it on x86-64 (KB of 1000 bytes, rounded up; measured, not proved): zhul_pass 277 KB, zhul_load 210 KB, zhul_edit
+   16 KB, zhul_decide 18 KB. The first two are for a refused file with a rule line full of parentheses, as a policy is read to its end before its depth
+   is judged, some 0.8 KB for each parenthesis; for the largest files that are accepted it is 94 KB and 28 KB. The last is for rules that a load left:
+   on other bytes, which must not be lent, zhul_decide takes up to 617 KB.
 
    Of the C library the calls need memset and nothing else; a firmware without that library gives its own. */
 #ifndef ZHULMEKOV_H

@@ -7,10 +7,12 @@ use mathlib.Core.List.{List}
 use lib.ListN.{length}
 use Rattle.model.specs.Notation.{isEmpty}
 use Rattle.model.specs.Truth as model
+use Rattle.model.specs.Truth.{truth}
 use Rattle.text.specs.declared.Words.{Words}
+use Rattle.text.specs.Values.{sameWords}
 use Rattle.values.specs.declared.Found.{Found}
 use Rattle.values.specs.Operands.{Finds}
-use Rattle.values.specs.Compared.{further, extremeFrom, worst, Extreme, orNext, isFalse, atEnd, soughtFrom}
+use Rattle.values.specs.Compared.{further, extremeFrom, worst, Extreme, orNext, isFalse, atEnd, soughtFrom, amongOf}
 
 module _ (from : ℕ → List Words) (i : ℕ) (r : Found) (finds : Finds from i r) where
   -- fewer values are left
@@ -42,6 +44,29 @@ module _ (from : ℕ → List Words) (i : ℕ) (r : Found) (finds : Finds from i
         go model.FALSE f = refl
         go model.UNDEF f = absurd (true≢false (sym f))
         go model.TRUE f = absurd (true≢false (sym f))
+
+-- ---- a search for a value
+
+-- the search from position i on, with a value before it or not, comes to what the one from `start` on comes to
+abbrev pub Searching : (ℕ → List Words) → Words → ℕ → Bool → ℕ → Type 0
+Searching from wanted start some i = soughtFrom (λ v. truth (sameWords wanted v)) some (from i) ≡ amongOf (from start) wanted
+
+pub searching-start : (from : ℕ → List Words) (wanted : Words) (start : ℕ) → Searching from wanted start false start
+unfolding amongOf
+searching-start from wanted start = refl
+
+module _ (from : ℕ → List Words) (i : ℕ) (r : Found) (finds : Finds from i r) (wanted : Words) (start : ℕ) (some : Bool) (so-far : Searching from wanted start some i) where
+  pub searching-end : r .here ≡ false → (t : model.Truth) → t ≡ atEnd some → t ≡ amongOf (from start) wanted
+  searching-end h t e = e ∙ sym (sought-none from i r finds (λ v. truth (sameWords wanted v)) some h) ∙ so-far
+
+  module _ (h : r .here ≡ true) (b : Bool) (e : b ≡ sameWords wanted (r .words)) where
+    pub searching-met : b ≡ true → model.TRUE ≡ amongOf (from start) wanted
+    searching-met t =
+        let met : truth (sameWords wanted (r .words)) ≡ model.TRUE = ap truth (sym e ∙ t) in
+        sym met ∙ sym (sought-here from i r finds (λ v. truth (sameWords wanted v)) some h (ap isFalse met)) ∙ so-far
+
+    pub searching-on : b ≡ false → Searching from wanted start true (r .next)
+    searching-on t = sym (sought-on from i r finds (λ v. truth (sameWords wanted v)) some h (ap (λ (x : Bool). isFalse (truth x)) (sym e ∙ t))) ∙ so-far
 
 -- ---- a walk to the greatest or the least
 

@@ -1,28 +1,20 @@
 -- `values::among_entries` meets its contract. Assumes nothing.
-use mathlib.Core.Path.{_≡_, refl, sym, ap, _∙_}
-use mathlib.Core.Bool.{Bool}
 use lib.ListN.{length}
 use borrow.Author.Tests.{not-true, not-false}
 use borrow.Author.Needs.{needs}
-use Rattle.model.specs.Truth as model
-use Rattle.model.specs.Truth.{truth}
-use Rattle.text.specs.declared.Words.{Words}
-use Rattle.text.specs.Values.{sameWords}
 use Rattle.values.specs.Operands.{entriesFrom}
-use Rattle.values.specs.Compared.{isFalse, soughtFrom, amongOf}
-use Rattle.values.proofs.ValueWalks.{fewer, sought-none, sought-here, sought-on}
+use Rattle.values.proofs.ValueWalks.{fewer, Searching, searching-start, searching-end, searching-met, searching-on}
 use Rattle.values.proofs.among_entries.Statement.{statement}
 use Rattle.values.proofs.among_entries.Tie as tie
 
 abbrev Inv-loop : tie.InvT-loop
-Inv-loop entries kind wanted k some₀ i₀ some i = soughtFrom (λ (v : Words). truth (sameWords wanted v)) some (entriesFrom entries kind k i) ≡ amongOf (entriesFrom entries kind k 0) wanted
+Inv-loop entries kind wanted k some₀ i₀ some i = Searching (entriesFrom entries kind k) wanted 0 some i
 
 abbrev μ-loop : tie.MeasureT-loop
 μ-loop entries kind wanted k some₀ i₀ some i = length (entriesFrom entries kind k i)
 
 loop-holds : tie.Need-loop-holds Inv-loop μ-loop
-unfolding amongOf
-loop-holds c = refl
+loop-holds c = let a = c .before .args in searching-start (entriesFrom (a .entries .now) (a .kind) (a .k)) (a .wanted) 0
 
 entry-from-requires : tie.Need-entry-from-requires Inv-loop μ-loop
 entry-from-requires c κs = search needs
@@ -35,9 +27,7 @@ returns c =
     let a = c .before .before .before .before .before .before .args in
     let here = c .before .before .before .before .loop in
     let found = c .before .before .before .entry-from in
-    c .at-end .ensures
-    ∙ sym (sought-none (entriesFrom (a .entries .now) (a .kind) (a .k)) (here .i) (found .result) (found .ensures) (λ (v : Words). truth (sameWords (a .wanted) v)) (here .some) (not-true _ (c .before .if1 .taken)))
-    ∙ here .inv
+    searching-end (entriesFrom (a .entries .now) (a .kind) (a .k)) (here .i) (found .result) (found .ensures) (a .wanted) 0 (here .some) (here .inv) (not-true _ (c .before .if1 .taken)) _ (c .at-end .ensures)
 
 same-requires : tie.Need-same-requires Inv-loop μ-loop
 same-requires c κs = search needs
@@ -47,10 +37,7 @@ returns-2 c =
     let a = c .before .before .before .before .before .before .before .before .args in
     let here = c .before .before .before .before .before .before .loop in
     let found = c .before .before .before .before .before .entry-from in
-    let e : truth (sameWords (a .wanted) (found .result .words)) ≡ model.TRUE = ap truth (sym (c .before .same .ensures) ∙ c .if2 .taken) in
-    sym e
-    ∙ sym (sought-here (entriesFrom (a .entries .now) (a .kind) (a .k)) (here .i) (found .result) (found .ensures) (λ (v : Words). truth (sameWords (a .wanted) v)) (here .some) (not-false _ (c .before .before .before .if1 .left)) (ap isFalse e))
-    ∙ here .inv
+    searching-met (entriesFrom (a .entries .now) (a .kind) (a .k)) (here .i) (found .result) (found .ensures) (a .wanted) 0 (here .some) (here .inv) (not-false _ (c .before .before .before .if1 .left)) _ (c .before .same .ensures) (c .if2 .taken)
 
 loop-less : tie.Need-loop-less Inv-loop μ-loop
 loop-less c =
@@ -64,9 +51,7 @@ loop-again c =
     let a = c .before .before .before .before .before .before .before .before .args in
     let here = c .before .before .before .before .before .before .loop in
     let found = c .before .before .before .before .before .entry-from in
-    sym (sought-on (entriesFrom (a .entries .now) (a .kind) (a .k)) (here .i) (found .result) (found .ensures) (λ (v : Words). truth (sameWords (a .wanted) v)) (here .some) (not-false _ (c .before .before .before .if1 .left))
-    (ap (λ (b : Bool). isFalse (truth b)) (sym (c .before .same .ensures) ∙ c .if2 .left)))
-    ∙ here .inv
+    searching-on (entriesFrom (a .entries .now) (a .kind) (a .k)) (here .i) (found .result) (found .ensures) (a .wanted) 0 (here .some) (here .inv) (not-false _ (c .before .before .before .if1 .left)) _ (c .before .same .ensures) (c .if2 .left)
 
 pub among-entries-spec : {M : Type 1} → statement M
 among-entries-spec =

@@ -1,28 +1,20 @@
 -- `values::among_pairs` meets its contract. Assumes nothing.
-use mathlib.Core.Path.{_≡_, refl, sym, ap, _∙_}
-use mathlib.Core.Bool.{Bool}
 use lib.ListN.{length}
 use borrow.Author.Tests.{not-true, not-false}
 use borrow.Author.Needs.{needs}
-use Rattle.model.specs.Truth as model
-use Rattle.model.specs.Truth.{truth}
-use Rattle.text.specs.declared.Words.{Words}
-use Rattle.text.specs.Values.{sameWords}
 use Rattle.values.specs.Operands.{wordsFrom}
-use Rattle.values.specs.Compared.{isFalse, soughtFrom, amongOf}
-use Rattle.values.proofs.ValueWalks.{fewer, sought-none, sought-here, sought-on}
+use Rattle.values.proofs.ValueWalks.{fewer, Searching, searching-start, searching-end, searching-met, searching-on}
 use Rattle.values.proofs.among_pairs.Statement.{statement}
 use Rattle.values.proofs.among_pairs.Tie as tie
 
 abbrev Inv-loop : tie.InvT-loop
-Inv-loop pairs session wanted k some₀ i₀ some i = soughtFrom (λ (v : Words). truth (sameWords wanted v)) some (wordsFrom pairs session k i) ≡ amongOf (wordsFrom pairs session k 0) wanted
+Inv-loop pairs session wanted k some₀ i₀ some i = Searching (wordsFrom pairs session k) wanted 0 some i
 
 abbrev μ-loop : tie.MeasureT-loop
 μ-loop pairs session wanted k some₀ i₀ some i = length (wordsFrom pairs session k i)
 
 loop-holds : tie.Need-loop-holds Inv-loop μ-loop
-unfolding amongOf
-loop-holds c = refl
+loop-holds c = let a = c .before .args in searching-start (wordsFrom (a .pairs .now) (a .session .now) (a .k)) (a .wanted) 0
 
 pair-from-requires : tie.Need-pair-from-requires Inv-loop μ-loop
 pair-from-requires c κs = search needs
@@ -35,9 +27,7 @@ returns c =
     let a = c .before .before .before .before .before .before .args in
     let here = c .before .before .before .before .loop in
     let found = c .before .before .before .pair-from in
-    c .at-end .ensures
-    ∙ sym (sought-none (wordsFrom (a .pairs .now) (a .session .now) (a .k)) (here .i) (found .result) (found .ensures) (λ (v : Words). truth (sameWords (a .wanted) v)) (here .some) (not-true _ (c .before .if1 .taken)))
-    ∙ here .inv
+    searching-end (wordsFrom (a .pairs .now) (a .session .now) (a .k)) (here .i) (found .result) (found .ensures) (a .wanted) 0 (here .some) (here .inv) (not-true _ (c .before .if1 .taken)) _ (c .at-end .ensures)
 
 same-requires : tie.Need-same-requires Inv-loop μ-loop
 same-requires c κs = search needs
@@ -47,10 +37,7 @@ returns-2 c =
     let a = c .before .before .before .before .before .before .before .before .args in
     let here = c .before .before .before .before .before .before .loop in
     let found = c .before .before .before .before .before .pair-from in
-    let e : truth (sameWords (a .wanted) (found .result .words)) ≡ model.TRUE = ap truth (sym (c .before .same .ensures) ∙ c .if2 .taken) in
-    sym e
-    ∙ sym (sought-here (wordsFrom (a .pairs .now) (a .session .now) (a .k)) (here .i) (found .result) (found .ensures) (λ (v : Words). truth (sameWords (a .wanted) v)) (here .some) (not-false _ (c .before .before .before .if1 .left)) (ap isFalse e))
-    ∙ here .inv
+    searching-met (wordsFrom (a .pairs .now) (a .session .now) (a .k)) (here .i) (found .result) (found .ensures) (a .wanted) 0 (here .some) (here .inv) (not-false _ (c .before .before .before .if1 .left)) _ (c .before .same .ensures) (c .if2 .taken)
 
 loop-less : tie.Need-loop-less Inv-loop μ-loop
 loop-less c =
@@ -64,9 +51,7 @@ loop-again c =
     let a = c .before .before .before .before .before .before .before .before .args in
     let here = c .before .before .before .before .before .before .loop in
     let found = c .before .before .before .before .before .pair-from in
-    sym (sought-on (wordsFrom (a .pairs .now) (a .session .now) (a .k)) (here .i) (found .result) (found .ensures) (λ (v : Words). truth (sameWords (a .wanted) v)) (here .some) (not-false _ (c .before .before .before .if1 .left))
-    (ap (λ (b : Bool). isFalse (truth b)) (sym (c .before .same .ensures) ∙ c .if2 .left)))
-    ∙ here .inv
+    searching-on (wordsFrom (a .pairs .now) (a .session .now) (a .k)) (here .i) (found .result) (found .ensures) (a .wanted) 0 (here .some) (here .inv) (not-false _ (c .before .before .before .if1 .left)) _ (c .before .same .ensures) (c .if2 .left)
 
 pub among-pairs-spec : {M : Type 1} → statement M
 among-pairs-spec =
