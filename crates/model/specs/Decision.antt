@@ -47,11 +47,12 @@ isUndef Truth.FALSE = false
 abbrev pub withoutPermit : List (ℕ × Truth) → Decision
 withoutPermit vs = if anyOf (λ (k, t). isUndef t) vs then undefined else deny
 
--- "Permit, with the lowest TRUE rule number": those that are TRUE stand in the order of their numbers
+-- "with the lowest TRUE rule number", by the verdicts that are TRUE, which stand in the order of their numbers; else another decision
 abbrev pub permitBy : List (ℕ × Truth) → Decision → Decision
 permitBy [] other = other
 permitBy ((k, t) ∷ rest) other = permit k
 
+-- "Permit, with the lowest TRUE rule number; else undefined if some is UNDEF; else deny"
 unfoldable pub decisionBy : List (ℕ × Truth) → Decision
 decisionBy vs = permitBy (filter (λ (k, t). isTrue t) vs) (withoutPermit vs)
 

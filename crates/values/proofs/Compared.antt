@@ -15,6 +15,7 @@ use Rattle.model.specs.Truth as model
 use Rattle.model.specs.Truth.{truth, NOT}
 use Rattle.model.specs.Tokens.{Operator}
 use Rattle.model.specs.Comparison.{ordered, order, compareLike, compareSets, loneValue}
+use Rattle.model.proofs.Lists.{all-in}
 use Rattle.codes.specs.Codes.{typeCode, operatorCode}
 use Rattle.codes.proofs.Codes.{operator-injective}
 use Rattle.codes.proofs.TokenKinds.{operator-range}
@@ -27,7 +28,7 @@ use Rattle.values.specs.declared.Operand.{Operand}
 use Rattle.values.specs.Operands.{Lent, operandValues, Stands}
 use Rattle.values.specs.Compared.{greatestOf, leastOf, leastBelowGreatest, orNext, soughtFrom, amongOf, asked, foundOf, ofPresent, orderOf, belowOf, Compared, Lone}
 use Rattle.values.proofs.Orders.{below-so, not-above-so}
-use Rattle.values.proofs.ComparedAtoms.{amongValues, someFound, all-in, int-small, Typed, among-atoms, common-atoms, subset-atoms, before-atoms, after-atoms}
+use Rattle.values.proofs.ComparedAtoms.{amongValues, someFound, int-small, Typed, among-atoms, common-atoms, subset-atoms, before-atoms, after-atoms}
 
 -- what an operator says of present values of one type
 unfoldable likeValues : Operator → ℕ → List Words → List Words → model.Truth
@@ -245,8 +246,8 @@ compare-atoms o k k′ (a ∷ l) (b ∷ m) tl tm = go (eqb k k′) refl
 stands-typed : (L : Lent) (o : Operand) {l : List Atom} → Stands L o l → Typed (o .kind) l
 stands-typed L o {l} s =
     record {
-      kinds = λ a p. eqb-true (typeCode (typeOf a)) (o .kind) (all-in (λ x. eqb (typeCode (typeOf x)) (o .kind)) (s .typed) p);
-      written = λ a p. all-in isAtom (s .written) p;
+      kinds = λ a p. eqb-true (typeCode (typeOf a)) (o .kind) (all-in (λ x. eqb (typeCode (typeOf x)) (o .kind)) l (s .typed) p);
+      written = λ a p. all-in isAtom l (s .written) p;
     }
 
 -- the ways of a comparison: what was found out of two operands, and the answer

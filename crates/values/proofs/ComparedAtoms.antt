@@ -2,7 +2,7 @@
 use Prim.Native.Nat.{ℕ, _≤_}
 use mathlib.Core.Path.{_≡_, refl, sym, ap, _∙_}
 use mathlib.Core.Bool.{Bool, true, false, not, Bool·beq}
-use mathlib.Core.List.{List, [], _∷_, List·Memᴰ·head as here, List·Memᴰ·tail as there}
+use mathlib.Core.List.{List, [], _∷_}
 use native.Mathlib.Omega.{arith}
 use borrow.Author.Tests.{leb-true}
 use Rattle.model.specs.Notation.{anyOf, allOf, map}
@@ -10,7 +10,7 @@ use Rattle.model.specs.Limits.{largestInt}
 use Rattle.model.specs.Atoms.{Atom, int, str, bool, typeOf, isAtom, sameAtom}
 use Rattle.model.specs.Comparison as model
 use Rattle.model.specs.Comparison.{ordered}
-use Rattle.model.proofs.Lists.{_∈_, any-ext, any-in, in-any, all-parts, same-truth}
+use Rattle.model.proofs.Lists.{_∈_, any-ext, any-in, in-any, same-truth}
 use Rattle.codes.specs.Codes.{typeCode}
 use Rattle.codes.proofs.Codes.{type-injective}
 use Rattle.text.specs.declared.Words.{Words}
@@ -30,10 +30,6 @@ someFound wanted left right = anyOf (λ w. Bool·beq (amongValues right w) wante
 pub any-map : {A B : Type 0} (p : B → Bool) (f : A → B) (l : List A) → anyOf p (map f l) ≡ anyOf (λ x. p (f x)) l
 any-map p f [] = refl
 any-map p f (x ∷ l) = ap (λ (b : Bool). elim (p (f x)) as (λ _. Bool) [ true ↦ true | false ↦ b ]) (any-map p f l)
-
-pub all-in : {A : Type 0} (p : A → Bool) {l : List A} {x : A} → allOf p l ≡ true → x ∈ l → p x ≡ true
-all-in p e (here {x = y} {xs = l} q) = ap p q ∙ all-parts p y l e .0
-all-in p e (there {x = y} {xs = l} m) = all-in p (all-parts p y l e .1) m
 
 -- each passes exactly if none fails
 none-fails : {A : Type 0} (p : A → Bool) (l : List A) → not (anyOf (λ x. Bool·beq (p x) false) l) ≡ allOf p l

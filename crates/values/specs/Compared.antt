@@ -87,7 +87,7 @@ foundOf wanted left right = soughtFrom (λ w. asked wanted (amongOf right w)) fa
 unfoldable pub ofPresent : List Words → List Words → model.Truth → model.Truth
 ofPresent left right t = if (not (isEmpty left) && not (isEmpty right)) then t else model.UNDEF
 
--- an order, "of integers alone", by the least of some values and the greatest of others
+-- an order, by the least of some values and the greatest of others; "an order between non-integers" gives UNDEF
 unfoldable pub orderOf : ℕ → Bool → List Words → List Words → model.Truth
 orderOf kind equal low high = if eqb kind 1 then truth (leastBelowGreatest equal low high) else model.UNDEF
 
