@@ -87,6 +87,9 @@ extern "C" {
 #define ZHUL_NOT_HELD 17 /* a pass block that activates a bit of no user attribute, or a user attribute of which this user has no value, neither its
    own nor from a group */
 
+/* The writer; the buffer keeps its bytes. */
+#define ZHUL_DOES_NOT_FIT 18 /* the present file is longer than the lent buffer, or than the 32,768 bytes of a file */
+
 /* A request that is not refused. */
 #define ZHUL_PERMIT 0
 #define ZHUL_DENY 64

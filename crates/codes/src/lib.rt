@@ -140,6 +140,9 @@ pub const WRONG_NUMBER: u8 = 16;
 // "activated bit that is no user attribute held by that user"
 pub const NOT_HELD: u8 = 17;
 
+// "the text is longer than the buffer or than 32,768 bytes"
+pub const DOES_NOT_FIT: u8 = 18;
+
 // Answers to a request that is not refused, as hosts in C get them.
 pub const PERMIT: u8 = 0;
 

@@ -350,6 +350,9 @@ declare-well S (value h n v) well a = well
 declare-well S (rule o ts) well a = rule-more well _ (rule-of-line (S .declared) o ts (a .formed) (a .within) (a .known)) (a .room)
 
 -- "the empty D": holder 0 alone
+pub alone : (k : ℕ) → holderOf nothingDeclared (suc k) ≡ none
+alone k = rw (ne-eqb 0 (suc k) (λ e. omega arith))
+
 pub nothing-well : WellDeclared nothingDeclared
 unfolding holderNumbersOf groups isName
 nothing-well = record {
@@ -369,9 +372,6 @@ nothing-well = record {
   rules = record { each = λ i x e. none-is-some e; few = omega arith };
 }
   where
-    alone : (k : ℕ) → holderOf nothingDeclared (suc k) ≡ none
-    alone k = rw (ne-eqb 0 (suc k) (λ e. omega arith))
-
     gapless : (k : ℕ) → isHolder nothingDeclared k ≡ ltb k 1
     gapless zero = refl
     gapless (suc k) = ap (λ (o : Option Holder). not (isNone o)) (alone k) ∙ sym (le-ltb (suc k) 1 (omega arith))

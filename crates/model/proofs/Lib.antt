@@ -21,6 +21,7 @@ pub mod Names
 pub mod Fields
 pub mod Spelling
 pub mod Tokens
+pub mod Spelled
 pub mod Lines
 -- Policies: the reader and the grammar.
 pub mod Sound
@@ -53,3 +54,11 @@ pub mod Accepted
 pub mod Loads
 pub mod Circles
 pub mod Full
+-- What a file leaves declared.
+pub mod SoFar
+-- The writer: what it writes loads back.
+pub mod Rereading
+pub mod RoundTrip
+pub mod RoundTripTies
+pub mod WrittenBack
+pub mod Writer

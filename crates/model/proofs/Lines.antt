@@ -8,24 +8,25 @@ use mathlib.Core.Option.{Option, none, some, Option·some-injective}
 use borrow.Author.Tests.{leb-true, le-leb}
 use lib.ListN.{length}
 use lib.Dec.{leb}
-use Rattle.model.specs.Notation.{_>>=_, isNone, onlyIf, allOf, each}
+use Rattle.model.specs.Notation.{_>>=_, isNone, onlyIf, allOf}
 use Rattle.model.specs.Limits.{lineBytes}
 use Rattle.model.specs.Bytes.{Bytes, bytes, newline, content}
 use Rattle.model.specs.Names.{isName, readName}
 use Rattle.model.specs.Attributes.{Source, sourceWord, readSource, typeWord}
 use Rattle.model.specs.Atoms.{Atom, isAtom, writeAtom, readAtom}
 use Rattle.model.specs.Keys.{Key, keyWord, keys, readKey}
-use Rattle.model.specs.Tokens.{Token, isToken, spelling, tokensOf, Spells}
+use Rattle.model.specs.Tokens.{Token, isToken, tokensOf, Spells, spelled}
 use Rattle.model.specs.Grammar.{readPolicy}
 use Rattle.model.specs.Declarations.{Sort, sortWord, isSort}
-use Rattle.model.specs.Lines.{Line, readAttr, readOp, readPair, readHolder, readTwo, readValue, readRule, readFields, readKeyed, framed, readLine, writeLine, isLine, Writes}
+use Rattle.model.specs.Lines.{Line, readAttr, readOp, readPair, readHolder, readTwo, readValue, readRule, readFields, readKeyed, framed, readLine, writeLine, lineKey, isLine, Writes}
 use Rattle.model.proofs.WordTables.{false-is-true, one-of-word, reads-key}
 use Rattle.model.proofs.Options.{parts, both, fields, bound, condition}
 use Rattle.model.proofs.Lists.{all-parts, all-append, all-cons}
 use Rattle.model.proofs.Cuts.{isnt, lacks, cut-joined, cut-bound, content-exact}
 use Rattle.model.proofs.Names.{name-exact, name-lacks, source-lacks, type-lacks, sort-lacks, key-lacks}
 use Rattle.model.proofs.Atoms.{atom-lacks}
-use Rattle.model.proofs.Tokens.{tokens-exact, spaced-spells, spells-lack}
+use Rattle.model.proofs.Tokens.{tokens-exact, spells-lack}
+use Rattle.model.proofs.Spelled.{spelled-spells}
 use Rattle.model.proofs.Fields.{nameField, atomField, sourceField, typeField, reads, both-fields, reads-both, three-fields, reads-three}
 
 -- the frame: the key stands before the first equals sign
@@ -132,36 +133,42 @@ fields-said Key.value f l e =
     rw (← z, j) (both (both m n) o, written (Line.value a b c) (simp append-assoc))
 fields-said Key.rule f l e = rule-said f l e
 
+-- the tokens of a rule are spelt
+rule-spells : (o : Bytes) (ts : List Token) → isLine (Line.rule o ts) ≡ true → Spells ts (spelled ts)
+rule-spells o ts h =
+    let (y, g) = present (readPolicy ts) (parts (isName o && allOf isToken ts) (not (isNone (readPolicy ts))) h .1) in
+    spelled-spells ts g
+
 -- bytes that write a line have a key, and the fields behind it are read as that line
 abbrev pub Keyed : Line → Bytes → Type 0
-Keyed l b = (k : Key) × (f : Bytes) × (b ≡ keyWord k ++ 61 ∷ f) × (readFields k f ≡ some l)
+Keyed l b = (f : Bytes) × (b ≡ keyWord (lineKey l) ++ 61 ∷ f) × (readFields (lineKey l) f ≡ some l)
 
 rule-fields : (o : Bytes) (ts : List Token) (p : Bytes) → isLine (Line.rule o ts) ≡ true → Spells ts p
     → Keyed (Line.rule o ts) (bytes "rule=" ++ o ++ bytes "," ++ p)
-rule-fields o ts p h d = (Key.rule, o ++ 44 ∷ p, simp append-assoc, rule-read o ts p h d)
+rule-fields o ts p h d = (o ++ 44 ∷ p, simp append-assoc, rule-read o ts p h d)
 
 written-fields : (l : Line) → isLine l ≡ true → Keyed l (writeLine l)
 unfolding readAttr readOp readHolder readTwo readValue
 written-fields (Line.attr s n t) h =
     let free = source-lacks 44 refl s in
     let read = reads-three sourceField nameField typeField Line.attr s n t refl h refl free (name-lacks 44 refl n h) in
-    (Key.attr, sourceWord s ++ 44 ∷ (n ++ 44 ∷ typeWord t), simp append-assoc, read)
-written-fields (Line.op n) h = (Key.op, n, refl, rw h)
+    (sourceWord s ++ 44 ∷ (n ++ 44 ∷ typeWord t), simp append-assoc, read)
+written-fields (Line.op n) h = (n, refl, rw h)
 written-fields (Line.atom s n a) h =
-    (Key.atom, sourceWord s ++ 46 ∷ n ++ 44 ∷ writeAtom a, simp append-assoc, pair-read s n a h)
+    (sourceWord s ++ 46 ∷ n ++ 44 ∷ writeAtom a, simp append-assoc, pair-read s n a h)
 written-fields (Line.holder Sort.admin n) h = false-is-true h
-written-fields (Line.holder Sort.ugroup n) h = (Key.ugroup, n, refl, rw h)
-written-fields (Line.holder Sort.ogroup n) h = (Key.ogroup, n, refl, rw h)
-written-fields (Line.holder Sort.user n) h = (Key.user, n, refl, rw h)
-written-fields (Line.holder Sort.object n) h = (Key.object, n, refl, rw h)
-written-fields (Line.parent c g) h = (Key.parent, c ++ 44 ∷ g, simp append-assoc, two-read Line.parent c g h)
-written-fields (Line.member c g) h = (Key.member, c ++ 44 ∷ g, simp append-assoc, two-read Line.member c g h)
+written-fields (Line.holder Sort.ugroup n) h = (n, refl, rw h)
+written-fields (Line.holder Sort.ogroup n) h = (n, refl, rw h)
+written-fields (Line.holder Sort.user n) h = (n, refl, rw h)
+written-fields (Line.holder Sort.object n) h = (n, refl, rw h)
+written-fields (Line.parent c g) h = (c ++ 44 ∷ g, simp append-assoc, two-read Line.parent c g h)
+written-fields (Line.member c g) h = (c ++ 44 ∷ g, simp append-assoc, two-read Line.member c g h)
 written-fields (Line.value o n a) h =
     let (pq, r) = parts (isName o && isName n) (isAtom a) h in
     let (p, q) = parts (isName o) (isName n) pq in
     let read = reads-three nameField nameField atomField Line.value o n a p q r (name-lacks 44 refl o p) (name-lacks 44 refl n q) in
-    (Key.value, o ++ 44 ∷ (n ++ 44 ∷ writeAtom a), simp append-assoc, read)
-written-fields (Line.rule o ts) h = rule-fields o ts (each (λ t. bytes " " ++ spelling t) ts) h (spaced-spells ts)
+    (o ++ 44 ∷ (n ++ 44 ∷ writeAtom a), simp append-assoc, read)
+written-fields (Line.rule o ts) h = rule-fields o ts (spelled ts) h (rule-spells o ts h)
 
 pub fields-read : {l : Line} {b : Bytes} → Writes l b → isLine l ≡ true → Keyed l b
 fields-read (Writes.as-written l) h = written-fields l h
@@ -197,7 +204,7 @@ line-lacks (Line.value o n a) h =
     let (pq, r) = parts (isName o && isName n) (isAtom a) h in
     let (p, q) = parts (isName o) (isName n) pq in
     joined-lack (o ++ bytes "," ++ n) (writeAtom a) 44 refl (joined-lack o n 44 refl (name-lacks newline refl o p) (name-lacks newline refl n q)) (atom-lacks a r)
-line-lacks (Line.rule o ts) h = rule-lacks o ts (each (λ t. bytes " " ++ spelling t) ts) h (spaced-spells ts)
+line-lacks (Line.rule o ts) h = rule-lacks o ts (spelled ts) h (rule-spells o ts h)
 
 pub writes-lack : {l : Line} {b : Bytes} → Writes l b → isLine l ≡ true → lacks newline b ≡ true
 writes-lack (Writes.as-written l) h = line-lacks l h
@@ -247,7 +254,8 @@ line-exact s l = (sound, λ (h, b, w, short, j). rw j (complete b w h short))
 
     complete : (b : Bytes) → Writes l b → isLine l ≡ true → length b ≤ lineBytes → readLine (b ++ newline ∷ []) ≡ some l
     complete b w h short =
-        let (k, f, u, v) = fields-read w h in
+        let (f, u, v) = fields-read w h in
+        let k = lineKey l in
         let j = ap (λ (x : Bytes). x ++ newline ∷ []) u in
         rw (framed-exact (b ++ newline ∷ []) k f .1 (fields-lack k f b u (writes-lack w h), rw u at short, j), v)
 

@@ -20,6 +20,10 @@ pub true-or-false : (b : Bool) → (b ≡ true) ⊎ (b ≡ false)
 true-or-false true = inl refl
 true-or-false false = inr refl
 
+-- functions that agree everywhere are equal
+pub fun-ext : {A B : Type 0} {f g : A → B} → ((x : A) → f x ≡ g x) → f ≡ g
+fun-ext h = λ i. λ x. h x i
+
 -- two tests that imply each other are equal
 pub same-truth : (a b : Bool) → (a ≡ true → b ≡ true) → (b ≡ true → a ≡ true) → a ≡ b
 same-truth true b f g = sym (f refl)
@@ -169,6 +173,11 @@ module _ {A : Type 0} where
   lt-nth (y ∷ xs) zero h = (y, refl)
   lt-nth (y ∷ xs) (suc k) h = lt-nth xs k (omega arith)
 
+  pub nth-in : (xs : List A) (k : ℕ) {x : A} → nth xs k ≡ some x → x ∈ xs
+  nth-in [] k e = none-is-some e
+  nth-in (y ∷ xs) zero {x} e = here (sym (Option·some-injective y x e))
+  nth-in (y ∷ xs) (suc k) e = there (nth-in xs k e)
+
   pub nth-append : (xs ys : List A) (k : ℕ) {x : A} → nth xs k ≡ some x → nth (xs ++ ys) k ≡ some x
   nth-append [] ys k {x} e = let z : _≡_ {A = ℕ} 0 1 = cc in absurd (omega (arith, z))
   nth-append (y ∷ xs) ys zero e = e
@@ -211,6 +220,10 @@ module _ {A B : Type 0} (f : A → B) where
   in-map [] m = elim m [ ]
   in-map (x ∷ xs) (here e) = (x, here refl, e)
   in-map (x ∷ xs) (there m) = let r = in-map xs m in (r .0, there (r .1), r .2)
+
+  pub map-append : (xs ys : List A) → map f (xs ++ ys) ≡ map f xs ++ map f ys
+  map-append [] ys = refl
+  map-append (x ∷ xs) ys = ap (λ (l : List B). f x ∷ l) (map-append xs ys)
 
   pub map-in : {xs : List A} {x : A} → x ∈ xs → f x ∈ map f xs
   map-in (here e) = here (ap f e)

@@ -10,8 +10,9 @@ use lib.Dec.{eqb}
 use borrow.Author.Tests.{eqb-true, eqb-false, eq-eqb, ne-eqb}
 use Rattle.model.specs.Notation.{if_then_else_, isNone, each}
 use Rattle.model.specs.Numbers as refusal
-use Rattle.model.specs.Bytes.{Bytes, bytes, newline, behind, begun, linesOf}
+use Rattle.model.specs.Bytes.{Bytes, newline, behind, begun, linesOf}
 use Rattle.model.specs.Keys.{Key}
+pub use Rattle.model.specs.Lines.{firstLine}
 use Rattle.model.specs.Lines.{Line, readLine}
 use Rattle.model.specs.State.{State, empty, after}
 use Rattle.model.specs.Refusals.{tooLong, wrongFirstLine, lineTests, lineRefusal}
@@ -27,10 +28,6 @@ pub data AcceptedLines : State → Option Key → List Bytes → State → Optio
   end : {S : State} {previous : Option Key} → AcceptedLines S previous [] S previous
   next : {S T : State} {previous last : Option Key} {line : Bytes} {lines : List Bytes} {key : Key} {l : Line}
       → lineRefusal S previous line ≡ 0 → ReadAs line key l → AcceptedLines (after l S) (some key) lines T last → AcceptedLines S previous (line ∷ lines) T last
-
--- "The first is `rights=1`"
-abbrev pub firstLine : Bytes
-firstLine = bytes "rights=1\n"
 
 -- a file that is accepted: how many lines it has, and the state that they leave
 pub record AcceptedFile (file : Bytes) (count : ℕ) (S : State) : Type 0 where

@@ -3,14 +3,14 @@ use Prim.Native.Nat.{ℕ, zero, suc, _+_, _≤_, _<_}
 use mathlib.Core.Path.{_≡_, refl, sym, ap, subst, _∙_}
 use mathlib.Core.Logic.{_⊎_, inl, inr, ⊎-elim}
 use mathlib.Core.Bool.{Bool, true, false, _&&_, not, true≢false}
-use mathlib.Core.List.{List, [], _∷_, _++_, List·Memᴰ·head as here, List·Memᴰ·tail as there}
+use mathlib.Core.List.{List, [], _∷_, _++_, List·Memᴰ·head as here, List·Memᴰ·tail as there, Memᴰ·append-right}
 use mathlib.Core.Option.{Option, none, some, Option·some-injective}
 use native.Mathlib.Decide.{ℕ-discrete, decLt}
 use native.Mathlib.Omega.{arith}
-use lib.ListN.{length}
+use lib.ListN.{length, length-append}
 use lib.Dec.{eqb, ltb}
-use borrow.Author.Tests.{eq-eqb, ne-eqb, eqb-true, eqb-false, ltb-true, ltb-false, lt-ltb}
-use Rattle.model.specs.Notation.{if_then_else_, isNone, allOf, countOf, find, inserted, map, below}
+use borrow.Author.Tests.{eq-eqb, ne-eqb, eqb-true, eqb-false, ltb-true, ltb-false, lt-ltb, le-ltb}
+use Rattle.model.specs.Notation.{if_then_else_, isNone, allOf, countOf, find, inserted, map, each, listed, below}
 use Rattle.model.specs.Standing.{rising}
 use Rattle.model.proofs.WordTables.{none-is-some, false-is-true}
 use Rattle.model.proofs.Options.{parts, both}
@@ -240,3 +240,57 @@ module _ {A : Type 0} (number : A → ℕ) where
 
   pub rising-few : (xs : List A) (n : ℕ) → rising number xs ≡ true → ((x : A) → x ∈ xs → number x < n) → length xs ≤ n
   rising-few xs n r few = let l = rising-from xs 0 n r (omega arith) (λ x m. omega arith) few in omega arith
+
+-- ---- the place of a number
+
+module _ {A : Type 0} (number : A → ℕ) where
+  -- of a list whose numbers rise: its front, and what comes behind an element
+  pub rising-front : (pre rest : List A) → rising number (pre ++ rest) ≡ true → rising number pre ≡ true
+  rising-front [] rest r = refl
+  rising-front (y ∷ pre) rest r =
+      let (above, more) = parts (allOf (λ z. ltb (number y) (number z)) (pre ++ rest)) (rising number (pre ++ rest)) r in
+      both (front-all pre above) (rising-front pre rest more)
+    where
+      front-all : (zs : List A) → allOf (λ z. ltb (number y) (number z)) (zs ++ rest) ≡ true → allOf (λ z. ltb (number y) (number z)) zs ≡ true
+      front-all [] e = refl
+      front-all (z ∷ zs) e = let (a, b) = all-parts (λ z. ltb (number y) (number z)) z (zs ++ rest) e in all-cons (λ z. ltb (number y) (number z)) z zs a (front-all zs b)
+
+  pub rising-back : (pre rest : List A) → rising number (pre ++ rest) ≡ true → rising number rest ≡ true
+  rising-back [] rest r = r
+  rising-back (y ∷ pre) rest r = rising-back pre rest (parts (allOf (λ z. ltb (number y) (number z)) (pre ++ rest)) (rising number (pre ++ rest)) r .1)
+
+  pub rising-apart : (pre rest : List A) → rising number (pre ++ rest) ≡ true → {x y : A} → x ∈ pre → y ∈ rest → number x < number y
+  rising-apart (z ∷ pre) rest r {x} {y} (here e) n =
+      let (above, more) = parts (allOf (λ u. ltb (number z) (number u)) (pre ++ rest)) (rising number (pre ++ rest)) r in
+      omega (arith, ap number e, ltb-true (number z) (number y) (all-in (λ u. ltb (number z) (number u)) (pre ++ rest) above (Memᴰ·append-right pre n)))
+  rising-apart (z ∷ pre) rest r (there m) n = rising-apart pre rest (parts (allOf (λ u. ltb (number z) (number u)) (pre ++ rest)) (rising number (pre ++ rest)) r .1) m n
+
+  -- where numbers rise and are below their count, each is its place
+  pub number-place : (pre : List A) (x : A) (rest : List A) → rising number (pre ++ x ∷ rest) ≡ true
+      → ((y : A) → y ∈ pre ++ x ∷ rest → number y < length (pre ++ x ∷ rest)) → number x ≡ length pre
+  number-place pre x rest r few =
+      let behind = rising-back pre (x ∷ rest) r in
+      let above : (y : A) → y ∈ x ∷ rest → number x ≤ number y = λ y m. from-first (parts (allOf (λ z. ltb (number x) (number z)) rest) (rising number rest) behind .0) m in
+      let high = rising-from number (x ∷ rest) (number x) (length (pre ++ x ∷ rest)) behind (omega (arith, few x (Memᴰ·append-right pre (here refl)))) above (λ y m. few y (Memᴰ·append-right pre m)) in
+      let low = rising-few number pre (number x) (rising-front pre (x ∷ rest) r) (λ y m. rising-apart pre (x ∷ rest) r m (here refl)) in
+      omega (arith, length-append pre (x ∷ rest))
+    where
+      from-first : {y : A} → allOf (λ z. ltb (number x) (number z)) rest ≡ true → y ∈ x ∷ rest → number x ≤ number y
+      from-first e (here z) = omega (arith, ap number z)
+      from-first {y} e (there m) = omega (arith, ltb-true (number x) (number y) (all-in (λ z. ltb (number x) (number z)) rest e m))
+
+  -- a number above all others goes to the end
+  pub inserted-last : (x : A) (xs : List A) → ((y : A) → y ∈ xs → number y < number x) → inserted number x xs ≡ xs ++ x ∷ []
+  inserted-last x [] above = refl
+  inserted-last x (y ∷ ys) above =
+      rw (le-ltb (number x) (number y) (omega (arith, above y (here refl)))) (ap (λ (l : List A). y ∷ l) (inserted-last x ys (λ z m. above z (there m))))
+
+  -- found by their numbers, one after another, all are there
+  pub numbers-listed : (xs : List A) → rising number xs ≡ true → each (λ k. listed (find (λ x. eqb (number x) k) xs)) (map number xs) ≡ xs
+  numbers-listed xs r = go xs (λ x m. number-found number xs r m)
+    where
+      go : (ys : List A) → ((y : A) → y ∈ ys → find (λ x. eqb (number x) (number y)) xs ≡ some y) → each (λ k. listed (find (λ x. eqb (number x) k) xs)) (map number ys) ≡ ys
+      go [] f = refl
+      go (y ∷ ys) f =
+          ap (λ (o : Option A). listed o ++ each (λ k. listed (find (λ x. eqb (number x) k) xs)) (map number ys)) (f y (here refl))
+          ∙ ap (λ (l : List A). y ∷ l) (go ys (λ z m. f z (there m)))

@@ -56,9 +56,13 @@ unchanged t k = ap not (same-refl (setIn t k))
 pub reached-standing : {S : State} → Reached S → Standing S
 reached-standing r = subst Standing (r .state-is) (ledger-standing (r .words) (r .file) (r .calls) (r .last) (r .in-ledger))
 
-table-after : (words : List ℕ) (S : State) → length words ≡ tableWords → tableAfter words S ≡ tableOf S
-unfolding tableAfter wrongTable
-table-after words S long = ap (λ (b : Bool). if not b then words else tableOf S) (eq-eqb (length words) tableWords long)
+pub right-table : (words : List ℕ) → length words ≡ tableWords → wrongTable (length words) ≡ false
+unfolding wrongTable
+right-table words long = ap not (eq-eqb (length words) tableWords long)
+
+pub table-after : (words : List ℕ) (S : State) → length words ≡ tableWords → tableAfter words S ≡ tableOf S
+unfolding tableAfter
+table-after words S long = ap (λ (b : Bool). if b then words else tableOf S) (right-table words long)
 
 from-words : (S : State) (words : List ℕ) (calls : List Call) → length words ≡ tableWords
     → {o : Outcome} → o ∈ ledgerFrom S words calls → o .words ≡ tableOf (o .state)

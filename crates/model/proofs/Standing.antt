@@ -41,7 +41,7 @@ holder-number D k {h} e =
     let (m, z) = found-number (λ g. g .number) (D .holders) k h e in
     subst (λ (j : ℕ). j ∈ map (λ g. g .number) (D .holders)) z (map-in (λ g. g .number) m)
 
-sort-number : (D : Declarations) (k : ℕ) {s : Sort} → sortOf D k ≡ some s → k ∈ holderNumbersOf D
+pub sort-number : (D : Declarations) (k : ℕ) {s : Sort} → sortOf D k ≡ some s → k ∈ holderNumbersOf D
 unfolding sortOf
 sort-number D k e = let r = bind-some (holderOf D k) (λ h. some (h .sort)) e in holder-number D k (r .1)
 

@@ -35,11 +35,14 @@ pub mod Ledger
 -- "Numbers a caller may meet"
 pub mod Numbers
 pub mod Refusals
--- What holds of every state in a ledger
+-- What holds of every state in a ledger, and of a state while a file is read
 pub mod Standing
+pub mod SoFar
 -- "For C builds"
 pub mod Host
 -- "Office program"
 pub mod Gate
 -- "Valley cases"
 pub mod Valley
+-- Document 02, E1: "The file as it stands now"
+pub mod FileText

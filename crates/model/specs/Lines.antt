@@ -4,16 +4,20 @@ use mathlib.Core.List.{List, _++_}
 use mathlib.Core.Option.{Option, some}
 use lib.ListN.{length}
 use lib.Dec.{leb}
-use Rattle.model.specs.Notation.{_>>=_, isNone, onlyIf, allOf, each}
+use Rattle.model.specs.Notation.{_>>=_, isNone, onlyIf, allOf}
 use Rattle.model.specs.Limits.{lineBytes}
 use Rattle.model.specs.Bytes.{Bytes, bytes, cutAt, content}
 use Rattle.model.specs.Names.{isName, readName}
 use Rattle.model.specs.Attributes.{Source, AtomType, sourceWord, typeWord, readSource, readType}
 use Rattle.model.specs.Atoms.{Atom, readAtom, writeAtom, isAtom}
 use Rattle.model.specs.Keys.{Key, readKey}
-use Rattle.model.specs.Tokens.{Token, spelling, isToken, tokensOf, Spells}
+use Rattle.model.specs.Tokens.{Token, isToken, tokensOf, Spells, spelled}
 use Rattle.model.specs.Grammar.{readPolicy}
 use Rattle.model.specs.Declarations.{Sort, sortWord, isSort}
+
+-- "The first is `rights=1`", with its byte 10
+abbrev pub firstLine : Bytes
+firstLine = bytes "rights=1\n"
 
 -- the lines of the eleven keys; `holder` is those of the keys ugroup, ogroup, user and object
 pub data Line : Type 0 where
@@ -110,7 +114,7 @@ framed line = content line >>= λ l. onlyIf (leb (length l) lineBytes) l >>= rea
 unfoldable pub readLine : Bytes → Option Line
 readLine line = framed line >>= λ (key, fields). readFields key fields
 
--- how a line is written, without its byte 10; a rule with a space before each token
+-- how a line is written, without its byte 10; of a rule "one space stands only between two neighbouring words" (document 02, E1)
 abbrev pub writeLine : Line → Bytes
 writeLine (attr s n t) = bytes "attr=" ++ sourceWord s ++ bytes "," ++ n ++ bytes "," ++ typeWord t
 writeLine (op n) = bytes "op=" ++ n
@@ -119,7 +123,26 @@ writeLine (holder s n) = sortWord s ++ bytes "=" ++ n
 writeLine (parent c g) = bytes "parent=" ++ c ++ bytes "," ++ g
 writeLine (member p g) = bytes "member=" ++ p ++ bytes "," ++ g
 writeLine (value h n a) = bytes "value=" ++ h ++ bytes "," ++ n ++ bytes "," ++ writeAtom a
-writeLine (rule o ts) = bytes "rule=" ++ o ++ bytes "," ++ each (λ t. bytes " " ++ spelling t) ts
+writeLine (rule o ts) = bytes "rule=" ++ o ++ bytes "," ++ spelled ts
+
+-- the key of the lines that declare holders of a sort. Admin has none: `attr` stands for it, as no key is before that
+abbrev pub sortKey : Sort → Key
+sortKey Sort.admin = Key.attr
+sortKey Sort.ugroup = Key.ugroup
+sortKey Sort.ogroup = Key.ogroup
+sortKey Sort.user = Key.user
+sortKey Sort.object = Key.object
+
+-- the key of a line
+abbrev pub lineKey : Line → Key
+lineKey (attr s n t) = Key.attr
+lineKey (op n) = Key.op
+lineKey (atom s n a) = Key.atom
+lineKey (holder s n) = sortKey s
+lineKey (parent c g) = Key.parent
+lineKey (member p g) = Key.member
+lineKey (value h n a) = Key.value
+lineKey (rule o ts) = Key.rule
 
 -- the lines that stand in files: their names, atoms and policies are well formed, and admin is no key
 abbrev pub isLine : Line → Bool

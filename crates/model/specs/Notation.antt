@@ -106,6 +106,11 @@ abbrev pub each : {A B : Type 0} → (A → List B) → List A → List B
 each f [] = []
 each f (x ∷ xs) = f x ++ each f xs
 
+-- a result as a list: of one, or of none
+abbrev pub listed : {A : Type 0} → Option A → List A
+listed none = []
+listed (some a) = a ∷ []
+
 -- the numbers below n, from 0 up
 abbrev pub below : ℕ → List ℕ
 below zero = []

@@ -78,3 +78,9 @@ wrongNumber = 16
 -- "activated bit that is no user attribute held by that user"
 abbrev pub notHeld : ℕ
 notHeld = 17
+
+-- ---- Writer (document 02, E1)
+
+-- "the text is longer than the buffer or than 32,768 bytes"
+abbrev pub doesNotFit : ℕ
+doesNotFit = 18

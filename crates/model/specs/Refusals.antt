@@ -12,7 +12,7 @@ use Rattle.model.specs.Bytes.{Bytes, bytes, behind}
 use Rattle.model.specs.Attributes.{Source, AtomType, fromBlock, sameType, sameSource}
 use Rattle.model.specs.Atoms.{typeOf}
 use Rattle.model.specs.Keys.{Key, rank, isTieKey}
-use Rattle.model.specs.Lines.{Line, attr, op, atom, holder, parent, member, value, rule, framed, readFields, readLine}
+use Rattle.model.specs.Lines.{firstLine, Line, attr, op, atom, holder, parent, member, value, rule, framed, readFields, readLine}
 use Rattle.model.specs.Tokens.{Token, asName}
 use Rattle.model.specs.Grammar.{readPolicy, tooLarge}
 use Rattle.model.specs.Declarations.{Declarations, Sort, isSort, isGroup, groups, parentSort, groupSort, sortOf, attributeNumber, attributeOf, operationNumber, pairNumber, holderNumber, holderNumbersOf}
@@ -44,9 +44,9 @@ wrongTable words = not (eqb words tableWords)
 unfoldable pub tooLong : Bytes → Bool
 tooLong file = ltb fileBytes (length file)
 
--- "3: first line, with its byte 10, wrong or missing". "The first is `rights=1`"
+-- "3: first line, with its byte 10, wrong or missing"
 unfoldable pub wrongFirstLine : Bytes → Bool
-wrongFirstLine file = isNone (behind (bytes "rights=1\n") file)
+wrongFirstLine file = isNone (behind firstLine file)
 
 -- ---- Ticket office, file or edit. A line is given with its byte 10
 
@@ -242,3 +242,9 @@ requestTests S block =
 
 unfoldable pub requestRefusal : State → Bytes → ℕ
 requestRefusal S block = first (requestTests S block)
+
+-- ---- Writer
+
+-- document 02, E1: "18, the writer's only one, when the text is longer than the buffer or than 32,768 bytes". Both by their lengths
+unfoldable pub doesNotFit : ℕ → ℕ → Bool
+doesNotFit text buffer = ltb buffer text || ltb fileBytes text

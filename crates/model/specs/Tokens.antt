@@ -204,3 +204,16 @@ pub data Spells : List Token → Bytes → Type 0 where
   no-token : Spells [] []
   a-space : {ts : List Token} {s : Bytes} → Spells ts s → Spells ts (bytes " " ++ s)
   a-token : (t : Token) {ts : List Token} {s : Bytes} → Spells ts s → mayFollow t ts s ≡ true → Spells (t ∷ ts) (spelling t ++ s)
+
+-- document 02, E1: "Rules keep their tokens; one space stands only between two neighbouring words". Whether the token before is a word is told first
+abbrev pub gap : Bool → Token → Bytes
+gap word t = if (word && isWord t) then bytes " " else []
+
+-- tokens behind a word, or behind none
+abbrev pub spelledBehind : Bool → List Token → Bytes
+spelledBehind word [] = []
+spelledBehind word (t ∷ ts) = gap word t ++ (spelling t ++ spelledBehind (isWord t) ts)
+
+-- the canonical spelling of tokens
+unfoldable pub spelled : List Token → Bytes
+spelled ts = spelledBehind false ts
