@@ -1,0 +1,52 @@
+-- `put_string` meets its contract.
+use Rattle.output.specs.Laid.{wordText}
+use Rattle.writer.specs.Texts.{stringText}
+use Rattle.output.proofs.Laying.{laid-on, laid-as}
+use mathlib.Core.Path.{ap}
+use native.Mathlib.Omega.{arith}
+use borrow.Author.Needs.{needs}
+use Rattle.writer.proofs.field.put_string.Statement.{statement}
+use Rattle.writer.proofs.field.put_string.Tie as tie
+
+put-byte-requires : tie.Need-put-byte-requires
+put-byte-requires c κs = search needs
+
+put-name-requires : tie.Need-put-name-requires
+put-name-requires c κs = search needs
+
+add-word : tie.Need-add-word
+add-word c = search needs
+
+word-requires : tie.Need-word-requires
+word-requires c κs = search needs
+
+put-word-requires : tie.Need-put-word-requires
+put-word-requires c κs = search needs
+
+put-byte-requires-2 : tie.Need-put-byte-requires-2
+put-byte-requires-2 c κs = search needs
+
+same-length : tie.Need-same-length
+same-length c = search needs
+
+returns : tie.Need-returns
+unfolding stringText
+returns c =
+    let a = c .before .before .before .before .before .before .before .before .before .before .before .before .before .before .before .put-byte .ensures in
+    let b = c .before .before .before .before .before .before .before .before .before .before .before .put-name .ensures in
+    let d = c .before .before .before .before .before .before .put-word .ensures in
+    let e = c .before .before .put-byte2 .ensures in
+    (laid-on a (laid-on (laid-on (b .0) (laid-as (ap (wordText 8) (c .before .before .before .before .before .before .before .word .ensures)) (d .0))) e), omega (arith, a .behind, b .1, d .1, e .behind))
+
+pub put-string-spec : {M : Type 1} → statement M
+put-string-spec =
+    tie.close
+    (tie.spec
+    put-byte-requires
+    put-name-requires
+    add-word
+    word-requires
+    put-word-requires
+    put-byte-requires-2
+    same-length
+    returns)

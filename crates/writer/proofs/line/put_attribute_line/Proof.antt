@@ -1,0 +1,93 @@
+-- `put_attribute_line` meets its contract.
+use Rattle.output.specs.Laid.{far}
+use Prim.Native.Nat.{_<_}
+use Rattle.writer.specs.Texts.{listedText, sourceWords, typeWords, attributeLineText}
+use Rattle.output.proofs.Laying.{laid-on, laid-as}
+use mathlib.Core.Path.{ap}
+use native.Mathlib.Omega.{arith}
+use borrow.Author.Needs.{needs}
+use Rattle.writer.proofs.line.put_attribute_line.Statement.{statement}
+use Rattle.writer.proofs.line.put_attribute_line.Tie as tie
+
+mul-row : tie.Need-mul-row
+mul-row c = search needs
+
+add-row : tie.Need-add-row
+add-row c = search needs
+
+put-key-requires : tie.Need-put-key-requires
+put-key-requires c κs = search needs
+
+word-requires : tie.Need-word-requires
+word-requires c κs = search needs
+
+put-source-requires : tie.Need-put-source-requires
+put-source-requires c κs = search needs
+
+put-byte-requires : tie.Need-put-byte-requires
+put-byte-requires c κs = search needs
+
+add-put-name : tie.Need-add-put-name
+add-put-name c = search needs
+
+put-name-requires : tie.Need-put-name-requires
+put-name-requires c κs = search needs
+
+put-byte-requires-2 : tie.Need-put-byte-requires-2
+put-byte-requires-2 c κs = search needs
+
+add-word : tie.Need-add-word
+add-word c = search needs
+
+word-requires-2 : tie.Need-word-requires-2
+word-requires-2 c κs = search needs
+
+put-type-requires : tie.Need-put-type-requires
+put-type-requires c κs = search needs
+
+put-byte-requires-3 : tie.Need-put-byte-requires-3
+put-byte-requires-3 c κs =
+    let p0 = c .before .before .before .before .before .before .before .before .before .before .before .before .before .before .before .before .before .before .before .before .before .before .before .before .before .put-key .ensures in
+    let p1 = c .before .before .before .before .before .before .before .before .before .before .before .before .before .before .before .before .before .before .before .before .put-source .ensures in
+    let p2 = c .before .before .before .before .before .before .before .before .before .before .before .before .before .before .before .before .put-byte .ensures in
+    let p3 = c .before .before .before .before .before .before .before .before .before .before .before .before .put-name .ensures in
+    let p4 = c .before .before .before .before .before .before .before .before .put-byte2 .ensures in
+    let p5 = c .before .before .before .put-type .ensures in
+    let n = c .before .before .before .put-type .result in
+    let g : n < far = omega (arith, p0 .1, p1 .1, p2 .behind, p3 .1, p4 .behind, p5 .1, c .before .before .before .before .before .before .before .before .before .before .before .before .before .before .before .before .before .before .before .before .before .before .before .before .before .before .before .before .before .pre .0) in
+    g
+
+same-length : tie.Need-same-length
+same-length c = search needs
+
+returns : tie.Need-returns
+unfolding attributeLineText
+returns c =
+    let p0 = c .before .before .before .before .before .before .before .before .before .before .before .before .before .before .before .before .before .before .before .before .before .before .before .before .before .before .before .before .put-key .ensures in
+    let p1 = c .before .before .before .before .before .before .before .before .before .before .before .before .before .before .before .before .before .before .before .before .before .before .before .put-source .ensures in
+    let p2 = c .before .before .before .before .before .before .before .before .before .before .before .before .before .before .before .before .before .before .before .put-byte .ensures in
+    let p3 = c .before .before .before .before .before .before .before .before .before .before .before .before .before .before .before .put-name .ensures in
+    let p4 = c .before .before .before .before .before .before .before .before .before .before .before .put-byte2 .ensures in
+    let p5 = c .before .before .before .before .before .before .put-type .ensures in
+    let p6 = c .before .before .put-byte3 .ensures in
+    (laid-on (p0 .0) (laid-on (laid-as (ap (listedText sourceWords) (c .before .before .before .before .before .before .before .before .before .before .before .before .before .before .before .before .before .before .before .before .before .before .before .before .word .ensures)) (p1 .0)) (laid-on p2 (laid-on (p3 .0) (laid-on p4 (laid-on (laid-as (ap (listedText typeWords) (c .before .before .before .before .before .before .before .word2 .ensures)) (p5 .0)) p6))))), omega (arith, p0 .1, p1 .1, p2 .behind, p3 .1, p4 .behind, p5 .1, p6 .behind))
+
+pub put-attribute-line-spec : {M : Type 1} → statement M
+put-attribute-line-spec =
+    tie.close
+    (tie.spec
+    mul-row
+    add-row
+    put-key-requires
+    word-requires
+    put-source-requires
+    put-byte-requires
+    add-put-name
+    put-name-requires
+    put-byte-requires-2
+    add-word
+    word-requires-2
+    put-type-requires
+    put-byte-requires-3
+    same-length
+    returns)

@@ -1,0 +1,57 @@
+-- `put_holder_line` meets its contract.
+use Rattle.writer.proofs.LaidTexts.{holder-line, no-holder-line}
+use Rattle.writer.specs.Texts.{holderLineText}
+use Rattle.output.proofs.Laying.{laid-none, laid-on, laid-as}
+use mathlib.Core.Path.{sym, _∙_}
+use native.Mathlib.Omega.{arith}
+use borrow.Author.Needs.{needs}
+use Rattle.writer.proofs.line.put_holder_line.Statement.{statement}
+use Rattle.writer.proofs.line.put_holder_line.Tie as tie
+
+add-word : tie.Need-add-word
+add-word c = search needs
+
+word-requires : tie.Need-word-requires
+word-requires c κs = search needs
+
+returns : tie.Need-returns
+unfolding holderLineText
+returns c =
+    let a = c .before .before .before .before .args in
+    let w = c .before .word .ensures in
+    (laid-as (no-holder-line (a .book .now) (a .sort) (a .k) (λ e. c .if1 .taken (w ∙ e))) (laid-none (a .out .now) (a .at)), omega arith)
+
+put-key-requires : tie.Need-put-key-requires
+put-key-requires c κs = search needs
+
+put-holder-requires : tie.Need-put-holder-requires
+put-holder-requires c κs = search needs
+
+put-byte-requires : tie.Need-put-byte-requires
+put-byte-requires c κs = search needs
+
+same-length : tie.Need-same-length
+same-length c = search needs
+
+returns-2 : tie.Need-returns-2
+unfolding holderLineText
+returns-2 c =
+    let a = c .before .before .before .before .before .before .before .before .before .before .before .before .before .before .before .before .args in
+    let w = c .before .before .before .before .before .before .before .before .before .before .before .before .before .word .ensures in
+    let p0 = c .before .before .before .before .before .before .before .before .before .before .put-key .ensures in
+    let p1 = c .before .before .before .before .before .before .put-holder .ensures in
+    let p2 = c .before .before .put-byte .ensures in
+    (laid-as (holder-line (a .book .now) (a .sort) (a .k) (sym w ∙ c .before .before .before .before .before .before .before .before .before .before .before .before .if1 .left)) (laid-on (p0 .0) (laid-on (p1 .0) p2)), omega (arith, p0 .1, p1 .1, p2 .behind))
+
+pub put-holder-line-spec : {M : Type 1} → statement M
+put-holder-line-spec =
+    tie.close
+    (tie.spec
+    add-word
+    word-requires
+    returns
+    put-key-requires
+    put-holder-requires
+    put-byte-requires
+    same-length
+    returns-2)
