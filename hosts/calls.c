@@ -1,6 +1,8 @@
 /* Runs the library over the conformance kit: `calls` reads a call list (vectors/README.md, "call lists"), `calls gate` a session of the office
    program, from standard input, and prints the answers. `calls many` reads many such sessions, each behind a line with its number and its length in
-   bytes, and prints a line `session=NUMBER` before the answers of each. Status 2 for input that is no call list or no such stream. */
+   bytes, and prints a line `session=NUMBER` before the answers of each and, behind them, the file as it stands then: `write=` as in a call list and
+   `text=` with its bytes; then `wrong=` with what is amiss about it, if something is. `calls lists` does so with many call lists, which write where they
+   say so. Status 2 for input that is no call list or no such stream. */
 #include "zhulmekov.h"
 
 #include <inttypes.h>
@@ -8,11 +10,11 @@
 #include <stdlib.h>
 #include <string.h>
 
-enum { INPUT = 1 << 20 };
+enum { INPUT = 1 << 20, LONGEST_FILE = 32768, BEHIND = 64 };
 
 static uint8_t input[INPUT + 1], bytes[INPUT], other[INPUT];
 static uint64_t book[ZHUL_BOOK_WORDS], *table;
-static uint8_t rules[ZHUL_RULES_BYTES];
+static uint8_t rules[ZHUL_RULES_BYTES], buffer[INPUT + BEHIND];
 static size_t words;
 
 static int digit(uint8_t c) { return c >= '0' && c <= '9' ? c - '0' : c >= 'a' && c <= 'f' ? c - 'a' + 10 : -1; }
@@ -30,6 +32,18 @@ static long unhex(const uint8_t *s, size_t n, uint8_t *to) {
 
 static void put_load(uint64_t r) { printf("load=%" PRIu32 ",%" PRIu32 "\n", ZHUL_NUMBER(r), ZHUL_CARRIED(r)); }
 static void put_edit(uint64_t r) { printf("edit=%" PRIu32 ",%" PRIu32 "\n", ZHUL_NUMBER(r), ZHUL_CARRIED(r)); }
+
+static void put_write(uint64_t r) { printf("write=%" PRIu32 ",%" PRIu32 "\n", ZHUL_NUMBER(r), ZHUL_CARRIED(r)); }
+
+static void put_hex(const char *head, const uint8_t *s, size_t n) {
+    static const char digits[] = "0123456789abcdef";
+    fputs(head, stdout);
+    for (size_t i = 0; i < n; i++) {
+        putchar(digits[s[i] >> 4]);
+        putchar(digits[s[i] & 15]);
+    }
+    puts("");
+}
 
 static void put_decision(uint64_t r) {
     switch (ZHUL_NUMBER(r)) {
@@ -58,6 +72,30 @@ static size_t line_length(const uint8_t *s, size_t n) {
 
 static int begins(const uint8_t *s, size_t n, const char *word) { return n >= strlen(word) && memcmp(s, word, strlen(word)) == 0; }
 
+static int all(const uint8_t *s, size_t n, uint8_t byte) {
+    for (size_t i = 0; i < n; i++)
+        if (s[i] != byte) return 0;
+    return 1;
+}
+
+/* Lends the writer the first n bytes of `to`, which are all `byte`, as are those behind them. */
+static uint64_t lend(const uint64_t *of, const uint8_t *with, uint8_t *to, size_t n, uint8_t byte) {
+    memset(to, byte, n + BEHIND);
+    return zhul_write(of, with, to, n);
+}
+
+/* LENGTH,BYTE of a line `write=LENGTH,BYTE`. */
+static int call_write(const uint8_t *s, size_t n) {
+    size_t i = 0, length = 0;
+    uint8_t byte;
+    for (; i < n && i < 8 && digit(s[i]) >= 0 && digit(s[i]) <= 9; i++) length = 10 * length + (size_t)digit(s[i]);
+    if (i == 0 || length > INPUT || n - i != 3 || s[i] != ',' || unhex(s + i + 1, 2, &byte) != 1) return 0;
+    put_write(lend(book, rules, buffer, length, byte));
+    put_hex("buffer=", buffer, length);
+    if (!all(buffer + length, BEHIND, byte)) puts("wrong=bytes behind the buffer are written");
+    return 1;
+}
+
 /* A table of the length and words that the first line of a call list gives. */
 static int read_table(char *s) {
     char *at;
@@ -79,6 +117,8 @@ static int call(const uint8_t *s, size_t n) {
         long f = unhex(s + 2, (size_t)(comma - s) - 2, bytes), b = unhex(comma + 1, n - (size_t)(comma - s) - 1, other);
         if (f < 0 || b < 0) return 0;
         printf("c=%" PRIu32 "\n", zhul_pass(bytes, (size_t)f, other, (size_t)b, table, words));
+    } else if (begins(s, n, "write=")) {
+        if (!call_write(s + 6, n - 6)) return 0;
     } else {
         const uint8_t *equals = memchr(s, '=', n);
         if (equals == NULL) return 0;
@@ -105,6 +145,7 @@ static int call_list(size_t n) {
         if (!call(input + at, input[at + k - 1] == '\n' ? k - 1 : k)) return 2;
         at += k;
     }
+    free(table);
     return 0;
 }
 
@@ -118,6 +159,7 @@ static void command(const uint8_t *s, size_t k) {
     else puts("bad=");
 }
 
+/* Whether a book is there afterwards: an input that is too long makes no call. */
 static int session(size_t n) {
     size_t at = 0, k = 0;
     static uint64_t lent[ZHUL_TABLE_WORDS];
@@ -128,30 +170,69 @@ static int session(size_t n) {
     put_load(zhul_load(input, at, book, rules, table, words));
     if (at < n) at += k;
     for (; at < n; at += k) command(input + at, k = line_length(input + at, n - at));
-    return 0;
+    return 1;
+}
+
+/* What is amiss about a text of n bytes that stands in the buffer, which was all 0 before, or NULL: what else the writer answers for this book, and
+   what the text loads as, on a book and a table in which the session before left something. */
+static const char *wrong_text(size_t n) {
+    static uint64_t second[ZHUL_BOOK_WORDS], second_table[ZHUL_TABLE_WORDS];
+    static uint8_t second_rules[ZHUL_RULES_BYTES], again[LONGEST_FILE + BEHIND];
+    const uint64_t done = (uint64_t)n << 32;
+    if (n > LONGEST_FILE) return "the length is over 32,768";
+    if (!all(buffer + n, LONGEST_FILE + BEHIND - n, 0)) return "bytes behind the text are written";
+    if (n == 0 || lend(book, rules, again, n - 1, 0xaa) != ZHUL_DOES_NOT_FIT) return "a buffer that is one byte too short is not refused";
+    if (!all(again, n - 1 + BEHIND, 0xaa)) return "a refusal writes to the buffer";
+    if (lend(book, rules, again, n, 0xaa) != done || memcmp(again, buffer, n) != 0) return "a buffer of just that length gets another text";
+    if (!all(again + n, BEHIND, 0xaa)) return "bytes behind the buffer are written";
+    if (ZHUL_NUMBER(zhul_load(buffer, n, second, second_rules, second_table, ZHUL_TABLE_WORDS)) != 0) return "the text is refused";
+    if (memcmp(second_table, table, sizeof second_table) != 0) return "the text loads as other words";
+    if (lend(second, second_rules, again, LONGEST_FILE, 0x55) != done || memcmp(again, buffer, n) != 0) return "loaded, it is written otherwise";
+    if (!all(again + n, LONGEST_FILE + BEHIND - n, 0x55)) return "written again, bytes behind the text are written";
+    return NULL;
+}
+
+/* The same for a refusal: the text of a book is over 32,768 bytes. */
+static const char *wrong_refusal(uint64_t r) {
+    if (r != ZHUL_DOES_NOT_FIT) return "a refusal is not 18 and 0";
+    if (!all(buffer, LONGEST_FILE + BEHIND, 0)) return "a refusal writes to the buffer";
+    if (lend(book, rules, buffer, INPUT, 0xaa) != ZHUL_DOES_NOT_FIT) return "a longer buffer is not refused";
+    if (!all(buffer, INPUT + BEHIND, 0xaa)) return "a refusal writes to a longer buffer";
+    return NULL;
+}
+
+static void put_file(void) {
+    uint64_t r = lend(book, rules, buffer, LONGEST_FILE, 0);
+    size_t n = ZHUL_CARRIED(r);
+    put_write(r);
+    put_hex("text=", buffer, n > LONGEST_FILE ? LONGEST_FILE : n);
+    const char *wrong = ZHUL_NUMBER(r) == 0 ? wrong_text(n) : wrong_refusal(r);
+    if (wrong != NULL) printf("wrong=%s\n", wrong);
 }
 
 /* The book, the rules and the table stay as the session before left them: a load has to cope with anything in them. */
-static int many(void) {
+static int many(int lists) {
     uint64_t number;
     size_t n;
     int read;
     while ((read = scanf("%" SCNu64 " %zu", &number, &n)) == 2) {
         if (getchar() != '\n' || n > INPUT || fread(input, 1, n, stdin) != n) return 2;
         printf("session=%" PRIu64 "\n", number);
-        session(n);
+        if (lists && call_list(n) != 0) return 2;
+        if (!lists && session(n)) put_file();
     }
     return read == EOF ? 0 : 2;
 }
 
 static int whole(int gate) {
     size_t n = fread(input, 1, INPUT, stdin);
-    return gate ? session(n) : call_list(n);
+    return gate ? (session(n), 0) : call_list(n);
 }
 
 int main(int argc, char **argv) {
     const char *mode = argc > 1 ? argv[1] : "";
-    int status = strcmp(mode, "many") == 0 ? many() : whole(strcmp(mode, "gate") == 0);
+    int lists = strcmp(mode, "lists") == 0;
+    int status = lists || strcmp(mode, "many") == 0 ? many(lists) : whole(strcmp(mode, "gate") == 0);
     if (ferror(stdin)) return fputs("calls: standard input can't be read\n", stderr), 1;
     if (fflush(stdout) != 0) return fputs("calls: standard output can't be written\n", stderr), 1;
     return status;

@@ -1,7 +1,7 @@
 /* Measures the stack that the calls take: each call runs on a thread whose stack was filled with a pattern, and the lowest byte that lost it tells how
    deep the call went, counted from the frame that made the call. `stack SESSION.in...` takes the largest input and then each session, whose answers
-   have to be those of SESSION.out. Prints the most of each call; status 1 for a wrong answer, as a call that was refused early would measure little.
-   Last comes a request on rules that no load leaves. */
+   have to be those of SESSION.out; the file that is written behind it has to load. Prints the most of each call; status 1 for a wrong answer, as a call
+   that was refused early would measure little. Last come a request on rules that no load leaves, and writes on such rules and on such books. */
 #define _GNU_SOURCE
 #include "zhulmekov.h"
 
@@ -13,13 +13,13 @@
 #include <string.h>
 
 enum { STACK = 1 << 20, PATTERN = 0xa5, INPUT = 65536, FILE_LIMIT = 32768 };
-enum { EMPTY, PASS, LOAD, EDIT, DECIDE, CALLS };
+enum { EMPTY, PASS, LOAD, EDIT, DECIDE, WRITE, CALLS };
 enum { ATTRIBUTES = 32, OF_USER = 24, OF_OBJECT = 4, GROUPS = 64, USERS = 190 };
 
-static const char *const names[CALLS] = {"empty", "zhul_pass", "zhul_load", "zhul_edit", "zhul_decide"};
+static const char *const names[CALLS] = {"empty", "zhul_pass", "zhul_load", "zhul_edit", "zhul_decide", "zhul_write"};
 static _Alignas(4096) uint8_t stack[STACK];
 static uint64_t book[ZHUL_BOOK_WORDS], table[ZHUL_TABLE_WORDS];
-static uint8_t rules[ZHUL_RULES_BYTES], input[INPUT + 1], bytes[INPUT];
+static uint8_t rules[ZHUL_RULES_BYTES], input[INPUT + 1], bytes[INPUT], buffer[FILE_LIMIT];
 static size_t most[CALLS];
 
 static struct { int call; const uint8_t *first, *second; size_t first_length, second_length; uint64_t answer; size_t depth; } job;
@@ -31,6 +31,7 @@ static __attribute__((noinline)) uint8_t *make_call(void) {
     case LOAD: job.answer = zhul_load(job.first, job.first_length, book, rules, table, ZHUL_TABLE_WORDS); break;
     case EDIT: job.answer = zhul_edit(job.first, job.first_length, book, table, ZHUL_TABLE_WORDS); break;
     case DECIDE: job.answer = zhul_decide(job.first, job.first_length, book, rules, table, ZHUL_TABLE_WORDS); break;
+    case WRITE: job.answer = zhul_write(book, rules, buffer, FILE_LIMIT); break;
     default: job.answer = 0;
     }
     return __builtin_frame_address(0);
@@ -64,6 +65,17 @@ static void expect(const char *what, uint64_t answer, uint32_t number, uint32_t 
     if (ZHUL_NUMBER(answer) == number && ZHUL_CARRIED(answer) == carried) return;
     printf("%s: expected %" PRIu32 ",%" PRIu32 ", given %" PRIu32 ",%" PRIu32 "\n", what, number, carried, ZHUL_NUMBER(answer), ZHUL_CARRIED(answer));
     exit(1);
+}
+
+/* Writes the file as it stands now: it has to load, unless it is too long to be written. */
+static uint64_t written(const char *what) {
+    static uint64_t second[ZHUL_BOOK_WORDS], second_table[ZHUL_TABLE_WORDS];
+    static uint8_t second_rules[ZHUL_RULES_BYTES];
+    uint64_t answer = measured(WRITE, input, 0, input, 0);
+    if (answer == ZHUL_DOES_NOT_FIT) return answer;
+    expect(what, ZHUL_NUMBER(answer), 0, 0);
+    expect(what, ZHUL_NUMBER(zhul_load(buffer, ZHUL_CARRIED(answer), second, second_rules, second_table, ZHUL_TABLE_WORDS)), 0, 0);
+    return answer;
 }
 
 static size_t length, lines;
@@ -131,12 +143,15 @@ static void largest(int reversed) {
     expect("load", measured(LOAD, input, length, block, 0), 0, (uint32_t)lines);
     expect("decide", measured(DECIDE, block, sizeof block, block, 0), ZHUL_PERMIT, 31);
     expect("pass", measured(PASS, input, length, block, sizeof block), ZHUL_PERMIT, 0);
+    /* Half of the rules have one space that is not written: the one behind a set. */
+    expect("write", written("write"), 0, (uint32_t)length - 16);
     expect("value at the head", edited("+value=g%011d,a,4294967286\n", head, 0), 0, GROUPS + USERS);
     expect("chain cut", edited("-parent=g%011d,g%011d\n", next, head), 0, GROUPS - 1 + USERS);
     expect("chain joined", edited("+parent=g%011d,g%011d\n", next, head), 0, GROUPS - 1 + USERS);
     expect("circle", edited("+parent=g%011d,g%011d\n", head, end), 12, 0);
     expect("decide after edits", measured(DECIDE, block, sizeof block, block, 0), ZHUL_PERMIT, 31);
     expect("member at the end", edited("-member=u%011d,g%011d\n", USERS - 1, end), 0, 1);
+    expect("write after edits", ZHUL_NUMBER(written("write after edits")), 0, 0);
 }
 
 /* A policy is read to its end before its depth is judged: a line full of parentheses takes the most, though it is refused. The file stays the largest
@@ -160,6 +175,32 @@ static void stray(void) {
     memset(rules, 5, sizeof rules);
     expect("decide on other rules", measured(DECIDE, block, sizeof block, block, 0), ZHUL_UNDEFINED, 0);
     printf("%s on rules that no load leaves %zu\n", names[DECIDE], job.depth);
+}
+
+/* One write, whatever it answers. */
+static void write_stray(void) {
+    measured(WRITE, input, 0, input, 0);
+    if (ZHUL_CARRIED(job.answer) > FILE_LIMIT) printf("%s: a length over the buffer's\n", names[WRITE]), exit(1);
+}
+
+static uint64_t drawn(void) {
+    static uint64_t seed = 1;
+    seed ^= seed << 13, seed ^= seed >> 7, seed ^= seed << 17;
+    return seed;
+}
+
+/* Books and rules that no call leaves: the largest file's book with rules of one byte, for each byte; books and rules of one byte; drawn ones. */
+static void stray_writes(void) {
+    largest(0);
+    most[WRITE] = 0;
+    for (int byte = 0; byte < 256; byte++) memset(rules, byte, sizeof rules), write_stray();
+    for (int byte = 0; byte < 256; byte++) memset(rules, byte, sizeof rules), memset(book, byte, sizeof book), write_stray();
+    for (int times = 0; times < 256; times++) {
+        for (size_t i = 0; i < sizeof rules; i++) rules[i] = (uint8_t)(drawn() >> 32);
+        for (size_t i = 0; i < ZHUL_BOOK_WORDS; i++) book[i] = times % 2 == 0 ? drawn() : drawn() >> (drawn() >> 32) % 64;
+        write_stray();
+    }
+    printf("%s on books and rules that no call leaves %zu\n", names[WRITE], most[WRITE]);
 }
 
 static int digit(uint8_t c) { return c >= '0' && c <= '9' ? c - '0' : c >= 'a' && c <= 'f' ? c - 'a' + 10 : -1; }
@@ -215,6 +256,7 @@ static void session(const char *name) {
                 if (!edited) expect(name, measured(PASS, input, file, bytes, (size_t)b), loaded != 0 ? loaded : number, 0);
             }
         }
+        written(name);
     }
     fclose(in);
     fclose(out);
@@ -229,5 +271,6 @@ int main(int argc, char **argv) {
     for (int i = 1; i < argc; i++) session(argv[i]);
     for (int call = 0; call < CALLS; call++) printf("%s %zu (the largest files that are accepted: %zu)\n", names[call], most[call], accepted[call]);
     stray();
+    stray_writes();
     return 0;
 }

@@ -19,6 +19,8 @@ pub enum Calls {
     /// Edits one after another, which leave the book as it was: a tie put and taken, or refused edits.
     Edits(Vec<(String, Told)>),
     Request(Vec<u8>, Told),
+    /// The write of the file as it stands now, which has so many bytes, into a buffer that fits every file.
+    Write(usize),
     /// The one call for hosts in C, with the case's file.
     Pass(Vec<u8>, u32),
 }

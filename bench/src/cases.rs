@@ -10,6 +10,10 @@ const LOAD_GOAL: f64 = 3.0;
 const USER_GOAL: f64 = 1.5;
 const TOP_GOAL: f64 = 1.0;
 const REQUEST_GOAL: f64 = 2.0;
+const WRITE_GOAL: f64 = 3.0;
+
+/// How the rows of the full file's load and write begin: their times are held against each other.
+pub const FULL: &str = "every table full";
 
 /// The user and the object of the full file that edits and requests are about.
 const USER: usize = 5;
@@ -24,6 +28,7 @@ pub fn all() -> Vec<Case> {
     cases.extend(refused_edits(&size, &full));
     cases.extend(requests(&size, &full));
     cases.extend(refused_requests(&size, &full));
+    cases.extend(writes(&full));
     cases.extend(passes(&size, &full));
     cases
 }
@@ -33,7 +38,7 @@ fn loads(full: &FullFile) -> Vec<Case> {
     let lines = full.bytes.iter().filter(|&&byte| byte == b'\n').count();
     vec![
         case("valley, 27 lines".to_string(), &files::valley()),
-        case(format!("every table full, {} bytes, {lines} lines", full.bytes.len()), &full.bytes),
+        case(format!("{FULL}, {} bytes, {lines} lines", full.bytes.len()), &full.bytes),
     ]
 }
 
@@ -135,6 +140,15 @@ fn refused_requests(size: &Size, full: &FullFile) -> Vec<Case> {
             17,
         ),
     ]
+}
+
+fn writes(full: &FullFile) -> Vec<Case> {
+    let case = |name: &str, file: &[u8]| {
+        let length = files::written_length(file);
+        let name = format!("{name}, {length} bytes");
+        Case::new("write", name, file, Calls::Write(length)).with_goal(WRITE_GOAL)
+    };
+    vec![case("valley", &files::valley()), case(FULL, &full.bytes)]
 }
 
 fn passes(size: &Size, full: &FullFile) -> Vec<Case> {

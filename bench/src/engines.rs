@@ -3,6 +3,7 @@
 use crate::case::{Calls, Case};
 use crate::library::Library;
 use crate::told::Told;
+use reference::file::FILE_LIMIT;
 use reference::session::{Engine, TableEngine};
 use reference::{c_call, TABLE_WORDS};
 
@@ -27,6 +28,7 @@ impl Engines {
             Calls::Load => self.load(case),
             Calls::Edits(edits) => edits.iter().try_for_each(|(line, wanted)| self.edit(line, *wanted)),
             Calls::Request(block, wanted) => self.request(block, *wanted),
+            Calls::Write(length) => self.write(*length),
             Calls::Pass(block, wanted) => self.pass(&case.file, block, *wanted),
         }
     }
@@ -47,6 +49,17 @@ impl Engines {
         let ours = Told::of_library(self.ours.request(block));
         let reference = Told::of_decision(self.reference.request(block));
         self.compare("request", ours, reference, wanted)
+    }
+
+    /// Both buffers are held against each other to their ends, so that bytes behind the text count too.
+    fn write(&self, length: usize) -> Result<(), String> {
+        let (mut by_ours, mut by_reference) = (vec![0xaa; FILE_LIMIT], vec![0xaa; FILE_LIMIT]);
+        let ours = Told::of_library(self.ours.write(&mut by_ours));
+        let reference = Told::of_write(self.reference.write(&mut by_reference));
+        if let Some(byte) = (0..FILE_LIMIT).find(|&byte| by_ours[byte] != by_reference[byte]) {
+            return Err(format!("write: byte {byte} of the buffer differs"));
+        }
+        self.compare("write", ours, reference, Told::new(0, length))
     }
 
     fn pass(&mut self, file: &[u8], block: &[u8], wanted: u32) -> Result<(), String> {

@@ -2,6 +2,7 @@
 
 use crate::policies;
 use reference::office::{read_hex, split_at_end};
+use reference::{Book, TABLE_WORDS};
 
 const VALLEY_SESSION: &[u8] = include_bytes!("../../vectors/valley/office-example.in");
 
@@ -29,6 +30,12 @@ pub fn valley_with(policies: &[String]) -> Vec<u8> {
 /// The valley file with `rules` rules of 16 terms.
 pub fn valley_large(rules: usize) -> Vec<u8> {
     valley_with(&vec![policies::sixteen_terms_valley().to_string(); rules])
+}
+
+/// How many bytes a file has when it is loaded and written.
+pub fn written_length(file: &[u8]) -> usize {
+    let (book, _) = Book::load(file, &mut [0; TABLE_WORDS]);
+    book.text().len()
 }
 
 /// Groups below group g0: for each the numbers of its parents.

@@ -8,6 +8,7 @@ use crate::told::{Told, DENY, UNDEFINED};
 
 pub fn all() -> Vec<Case> {
     let mut cases = loads();
+    cases.extend(writes());
     cases.extend(edits("edit of a group, by members below", files::members));
     cases.extend(edits("edit of a group, by holders below, chain of groups first", files::chain));
     cases.extend(requests_by_terms());
@@ -15,15 +16,28 @@ pub fn all() -> Vec<Case> {
     cases
 }
 
-fn loads() -> Vec<Case> {
+/// The first line alone, the valley file, and files with every table full to a part.
+fn growing() -> Vec<Vec<u8>> {
     let mut files = vec![b"rights=1\n".to_vec(), files::valley()];
     files.extend((1..=4).map(|part| full::file(&Size::quarters(part)).bytes));
+    files
+}
+
+fn loads() -> Vec<Case> {
     let case = |file: &Vec<u8>| {
         let mut case = Case::new("load, by lines", "", file, Calls::Load);
         case.name = format!("{} lines, {} bytes", case.lines(), file.len());
         case
     };
-    files.iter().map(case).collect()
+    growing().iter().map(case).collect()
+}
+
+fn writes() -> Vec<Case> {
+    let case = |file: &Vec<u8>| {
+        let length = files::written_length(file);
+        Case::new("write, by bytes", format!("{length} bytes"), file, Calls::Write(length))
+    };
+    growing().iter().map(case).collect()
 }
 
 fn edits(part: &'static str, file: fn(usize) -> Vec<u8>) -> Vec<Case> {

@@ -37,6 +37,7 @@ extern "C" {
         table: *const u64,
         table_words: usize,
     ) -> u64;
+    fn zhul_write(book: *const u64, rules: *const u8, buffer: *mut u8, buffer_length: usize) -> u64;
 }
 
 /// The three buffers that a host lends.
@@ -68,6 +69,12 @@ impl Library {
     pub fn request(&self, block: &[u8]) -> u64 {
         let (book, rules) = (self.book.as_ptr(), self.rules.as_ptr());
         unsafe { zhul_decide(block.as_ptr(), block.len(), book, rules, self.table.as_ptr(), TABLE_WORDS) }
+    }
+
+    #[inline(always)]
+    pub fn write(&self, buffer: &mut [u8]) -> u64 {
+        let (book, rules) = (self.book.as_ptr(), self.rules.as_ptr());
+        unsafe { zhul_write(book, rules, buffer.as_mut_ptr(), buffer.len()) }
     }
 
     #[inline(always)]

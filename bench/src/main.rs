@@ -65,7 +65,7 @@ fn answers() -> Result<(), String> {
     for case in &cases {
         measure::agree(case).map_err(|error| format!("{}: {error}", full_name(case)))?;
     }
-    println!("{} cases, answers and tables are the same", cases.len());
+    println!("{} cases: answers, tables and written files are the same", cases.len());
     Ok(())
 }
 

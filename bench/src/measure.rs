@@ -3,6 +3,7 @@
 use crate::case::{Calls, Case};
 use crate::engines::Engines;
 use reference::c_call;
+use reference::file::FILE_LIMIT;
 use reference::session::Engine;
 use std::hint::black_box;
 use std::time::{Duration, Instant};
@@ -35,6 +36,7 @@ pub fn agree(case: &Case) -> Result<(), String> {
 fn time(case: &Case, engines: &mut Engines) -> Times {
     let Engines { ours, reference } = engines;
     let file = case.file.as_slice();
+    let (mut to, mut to_other) = (vec![0; FILE_LIMIT], vec![0; FILE_LIMIT]);
     match &case.calls {
         Calls::Load => best(1, || ours.load(black_box(file)), || reference.load(black_box(file))),
         Calls::Edits(edits) => best(
@@ -44,6 +46,9 @@ fn time(case: &Case, engines: &mut Engines) -> Times {
         ),
         Calls::Request(block, _) => {
             best(1, || ours.request(black_box(block)), || reference.request(black_box(block)))
+        }
+        Calls::Write(_) => {
+            best(1, || ours.write(black_box(&mut to)), || reference.write(black_box(&mut to_other)))
         }
         Calls::Pass(block, _) => best(
             1,
@@ -95,21 +100,23 @@ fn seen<R>(answer: R) {
 pub fn alone(case: &Case, while_running: Duration) -> Result<(), String> {
     let mut engines = Engines::start(case)?;
     engines.agree(case)?;
+    let mut buffer = vec![0; FILE_LIMIT];
     let start = Instant::now();
     while start.elapsed() < while_running {
         for _ in 0..100 {
-            library_turn(case, &mut engines);
+            library_turn(case, &mut engines, &mut buffer);
         }
     }
     Ok(())
 }
 
-fn library_turn(case: &Case, engines: &mut Engines) {
+fn library_turn(case: &Case, engines: &mut Engines, buffer: &mut [u8]) {
     let ours = &mut engines.ours;
     match &case.calls {
         Calls::Load => seen(ours.load(&case.file)),
         Calls::Edits(edits) => edits.iter().for_each(|(line, _)| seen(ours.edit(line.as_bytes()))),
         Calls::Request(block, _) => seen(ours.request(block)),
+        Calls::Write(_) => seen(ours.write(buffer)),
         Calls::Pass(block, _) => seen(ours.pass(&case.file, block)),
     }
 }

@@ -1,6 +1,7 @@
 //! Measured rows as lines of text, and the tables that one or several runs give.
 
 use crate::case::Case;
+use crate::cases::FULL;
 use crate::measure::Times;
 
 /// The rows of one case over all runs.
@@ -38,7 +39,24 @@ pub fn tables(lines: &str) -> Result<String, String> {
         }
         text += &print(row);
     }
+    text += &write_by_load(&rows).unwrap_or_default();
     Ok(text)
+}
+
+/// The library's write of the full file is to take at most this part of the time of its load.
+const WRITE_BY_LOAD_GOAL: f64 = 0.5;
+
+/// What part it takes, run by run.
+fn write_by_load(rows: &[Row]) -> Option<String> {
+    let times = |part: &str| {
+        rows.iter().find(|row| row.part == part && row.name.starts_with(FULL)).map(|row| &row.times)
+    };
+    let both = times("write")?.iter().zip(times("load")?);
+    let parts: Vec<f64> = both.map(|(write, load)| write.ours / load.ours).collect();
+    let met = parts.iter().filter(|&&part| part <= WRITE_BY_LOAD_GOAL).count();
+    let (told, verdict) =
+        (spread(&parts, |part| format!("{part:.2}")), verdict(WRITE_BY_LOAD_GOAL, met, parts.len()));
+    Some(format!("\nThe library writes the full file in {told} of the time that it loads it in. Goal, at most {verdict}\n"))
 }
 
 fn read(line: &str) -> Option<Row> {
@@ -60,7 +78,10 @@ fn print(row: &Row) -> String {
         spread(&all(|times| times.ours), nanoseconds),
         spread(&all(|times| times.reference), nanoseconds),
         spread(&ratios, |ratio| format!("{ratio:.2}")),
-        row.goal.map_or("-".to_string(), |goal| verdict(goal, &ratios)),
+        row.goal.map_or("-".to_string(), |goal| {
+            let met = ratios.iter().filter(|&&ratio| ratio >= goal).count();
+            verdict(goal, met, ratios.len())
+        }),
     )
 }
 
@@ -90,11 +111,11 @@ fn nanoseconds(value: f64) -> String {
     text
 }
 
-fn verdict(goal: f64, ratios: &[f64]) -> String {
-    let met = ratios.iter().filter(|&&ratio| ratio >= goal).count();
+/// In how many of the runs a goal was met.
+fn verdict(goal: f64, met: usize, runs: usize) -> String {
     match met {
         0 => format!("{goal}: missed"),
-        all if all == ratios.len() => format!("{goal}: met"),
-        some => format!("{goal}: met in {some} of {} runs", ratios.len()),
+        all if all == runs => format!("{goal}: met"),
+        some => format!("{goal}: met in {some} of {runs} runs"),
     }
 }

@@ -1,9 +1,9 @@
 //! What both engines answer, in one form.
 
-use reference::{Decision, EditAnswer, LoadAnswer};
+use reference::{Decision, EditAnswer, LoadAnswer, WriteAnswer};
 
 /// A number of document 01, and what it carries: the line of a load (of an accepted one the lines read), the
-/// count of an edit, the rule of a permit.
+/// count of an edit, the rule of a permit, the length of a write.
 #[derive(Clone, Copy, Debug, PartialEq, Eq)]
 pub struct Told {
     pub number: u32,
@@ -33,6 +33,13 @@ impl Told {
     pub fn of_edit(answer: EditAnswer) -> Told {
         match answer {
             Ok(count) => Told::new(0, count),
+            Err(refusal) => Told::new(refusal.number().into(), 0),
+        }
+    }
+
+    pub fn of_write(answer: WriteAnswer) -> Told {
+        match answer {
+            Ok(length) => Told::new(0, length),
             Err(refusal) => Told::new(refusal.number().into(), 0),
         }
     }

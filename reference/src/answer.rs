@@ -21,6 +21,7 @@ pub enum Refusal {
     BlockFrame = 15,
     BlockNumber = 16,
     NotHeld = 17,
+    DoesNotFit = 18,
 }
 
 impl Refusal {
@@ -41,6 +42,9 @@ pub type LoadAnswer = Result<usize, RefusedLine>;
 
 /// An edit: the number of holders whose stored set changed, or the refusal.
 pub type EditAnswer = Result<usize, Refusal>;
+
+/// A write: the length of the text, or the writer's only refusal.
+pub type WriteAnswer = Result<usize, Refusal>;
 
 /// The answer to a pass block.
 #[derive(Clone, Copy, Debug, PartialEq, Eq)]

@@ -1,6 +1,6 @@
-//! The engine that keeps the lent table: load, edit, request and the C call.
+//! The engine that keeps the lent table: load, edit, request, write and the C call.
 
-use crate::answer::{Decision, EditAnswer, LoadAnswer, Refusal, RefusedLine};
+use crate::answer::{Decision, EditAnswer, LoadAnswer, Refusal, RefusedLine, WriteAnswer};
 use crate::block::Block;
 use crate::declarations::{Declarations, ADMIN};
 use crate::evaluate::{held, View};
@@ -9,7 +9,7 @@ use crate::graph::TieGraph;
 use crate::pairs::PairSet;
 use crate::policy::Truth;
 use crate::tie::{judge_edit, Change, StandingTies, Tie};
-use crate::TABLE_WORDS;
+use crate::{writer, TABLE_WORDS};
 
 /// Declarations and ties. The default is the empty book, with admin alone.
 #[derive(Clone, Debug, Default, PartialEq, Eq)]
@@ -95,6 +95,17 @@ impl Book {
             }
         }
         decision
+    }
+
+    /// Writes the file as it stands now over the start of `buffer`. A refusal
+    /// leaves it untouched.
+    pub fn write(&self, buffer: &mut [u8]) -> WriteAnswer {
+        writer::lay(&self.text(), buffer)
+    }
+
+    /// The file as it stands now, also one that is too long to be written.
+    pub fn text(&self) -> Vec<u8> {
+        writer::text(&self.declared, &self.ties)
     }
 
     pub fn declared(&self) -> &Declarations {

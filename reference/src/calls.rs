@@ -2,17 +2,22 @@
 //! around any library can be run over them, and the table be seen.
 //!
 //! `table=LENGTH,INDEX:WORD,...` comes first and names the words that are not
-//! 0. Then come `load=`, `edit=` and `request=` with their bytes in hex, and
-//! `c=FILE,BLOCK` for the call for hosts in C. Each call prints its answer as
-//! the office program would (`c=` number for the last), then `words=` with the
-//! words of the table that are not 0. Indexes are decimal, words are hex.
+//! 0. Then come `load=`, `edit=` and `request=` with their bytes in hex,
+//! `write=LENGTH,BYTE` with a buffer of that many bytes, and `c=FILE,BLOCK` for
+//! the call for hosts in C. Each call prints its answer as the office program
+//! would (`write=` number and length, `c=` number), then `words=` with the words
+//! of the table that are not 0; a write prints `buffer=` and the whole buffer
+//! before that. Lengths and indexes are decimal, bytes and words are hex.
 
 use crate::answer::Decision;
 use crate::book::c_call;
 use crate::line::pieces;
-use crate::office::{print, read_hex};
-use crate::session::{Call, Engine, LedgerEngine, Session, TableEngine};
+use crate::office::{print, print_write, read_hex};
+use crate::session::{Buffer, Call, Engine, LedgerEngine, Session, TableEngine};
 use crate::TABLE_WORDS;
+
+/// The longest buffer that a line may ask for.
+pub const LONGEST_BUFFER: usize = 1 << 20;
 
 /// An engine whose table can be looked at.
 trait Shown: Engine {
@@ -47,6 +52,10 @@ impl Engine for LedgerWords {
 
     fn request(&mut self, block: &[u8]) -> Decision {
         self.engine.request(block)
+    }
+
+    fn write(&self, buffer: &mut [u8]) -> crate::WriteAnswer {
+        self.engine.write(buffer)
     }
 }
 
@@ -100,6 +109,9 @@ fn answer_line(line: &[u8], engine: &mut impl Shown) -> Option<Vec<u8>> {
         let (file, block) = (read_hex(&rest[..comma])?, read_hex(&rest[comma + 1..])?);
         return Some(format!("c={}\n", engine.c_call(&file, &block)).into_bytes());
     }
+    if let Some(rest) = line.strip_prefix(b"write=") {
+        return Some(answer_write(read_buffer(rest)?, engine));
+    }
     let equals = line.iter().position(|&byte| byte == b'=')?;
     let bytes = read_hex(&line[equals + 1..])?;
     let call = match &line[..equals] {
@@ -109,6 +121,25 @@ fn answer_line(line: &[u8], engine: &mut impl Shown) -> Option<Vec<u8>> {
         _ => return None,
     };
     Some(print(engine.call(&call)))
+}
+
+/// `LENGTH,BYTE`, the byte as one hex pair.
+fn read_buffer(text: &[u8]) -> Option<Buffer> {
+    let (length, byte) = std::str::from_utf8(text).ok()?.split_once(',')?;
+    let length = length.parse().ok().filter(|_| length.bytes().all(|byte| byte.is_ascii_digit()))?;
+    if length > LONGEST_BUFFER {
+        return None;
+    }
+    match read_hex(byte.as_bytes())?.as_slice() {
+        &[byte] => Some(Buffer { length, byte }),
+        _ => None,
+    }
+}
+
+fn answer_write(lent: Buffer, engine: &impl Shown) -> Vec<u8> {
+    let mut buffer = lent.filled();
+    let written = print_write(engine.write(&mut buffer));
+    format!("{written}\nbuffer={}\n", hex(&buffer)).into_bytes()
 }
 
 fn read_table(line: &[u8]) -> Option<Vec<u64>> {
@@ -137,16 +168,17 @@ pub fn write(session: &Session) -> Vec<u8> {
         list = format!("table={}\n", session.table.len());
     }
     for call in &session.calls {
-        let (key, bytes) = match call {
-            Call::Load(file) => ("load", file),
-            Call::Edit(line) => ("edit", line),
-            Call::Request(block) => ("request", block),
+        list += &match call {
+            Call::Load(file) => format!("load={}\n", hex(file)),
+            Call::Edit(line) => format!("edit={}\n", hex(line)),
+            Call::Request(block) => format!("request={}\n", hex(block)),
+            Call::Write(Buffer { length, byte }) => format!("write={length},{byte:02x}\n"),
         };
-        list += &format!("{key}={}\n", hex(bytes));
     }
     list.into_bytes()
 }
 
 pub fn hex(bytes: &[u8]) -> String {
-    bytes.iter().map(|byte| format!("{byte:02x}")).collect()
+    let digit = |four: u8| char::from(b"0123456789abcdef"[usize::from(four)]);
+    bytes.iter().flat_map(|byte| [digit(byte >> 4), digit(byte & 15)]).collect()
 }

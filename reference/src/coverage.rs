@@ -3,6 +3,7 @@
 
 use crate::answer::{Decision, Refusal};
 use crate::book::c_call;
+use crate::file::FILE_LIMIT;
 use crate::generate;
 use crate::line::{pieces, Key};
 use crate::office::{gate, split_at_end};
@@ -40,13 +41,13 @@ impl Coverage {
             if let Answer::Load(loaded) = answer {
                 refused = loaded.is_err();
             }
-            let name = name_answer(call, answer);
+            let name = name_answer(call, &answer);
             if refused && !matches!(call, Call::Load(_)) {
-                self.meet(format!("empty book: {}", name_on_empty_book(answer)));
+                self.meet(format!("empty book: {}", name_on_empty_book(&answer)));
             }
             self.meet(name);
-            if let (Call::Request(block), Answer::Request(decision)) = (call, answer) {
-                self.take_term(&engine, block, decision);
+            if let (Call::Request(block), Answer::Request(decision)) = (call, &answer) {
+                self.take_term(&engine, block, *decision);
             }
             if let Call::Load(file) = call {
                 self.take_c_call(session, place, file);
@@ -108,7 +109,7 @@ impl Coverage {
 }
 
 /// The kinds of call in the summary, as the names of answers begin.
-pub const KINDS: [&str; 4] = ["load ", "edit ", "request ", "C call "];
+pub const KINDS: [&str; 5] = ["load ", "edit ", "request ", "write ", "C call "];
 
 impl Coverage {
     /// How often `number` was met for this kind of call; for request 0 how
@@ -138,7 +139,7 @@ fn span(count: usize) -> &'static str {
     }
 }
 
-fn name_answer(call: &Call, answer: Answer) -> String {
+fn name_answer(call: &Call, answer: &Answer) -> String {
     match (call, answer) {
         (_, Answer::Load(Ok(_))) => "load 0".to_string(),
         (Call::Load(file), Answer::Load(Err(refused))) => {
@@ -161,7 +162,13 @@ fn name_answer(call: &Call, answer: Answer) -> String {
                 _ => format!("edit without sign {number}"),
             }
         }
-        (_, Answer::Request(decision)) => name_decision(decision),
+        (_, Answer::Request(decision)) => name_decision(*decision),
+        (_, Answer::Write(Ok(_), _)) => "write 0".to_string(),
+        (_, Answer::Write(Err(refusal), buffer)) => {
+            // A buffer for the longest file there is does not lack room.
+            let long = if buffer.len() < FILE_LIMIT { "short buffer" } else { "long text" };
+            format!("write {long} {}", refusal.number())
+        }
         (call, answer) => unreachable!("{answer:?} to {call:?}"),
     }
 }
@@ -175,13 +182,17 @@ fn name_decision(decision: Decision) -> String {
     }
 }
 
-fn name_on_empty_book(answer: Answer) -> String {
+fn name_on_empty_book(answer: &Answer) -> String {
     match answer {
         Answer::Edit(edited) => {
             let number = edited.err().map_or(0, Refusal::number);
             format!("edit {number}")
         }
-        Answer::Request(decision) => name_decision(decision),
+        Answer::Request(decision) => name_decision(*decision),
+        Answer::Write(written, _) => {
+            let number = written.err().map_or(0, Refusal::number);
+            format!("write {number}")
+        }
         Answer::Load(_) => unreachable!("a load is not made on a book"),
     }
 }
@@ -253,7 +264,7 @@ pub fn possible() -> Vec<String> {
 }
 
 /// Answers that do not hang on a key.
-const FIXED: [(&str, &[&str]); 13] = [
+const FIXED: [(&str, &[&str]); 17] = [
     ("load", &["0", "1", "2", "3"]),
     ("load other", &["4"]),
     ("edit", &["1"]),
@@ -262,6 +273,10 @@ const FIXED: [(&str, &[&str]); 13] = [
     ("edit without sign", &["4"]),
     ("edit count", &["0", "1", "2 to 9", "10 and more"]),
     ("request", &["deny", "undefined", "1", "15", "16", "17"]),
+    ("write", &["0"]),
+    ("write short buffer", &["18"]),
+    ("write long text", &["18"]),
+    ("empty book: write", &["0", "18"]),
     ("empty book: edit", &["1", "4", "6", "8", "9", "13"]),
     ("empty book: request", &["1", "15", "16"]),
     (

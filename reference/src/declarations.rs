@@ -3,7 +3,7 @@
 use crate::answer::Refusal;
 use crate::atom::{read_dotted, read_name, Atom, Name, Source, Type};
 use crate::line::{fields, Key};
-use crate::policy::{self, Policy};
+use crate::policy::{self, Policy, Token};
 use std::collections::HashMap;
 
 pub const MOST_ATTRIBUTES: usize = 32;
@@ -44,6 +44,17 @@ impl Sort {
         matches!(self, Sort::UserGroup | Sort::ObjectGroup)
     }
 
+    /// The key of the lines that declare holders of this sort; admin has none.
+    pub fn key(self) -> Option<Key> {
+        match self {
+            Sort::Admin => None,
+            Sort::UserGroup => Some(Key::UserGroup),
+            Sort::ObjectGroup => Some(Key::ObjectGroup),
+            Sort::User => Some(Key::User),
+            Sort::Object => Some(Key::Object),
+        }
+    }
+
     /// The source of the attributes whose pairs a holder of this sort is given.
     pub fn source(self) -> Source {
         match self {
@@ -63,6 +74,8 @@ pub struct Holder {
 #[derive(Clone, Debug, PartialEq, Eq)]
 pub struct Rule {
     pub operation: usize,
+    /// What the ledger has of a policy; equal rules have equal tokens.
+    pub tokens: Vec<Token>,
     pub policy: Policy<usize>,
 }
 
@@ -198,12 +211,12 @@ impl Declarations {
     fn declare_rule(&mut self, rest: &[u8]) -> Result<(), Refusal> {
         let [operation, text] = fields(rest)?;
         let operation = read_name(operation).ok_or(Refusal::Malformed)?;
-        let policy = policy::read(text)?;
+        let (tokens, policy) = policy::read(text)?;
         let operation = self.operation(&operation).ok_or(Refusal::Undeclared)?;
         let policy = policy.look_up(&|(source, name)| self.attribute(*source, name));
         let policy = policy.ok_or(Refusal::Undeclared)?;
         room(self.rules.len(), MOST_RULES)?;
-        self.rules.push(Rule { operation, policy });
+        self.rules.push(Rule { operation, tokens, policy });
         Ok(())
     }
 }

@@ -54,6 +54,7 @@ impl View<'_> {
 
     fn operand<'a>(&'a self, operand: &'a Operand<usize>) -> Vec<&'a Atom> {
         match operand {
+            Operand::Constant(atom) => vec![atom],
             Operand::Set(atoms) => atoms.iter().collect(),
             Operand::Attribute(attribute) => self.values(*attribute),
         }

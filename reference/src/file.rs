@@ -7,7 +7,7 @@ use crate::tie::{self, StandingTies};
 
 pub const FILE_LIMIT: usize = 32_768;
 
-const FIRST_LINE: &[u8] = b"rights=1\n";
+pub const FIRST_LINE: &[u8] = b"rights=1\n";
 
 /// What a file gives: declarations, ties and the number of lines read.
 pub struct Rights<T> {

@@ -80,6 +80,15 @@ impl TieGraph {
         self.down[high].remove(&low);
     }
 
+    /// Parents of a group or groups of a party, in the order of their numbers.
+    pub fn right_above(&self, holder: usize) -> &BTreeSet<usize> {
+        &self.up[holder]
+    }
+
+    pub fn direct(&self, holder: usize) -> &PairSet {
+        &self.direct[holder]
+    }
+
     /// Stores every set on a table whose words are all 0.
     pub fn fill(&self, table: &mut [u64]) {
         for holder in self.highest_first(0..HOLDERS) {

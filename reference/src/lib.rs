@@ -1,4 +1,5 @@
-//! Document 01 of Zhulmekov (rights file, edits and pass block) in plain Rust.
+//! Document 01 of Zhulmekov (rights file, edits and pass block) and request E1 of
+//! document 02 (the file as it stands now) in plain Rust.
 //!
 //! Two engines give the same answers. `book` keeps the effective sets in the
 //! lent table and brings them up to date; `ledger` works every answer out
@@ -19,13 +20,14 @@ pub mod pairs;
 pub mod policy;
 pub mod session;
 pub mod tie;
+pub mod writer;
 
 pub mod calls;
 pub mod coverage;
 pub mod generate;
 pub mod kit;
 
-pub use answer::{Decision, EditAnswer, LoadAnswer, Refusal, RefusedLine};
+pub use answer::{Decision, EditAnswer, LoadAnswer, Refusal, RefusedLine, WriteAnswer};
 pub use book::{c_call, Book};
 pub use ledger::Ledger;
 pub use office::{gate, gate_by_ledger};

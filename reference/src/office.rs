@@ -1,6 +1,7 @@
 //! The office program `gate` as a function from input bytes to output bytes.
 
-use crate::answer::{Decision, EditAnswer, LoadAnswer};
+use crate::answer::{Decision, EditAnswer, LoadAnswer, WriteAnswer};
+use crate::book::Book;
 use crate::line::pieces;
 use crate::session::{Answer, Engine, LedgerEngine, TableEngine};
 use crate::TABLE_WORDS;
@@ -10,6 +11,14 @@ pub const INPUT_LIMIT: usize = 65_536;
 /// What `gate` prints for `input`.
 pub fn gate(input: &[u8]) -> Vec<u8> {
     run(input, &mut TableEngine::new(vec![0; TABLE_WORDS]))
+}
+
+/// What `gate` prints and the book that the input leaves. One that is too long
+/// makes no call, so it leaves none.
+pub fn gate_and_book(input: &[u8]) -> (Vec<u8>, Option<Book>) {
+    let mut engine = TableEngine::new(vec![0; TABLE_WORDS]);
+    let output = run(input, &mut engine);
+    (output, (input.len() <= INPUT_LIMIT).then_some(engine.book))
 }
 
 /// The same, answered by the ledger.
@@ -71,12 +80,14 @@ fn digit(byte: u8) -> Option<u8> {
     }
 }
 
-/// An answer as `gate` prints it, with its byte 10.
+/// An answer as `gate` prints it, with its byte 10. A write is no call of
+/// `gate`: its line is for call lists.
 pub fn print(answer: Answer) -> Vec<u8> {
     let text = match answer {
         Answer::Load(loaded) => print_load(loaded),
         Answer::Edit(edited) => print_edit(edited),
         Answer::Request(decision) => print_decision(decision),
+        Answer::Write(written, _) => print_write(written),
     };
     (text + "\n").into_bytes()
 }
@@ -92,6 +103,13 @@ fn print_edit(answer: EditAnswer) -> String {
     match answer {
         Ok(count) => format!("edit=0,{count}"),
         Err(refusal) => format!("edit={},0", refusal.number()),
+    }
+}
+
+pub fn print_write(answer: WriteAnswer) -> String {
+    match answer {
+        Ok(length) => format!("write=0,{length}"),
+        Err(refusal) => format!("write={},0", refusal.number()),
     }
 }
 

@@ -1,6 +1,6 @@
 //! Lists of calls on one table, answered by either engine.
 
-use crate::answer::{Decision, EditAnswer, LoadAnswer};
+use crate::answer::{Decision, EditAnswer, LoadAnswer, WriteAnswer};
 use crate::book::Book;
 use crate::ledger::Ledger;
 use crate::TABLE_WORDS;
@@ -10,13 +10,30 @@ pub enum Call {
     Load(Vec<u8>),
     Edit(Vec<u8>),
     Request(Vec<u8>),
+    /// No call of the ledger's: it changes neither book nor table.
+    Write(Buffer),
 }
 
+/// A buffer to write into: its length, and the byte that it is full of.
 #[derive(Clone, Copy, Debug, PartialEq, Eq)]
+pub struct Buffer {
+    pub length: usize,
+    pub byte: u8,
+}
+
+impl Buffer {
+    pub fn filled(self) -> Vec<u8> {
+        vec![self.byte; self.length]
+    }
+}
+
+#[derive(Clone, Debug, PartialEq, Eq)]
 pub enum Answer {
     Load(LoadAnswer),
     Edit(EditAnswer),
     Request(Decision),
+    /// With all bytes of the buffer after the call.
+    Write(WriteAnswer, Vec<u8>),
 }
 
 /// Something that answers calls one after another. The engines do, each with
@@ -25,12 +42,18 @@ pub trait Engine {
     fn load(&mut self, file: &[u8]) -> LoadAnswer;
     fn edit(&mut self, line: &[u8]) -> EditAnswer;
     fn request(&mut self, block: &[u8]) -> Decision;
+    fn write(&self, buffer: &mut [u8]) -> WriteAnswer;
 
     fn call(&mut self, call: &Call) -> Answer {
         match call {
             Call::Load(file) => Answer::Load(self.load(file)),
             Call::Edit(line) => Answer::Edit(self.edit(line)),
             Call::Request(block) => Answer::Request(self.request(block)),
+            Call::Write(lent) => {
+                let mut buffer = lent.filled();
+                let written = self.write(&mut buffer);
+                Answer::Write(written, buffer)
+            }
         }
     }
 }
@@ -62,6 +85,10 @@ impl Engine for TableEngine {
     fn request(&mut self, block: &[u8]) -> Decision {
         self.book.request(block, &self.table)
     }
+
+    fn write(&self, buffer: &mut [u8]) -> WriteAnswer {
+        self.book.write(buffer)
+    }
 }
 
 /// The ledger, fed with the table's length besides each input.
@@ -88,6 +115,12 @@ impl Engine for LedgerEngine {
 
     fn request(&mut self, block: &[u8]) -> Decision {
         self.ledger.request(block, self.table_length)
+    }
+
+    fn write(&self, buffer: &mut [u8]) -> WriteAnswer {
+        let (written, after) = self.ledger.write(buffer);
+        buffer.copy_from_slice(&after);
+        written
     }
 }
 

@@ -6,6 +6,7 @@ use Rattle.model.specs.Bytes.{Bytes}
 use Rattle.model.specs.Ledger.{Outcome, loaded}
 use Rattle.engine.specs.Calls.{Gives}
 use Rattle.engine.specs.EditSteps.{EditCall}
+use Rattle.writer.specs.WriteCalls.{WriteCall}
 use Rattle.host.specs.AnswerNumbers.{high, Packs}
 
 unpacked : (P : ℕ → ℕ → Type 0) {number carried r : ℕ} → Packs number carried r → P number carried → P (r % high) (r / high)
@@ -18,3 +19,7 @@ load-unpacked {o} {words} {book} {code} packs g = unpacked (λ n l. Gives o (loa
 pub edit-unpacked : {line : Bytes} {book words words′ book′ : List ℕ} {number count r : ℕ} → Packs number count r → EditCall line book words number count words′ book′
     → EditCall line book words (r % high) (r / high) words′ book′
 edit-unpacked {line} {book} {words} {words′} {book′} packs g = unpacked (λ n c. EditCall line book words n c words′ book′) packs g
+
+pub write-unpacked : {book : List ℕ} {rules before after : Bytes} {number long r : ℕ} → Packs number long r → WriteCall book rules before number long after
+    → WriteCall book rules before (r % high) (r / high) after
+write-unpacked {book} {rules} {before} {after} packs g = unpacked (λ n l. WriteCall book rules before n l after) packs g

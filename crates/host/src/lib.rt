@@ -6,6 +6,7 @@ ghost use Rattle.model.specs.Host.{hostCall, hostTable};
 ghost use Rattle.engine.specs.Decisions.{numberAndValuesOf};
 ghost use Rattle.engine.specs.Calls.{Loads};
 ghost use Rattle.engine.specs.EditSteps.{EditCall};
+ghost use Rattle.writer.specs.WriteCalls.{WriteCall};
 ghost use Rattle.host.specs.AnswerNumbers.{high, carriedValue, Packs, RequestNumber};
 use book::BOOK_WORDS;
 use book::RULE_BYTES;
@@ -95,4 +96,17 @@ pub extern "C" fn zhul_decide(
 {
     let d = engine::decide(block, book, rules, table);
     pack(number_of(d), rule_of(d))
+}
+
+// Writes the file as it stands now into the host's own buffer: the number, and the length in the high bits.
+#[no_mangle]
+pub extern "C" fn zhul_write(
+    book: &[u64; BOOK_WORDS],
+    rules: &[u8; RULE_BYTES],
+    buffer: &mut [u8],
+) -> u64
+    ensures { λ r. ⌜ WriteCall (now (book .entry)) (now (rules .entry)) (now (buffer .entry)) (r % high) (r / high) (now (buffer .exit)) ⌝ }
+{
+    let written = writer::write(book, rules, buffer);
+    pack(written.number as u32, written.length as u32)
 }

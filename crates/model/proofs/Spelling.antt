@@ -74,10 +74,10 @@ name-word x e =
     under h = or-left _ (isByte "." x) (or-right (inRange "a" "z" x || inRange "A" "Z" x || digit x) (isByte "_" x) h)
 
 -- ints and names are words
-int-word : (n : ℕ) → isWord (int n) ≡ true
+pub int-word : (n : ℕ) → isWord (int n) ≡ true
 int-word n = all-by digit wordByte digit-word (decimal n) (digits-decimal n)
 
-name-is-word : (s : Source) (n : Bytes) → isName n ≡ true → isWord (name s n) ≡ true
+pub name-is-word : (s : Source) (n : Bytes) → isName n ≡ true → isWord (name s n) ≡ true
 name-is-word s n h =
     all-append wordByte (sourceWord s ++ bytes ".") n
     (all-append wordByte (sourceWord s) (bytes ".") (all-by nameByte wordByte name-word (sourceWord s) (source-all s)) refl)

@@ -1,3 +1,5 @@
 pub mod Laying
 pub mod PackedWords
+pub mod WordWidth
+pub mod EightBytes
 pub mod Digits

@@ -11,11 +11,11 @@ use Rattle.model.specs.Bytes.{Bytes}
 use Rattle.output.specs.Laid.{Laid, wordText}
 use Rattle.output.proofs.Laying.{laid-as, laid-on}
 
-word-more : (n w : ℕ) → (w ≡ 0 → ⊥) → wordText (suc n) w ≡ w % 256 ∷ wordText n (w / 256)
+pub word-more : (n w : ℕ) → (w ≡ 0 → ⊥) → wordText (suc n) w ≡ w % 256 ∷ wordText n (w / 256)
 unfolding wordText
 word-more n w h = ap (λ (b : Bool). if b then [] else (w % 256 ∷ wordText n (w / 256))) (ne-eqb w 0 h)
 
-word-none : (n : ℕ) → wordText n 0 ≡ []
+pub word-none : (n : ℕ) → wordText n 0 ≡ []
 unfolding wordText
 word-none zero = refl
 word-none (suc n) = refl

@@ -4,11 +4,15 @@ ghost use mathlib.Core.Path.{_≡_};
 ghost use mathlib.Core.List.{[], _∷_};
 ghost use Prim.Native.Nat.{_+_, _<_, _≤_, min};
 ghost use lib.ListN.{length};
+ghost use lib.Dec.{ltb};
+ghost use Rattle.model.specs.Notation.{if_then_else_};
 ghost use Rattle.model.specs.Atoms.{decimal};
 ghost use Rattle.output.specs.Laid.{far, Laid, wordText, mostDigits, Digits};
 
 // The digits of the largest number.
 const DIGITS: usize = 10;
+// The most bytes of a packed word.
+const WORD: usize = 8;
 
 pub fn put_byte(out: &mut [u8], at: usize, byte: u8) -> usize
     requires { ⌜ at < far ⌝ }
@@ -41,8 +45,8 @@ pub fn put(out: &mut [u8], at: usize, text: &[u8]) -> usize
     end
 }
 
-// The bytes of a packed word, low byte first, up to the last that is not 0.
-pub fn put_word(out: &mut [u8], at: usize, word: u64) -> usize
+// The bytes of a packed word, one after another.
+fn put_bytes(out: &mut [u8], at: usize, word: u64) -> usize
     requires { ⌜ at + 8 ≤ far ⌝ }
     ensures { λ r. ⌜ Laid (now (out .entry)) at (wordText 8 word) (now (out .exit)) r × (r ≤ at + 8) ⌝ }
 {
@@ -53,6 +57,49 @@ pub fn put_word(out: &mut [u8], at: usize, word: u64) -> usize
         left = left / 256;
     }
     n
+}
+
+// How many bytes a packed word has: those up to the last that is not 0.
+fn width(word: u64) -> usize
+    ensures { λ r. ⌜ (r ≡ length (wordText 8 word)) × (r ≤ 8) ⌝ }
+{
+    (71 - u64::leading_zeros(word) as usize) / 8
+}
+
+// The byte of a word, or the one that stands there already.
+fn kept(new: u8, old: u8, i: usize, n: usize) -> u8
+    ensures { λ r. ⌜ r ≡ (if ltb i n then new else old) ⌝ }
+{
+    if i < n { new } else { old }
+}
+
+// The bytes of a packed word where eight have room: each of the eight is written, those behind the word as they stand, so that no jump depends on its length.
+fn put_eight(out: &mut [u8], at: usize, word: u64) -> usize
+    requires { ⌜ (at + 8 ≤ length (now out)) × (at + 8 ≤ far) ⌝ }
+    ensures { λ r. ⌜ Laid (now (out .entry)) at (wordText 8 word) (now (out .exit)) r × (r ≤ at + 8) ⌝ }
+{
+    let n = width(word);
+    let mut left = word;
+    for i in 0..WORD {
+        let old = out[at + i];
+        out[at + i] = kept((left % 256) as u8, old, i, n);
+        left = left / 256;
+    }
+    at + n
+}
+
+// The bytes of a packed word, low byte first, up to the last that is not 0. Behind the buffer's end they are only counted.
+pub fn put_word(out: &mut [u8], at: usize, word: u64) -> usize
+    requires { ⌜ at + 8 ≤ far ⌝ }
+    ensures { λ r. ⌜ Laid (now (out .entry)) at (wordText 8 word) (now (out .exit)) r × (r ≤ at + 8) ⌝ }
+{
+    if out.len() <= at {
+        return at + width(word);
+    }
+    if out.len() - at < WORD {
+        return put_bytes(out, at, word);
+    }
+    put_eight(out, at, word)
 }
 
 fn digit(d: u32) -> u8

@@ -2,7 +2,7 @@
 use Prim.Native.Nat.{ℕ, zero, suc, _+_, _%_, _≤_, _<_}
 use mathlib.Core.Path.{_≡_, refl, sym, ap, ap₂, _∙_}
 use mathlib.Core.Bool.{Bool}
-use mathlib.Core.List.{List, [], _∷_, _++_, append-nil, append-assoc}
+use mathlib.Core.List.{List, [], _∷_, _++_, append-nil}
 use native.Mathlib.Decide.{decLt}
 use native.Mathlib.Omega.{arith}
 use borrow.Author.Tests.{eq-eqb, ne-eqb}
@@ -14,11 +14,8 @@ use Rattle.model.specs.Atoms.{decimal, quoted}
 use Rattle.output.specs.Laid.{Laid}
 use Rattle.book.specs.Sections as section
 use Rattle.output.proofs.Laying.{laid-as, laid-on}
+use Rattle.writer.proofs.Listing.{each-append}
 use Rattle.writer.specs.Texts.{keyWords, boolWords, listedText, stringText, atomText, nameOfHolder, lineEnd, holderLineText}
-
-each-append : (f : ℕ → Bytes) (xs ys : List ℕ) → each f (xs ++ ys) ≡ each f xs ++ each f ys
-each-append f [] ys = refl
-each-append f (x ∷ xs) ys = ap (λ (l : Bytes). f x ++ l) (each-append f xs ys) ∙ sym (append-assoc (f x) (each f xs) (each f ys))
 
 pub each-more : (f : ℕ → Bytes) (i : ℕ) → each f (below (suc i)) ≡ each f (below i) ++ f i
 each-more f i = each-append f (below i) (i ∷ []) ∙ ap (λ (l : Bytes). each f (below i) ++ l) (append-nil (f i))
@@ -44,7 +41,7 @@ each-same f g (suc n) h = each-more f n ∙ ap₂ (λ (x y : Bytes). x ++ y) (ea
 
 -- ---- a text by a test
 
-module _ (x y : Bytes) {a b : ℕ} where
+module _ {A : Type 0} (x y : A) {a b : ℕ} where
   pub chosen : a ≡ b → x ≡ (if eqb a b then x else y)
   chosen e = ap (λ (t : Bool). if t then x else y) (sym (eq-eqb a b e))
 

@@ -1,9 +1,10 @@
 -- The lines of a file as the words of a book and the bytes of its rules spell them: on any words, so that code is compared with words alone. That these are the
 -- lines of the state that a book holds is `BookTexts.book-text`.
-use Prim.Native.Nat.{ℕ, zero, suc, _+_, _-_, _*_, _/_, _%_, min}
-use mathlib.Core.Bool.{Bool, false, _&&_, _||_}
+use Prim.Native.Nat.{ℕ, zero, suc, _+_, _-_, _*_, _/_, _%_, _≤_, _<_, min}
+use mathlib.Core.Path.{_≡_}
+use mathlib.Core.Bool.{Bool, true, false, _&&_, _||_}
 use mathlib.Core.List.{List, [], _∷_, _++_}
-use lib.ListN.{getD, take, drop}
+use lib.ListN.{length, getD, take, drop}
 use lib.Dec.{eqb, leb}
 use Rattle.model.specs.Notation.{if_then_else_, map, each, below}
 use Rattle.model.specs.Limits.{attributeLimit, operationLimit, pairLimit, holderNumbers, groupLimit, ruleLimit}
@@ -114,11 +115,20 @@ holderLineText book sort k =
 
 -- ---- lines of ties
 
+-- a mask of slots has the slot of a seat, which is 1 + the slot
+unfoldable pub tiedBy : ℕ → ℕ → Bool
+tiedBy mask seat = leb 1 seat && leb seat groupLimit && bit mask (seat - 1)
+
 -- holder h has a tie up to holder g: g has a seat, and its slot is in the mask of h
 unfoldable pub hasUp : List ℕ → ℕ → ℕ → Bool
-hasUp book h g =
-    let seat = getD book (section.seats .start + g) 0 in
-    leb 1 seat && leb seat groupLimit && bit (getD book (section.ups .start + h) 0) (seat - 1)
+hasUp book h g = tiedBy (getD book (section.ups .start + h) 0) (getD book (section.seats .start + g) 0)
+
+-- r is the first from g on whose seat has its slot in the mask, or how many seats there are
+pub record NextUp (seats : List ℕ) (mask g r : ℕ) : Type 0 where
+  pub from : g ≤ r
+  pub within : r ≤ length seats
+  pub lower : (i : ℕ) → g ≤ i → i < r → tiedBy mask (getD seats i 0) ≡ false
+  pub held : r < length seats → tiedBy mask (getD seats r 0) ≡ true
 
 abbrev pub upLineText : List ℕ → ℕ → ℕ → ℕ → Bytes
 upLineText book key h g = listedText keyWords key ++ (nameOfHolder book h ++ (bytes "," ++ (nameOfHolder book g ++ lineEnd)))
@@ -129,6 +139,15 @@ upText book key h g = if hasUp book h g then upLineText book key h g else []
 -- the ties of holder h up to holders with numbers below n
 abbrev pub upsText : List ℕ → ℕ → ℕ → ℕ → Bytes
 upsText book n key h = each (upText book key h) (below n)
+
+-- the last holder below n is no group: r tells
+pub record GroupBelow (book : List ℕ) (n : ℕ) (r : Bool) : Type 0 where
+  pub none : r ≡ true → (1 ≤ n) × (getD book (section.seats .start + (n - 1)) 0 ≡ 0)
+
+-- no holder of n has a seat from the number r on
+pub record GroupsBelow (book : List ℕ) (n r : ℕ) : Type 0 where
+  pub within : r ≤ n
+  pub none : (g : ℕ) → r ≤ g → g < n → getD book (section.seats .start + g) 0 ≡ 0
 
 -- a group's ties up are to parents, another holder's are those of a member
 unfoldable pub keyOfUps : List ℕ → ℕ → ℕ

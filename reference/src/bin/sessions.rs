@@ -4,9 +4,13 @@
 //! with `--mixed` every third damaged), or call lists with `--calls`. With
 //! `--stream` all inputs go into D/in, each behind a line with its seed and its
 //! length, and the outputs into D/out, each behind a line `session=SEED`: one
-//! program can then run them all.
+//! program can then run them all. In a stream the file as it stands at the end of
+//! a session of the office program is told too: `write=` as in call lists, with a
+//! buffer that no file is too long for, and `text=` with its bytes in hex.
 
-use reference::{calls, gate, generate};
+use reference::file::FILE_LIMIT;
+use reference::office::{gate_and_book, print_write};
+use reference::{calls, gate, generate, Book};
 use std::io::{BufWriter, Write};
 use std::path::PathBuf;
 use std::{env, fs, process};
@@ -80,6 +84,19 @@ fn drawn(seed: u64, options: &Options) -> (Vec<u8>, Vec<u8>) {
     }
     let damaged = options.damaged || options.mixed && seed.is_multiple_of(3);
     let input = if damaged { generate::damaged_input(seed) } else { generate::gate_input(seed) };
-    let output = gate(&input);
+    if !options.stream {
+        let output = gate(&input);
+        return (input, output);
+    }
+    let (mut output, book) = gate_and_book(&input);
+    output.extend(book.iter().flat_map(file_lines));
     (input, output)
+}
+
+/// What the writer answers, and the text.
+fn file_lines(book: &Book) -> Vec<u8> {
+    let mut buffer = vec![0; FILE_LIMIT];
+    let written = book.write(&mut buffer);
+    let text = &buffer[..written.unwrap_or(0)];
+    format!("{}\ntext={}\n", print_write(written), calls::hex(text)).into_bytes()
 }

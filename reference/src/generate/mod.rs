@@ -9,10 +9,13 @@ mod lines;
 mod plan;
 mod policies;
 mod rng;
+mod writes;
 
 use damage::damage;
 pub use rng::Rng;
 
+use crate::declarations::Sort;
+use crate::file::FILE_LIMIT;
 use crate::office::{split_at_end, INPUT_LIMIT};
 use crate::session::{Call, Engine, Session, TableEngine};
 use crate::TABLE_WORDS;
@@ -36,7 +39,18 @@ const LATE_PERMIT: usize = 7;
 const ONE_TERM: usize = 10;
 const LIMIT_RULES: usize = 3;
 
+/// One in so many seeds gives a file that edits make longer than a file may be.
+const OUTGROWING_EVERY: u64 = 250;
+
 impl Episode {
+    fn of_seed(seed: u64, rng: &mut Rng) -> Episode {
+        if seed.is_multiple_of(OUTGROWING_EVERY) {
+            Episode::outgrowing(rng)
+        } else {
+            Episode::new(rng)
+        }
+    }
+
     fn new(rng: &mut Rng) -> Episode {
         if rng.below(150) == 0 {
             return Episode::large(rng);
@@ -63,6 +77,20 @@ impl Episode {
         let (plan, file) = if rng.chance(50) { plain(rng, Size::full) } else { files::about_limit(rng) };
         let count = rng.between(2, 8);
         Episode::fill(rng, &plan, file, count)
+    }
+
+    /// A file of almost the longest text, and edits that mostly add to it.
+    fn outgrowing(rng: &mut Rng) -> Episode {
+        let length = FILE_LIMIT - rng.below(20);
+        let (plan, file) = files::sized(rng, length);
+        let (users, pairs) = (plan.numbers(&[Sort::User]), plan.pairs.len());
+        let mut edit = || {
+            let tie = (*rng.pick(&users), rng.below(pairs));
+            let sign = *rng.pick(b"+++++-");
+            Call::Edit([&[sign], plan.value_line(tie).as_slice(), b"\n"].concat())
+        };
+        let calls = (0..100).map(|_| edit()).collect();
+        Episode { file, calls }
     }
 
     fn fill(rng: &mut Rng, plan: &Plan, file: Vec<u8>, count: usize) -> Episode {
@@ -114,16 +142,17 @@ pub fn session(seed: u64) -> Session {
     let length = if rng.chance(4) { *rng.pick(&WRONG_LENGTHS) } else { TABLE_WORDS };
     let dirty = rng.chance(50);
     let word = |rng: &mut Rng| if dirty { rng.draw() } else { 0 };
-    let table = (0..length).map(|_| word(rng)).collect();
+    let table: Vec<u64> = (0..length).map(|_| word(rng)).collect();
     let mut calls = Vec::new();
     for _ in 0..rng.weighted(&[0, 80, 15, 5]) {
-        let episode = Episode::new(rng);
+        let episode = Episode::of_seed(seed, rng);
         calls.push(Call::Load(episode.file));
         calls.extend(episode.calls);
     }
     for call in &mut calls {
         spoil_call(rng, call);
     }
+    let calls = writes::insert(rng, &table, calls);
     Session { table, calls }
 }
 
@@ -160,7 +189,7 @@ const OTHER_LINES: [&str; 17] = [
 /// An input of the office program.
 pub fn gate_input(seed: u64) -> Vec<u8> {
     let rng = &mut Rng::new(seed);
-    let Episode { file, calls } = Episode::new(rng);
+    let Episode { file, calls } = Episode::of_seed(seed, rng);
     let mut input = file;
     if rng.chance(3) {
         return input;
@@ -188,7 +217,7 @@ pub fn gate_input(seed: u64) -> Vec<u8> {
 /// A call as a line of the office program.
 fn gate_line(call: &Call) -> Vec<u8> {
     match call {
-        Call::Load(_) => Vec::new(),
+        Call::Load(_) | Call::Write(_) => Vec::new(),
         Call::Edit(line) => line.clone(),
         Call::Request(block) => try_line(block),
     }

@@ -1,7 +1,7 @@
 //! The conformance kit: sessions of the office program with the answers that
-//! document 01 gives them. Every expected answer is typed from the paper, but
-//! for the folder `mixed`; `check` holds both engines to it before a file is
-//! written.
+//! document 01 gives them, and call lists. Every expected answer is typed from
+//! the paper, but for the folder `mixed`; `check` holds both engines to it before
+//! a file is written.
 
 mod blocks;
 mod edits;
@@ -13,6 +13,9 @@ mod office;
 mod policies;
 mod sets;
 mod valley;
+mod writer;
+
+pub use valley::valley as valley_file;
 
 use crate::calls;
 use crate::office::{gate, gate_by_ledger};
@@ -92,6 +95,7 @@ pub fn all() -> Vec<Vector> {
         office::kit(),
         valley::kit(),
         library::kit(),
+        writer::kit(),
         mixed::kit(),
     ];
     kits.into_iter().flat_map(|kit| kit.vectors).collect()
@@ -140,7 +144,8 @@ pub fn files() -> Vec<(String, Vec<u8>)> {
 fn index(vectors: &[Vector]) -> String {
     let mut text = String::from(
         "# Index\n\nFolders are headings of document 01. Each sentence stands above the \
-         sessions that\nexercise it; words outside quotation marks say how the sentence is read.\n",
+         sessions that\nexercise it, with the request that has it if document 01 has it not; words \
+         outside\nquotation marks say how the sentence is read.\n",
     );
     let (mut folder, mut sentence) = ("", "");
     for one in vectors {

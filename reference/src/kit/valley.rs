@@ -3,7 +3,7 @@
 use super::Kit;
 
 /// The valley file without its rules, 25 lines.
-const DECLARED: &str = "rights=1
+pub const DECLARED: &str = "rights=1
 attr=user,kind,str
 attr=user,zone,int
 attr=user,staff,bool

@@ -2,8 +2,9 @@
 //! in the words of document 01. Slow, and meant to be obvious.
 
 mod reading;
+mod writing;
 
-use crate::answer::{Decision, EditAnswer, LoadAnswer, Refusal, RefusedLine};
+use crate::answer::{Decision, EditAnswer, LoadAnswer, Refusal, RefusedLine, WriteAnswer};
 use crate::block::Block;
 use crate::declarations::{Declarations, ADMIN};
 use crate::file;
@@ -127,6 +128,16 @@ impl Ledger {
             return Decision::Refused(Refusal::TableLength);
         }
         self.decide(block).unwrap_or_else(Decision::Refused)
+    }
+
+    /// The writer's answer, and what the buffer must hold afterwards.
+    pub fn write(&self, buffer: &[u8]) -> (WriteAnswer, Vec<u8>) {
+        let text = writing::file(&self.declared, &self.ties);
+        if text.len() > buffer.len() || text.len() > 32_768 {
+            return (Err(Refusal::DoesNotFit), buffer.to_vec());
+        }
+        let after = [&text, &buffer[text.len()..]].concat();
+        (Ok(text.len()), after)
     }
 
     fn effective_sets(&self) -> Vec<Pairs> {

@@ -76,6 +76,7 @@ impl Reading<'_> {
 
     fn operand(&self, operand: &Operand<usize>) -> BTreeSet<Atom> {
         match operand {
+            Operand::Constant(atom) => BTreeSet::from([atom.clone()]),
             Operand::Set(atoms) => atoms.iter().cloned().collect(),
             Operand::Attribute(attribute) => self.values(*attribute),
         }

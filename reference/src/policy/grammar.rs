@@ -26,7 +26,8 @@ pub enum Lone<A> {
 
 #[derive(Clone, Debug, PartialEq, Eq)]
 pub enum Operand<A> {
-    /// A constant is a set of one.
+    /// Read as a set of one, but other tokens than that set.
+    Constant(Atom),
     Set(Vec<Atom>),
     Attribute(A),
 }
@@ -97,6 +98,7 @@ impl<A> Lone<A> {
 impl<A> Operand<A> {
     fn atoms(&self) -> usize {
         match self {
+            Operand::Constant(_) => 1,
             Operand::Set(atoms) => atoms.len(),
             Operand::Attribute(_) => 0,
         }
@@ -104,6 +106,7 @@ impl<A> Operand<A> {
 
     fn look_up<B>(&self, find: &impl Fn(&A) -> Option<B>) -> Option<Operand<B>> {
         Some(match self {
+            Operand::Constant(atom) => Operand::Constant(atom.clone()),
             Operand::Set(atoms) => Operand::Set(atoms.clone()),
             Operand::Attribute(attribute) => Operand::Attribute(find(attribute)?),
         })
@@ -167,7 +170,7 @@ impl<'t> Reader<'t> {
         }
         match left {
             Operand::Attribute(attribute) => Some(Term::Plain(Lone::Attribute(attribute))),
-            Operand::Set(_) => None,
+            Operand::Constant(_) | Operand::Set(_) => None,
         }
     }
 
@@ -187,7 +190,7 @@ impl<'t> Reader<'t> {
     fn operand(&mut self) -> Option<Operand<Named>> {
         match self.next()? {
             Token::Attribute(attribute) => Some(Operand::Attribute(attribute.clone())),
-            Token::Constant(atom) => Some(Operand::Set(vec![atom.clone()])),
+            Token::Constant(atom) => Some(Operand::Constant(atom.clone())),
             Token::SetOpen => self.set().map(Operand::Set),
             _ => None,
         }

@@ -4,7 +4,7 @@ mod grammar;
 mod token;
 
 pub use grammar::{Lone, Operand, Policy, Term};
-pub use token::{Operator, Token};
+pub use token::{is_word_byte, Operator, Token};
 
 use crate::answer::Refusal;
 use crate::atom::{Name, Source};
@@ -43,13 +43,14 @@ impl Truth {
 }
 
 /// Reads a policy: 6 if it is malformed, judged without the limits, then 7.
-pub fn read(text: &[u8]) -> Result<Policy<Named>, Refusal> {
+/// Gives its tokens besides.
+pub fn read(text: &[u8]) -> Result<(Vec<Token>, Policy<Named>), Refusal> {
     let tokens = token::read_all(text).ok_or(Refusal::Malformed)?;
     let policy = grammar::read_all(&tokens).ok_or(Refusal::Malformed)?;
     let within =
         policy.terms() <= MOST_TERMS && policy.depth() <= MOST_DEPTH && policy.largest_set() <= MOST_ATOMS;
     if within {
-        Ok(policy)
+        Ok((tokens, policy))
     } else {
         Err(Refusal::OverLimit)
     }

@@ -85,7 +85,8 @@ fn read_one(rest: &[u8]) -> Option<(Token, usize)> {
     }
 }
 
-fn is_word_byte(byte: u8) -> bool {
+/// A run of these bytes is one word.
+pub fn is_word_byte(byte: u8) -> bool {
     byte.is_ascii_alphanumeric() || byte == b'_' || byte == b'.'
 }
 

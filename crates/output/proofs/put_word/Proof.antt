@@ -1,56 +1,57 @@
--- `put_word` meets its contract: the bytes that are left are those of what is left of the word.
-use mathlib.Core.Path.{refl}
-use mathlib.Core.List.{[]}
+-- `put_word` meets its contract.
+use Prim.Native.Nat.{ℕ, _+_}
+use mathlib.Core.Path.{ap}
 use native.Mathlib.Omega.{arith}
-use Rattle.output.proofs.Laying.{laid-none, laid-length}
-use Rattle.output.proofs.PackedWords.{WordLeft, word-near, word-step, word-end}
+use Rattle.output.specs.Laid.{wordText}
+use Rattle.output.proofs.Laying.{laid-past}
 use borrow.Author.Needs.{needs}
 use Rattle.output.proofs.put_word.Statement.{statement}
 use Rattle.output.proofs.put_word.Tie as tie
 
-abbrev Inv-loop : tie.InvT-loop
-Inv-loop out₀ at word left₀ n₀ out left n = WordLeft out₀ at word out left n
+width-requires : tie.Need-width-requires
+width-requires c κs = search needs
 
-abbrev μ-loop : tie.MeasureT-loop
-μ-loop out₀ at word left₀ n₀ out left n = left
+add-result : tie.Need-add-result
+add-result c = search needs
 
-loop-holds : tie.Need-loop-holds Inv-loop μ-loop
-loop-holds c =
-    let a = c .before .args in
-    record { most = 8; laid = []; few = omega arith; small = omega (arith, c .before .fits .word); near = omega arith; text = refl; so-far = laid-none (a .out .now) (a .at) }
+returns : tie.Need-returns
+returns c =
+    let a = c .before .before .before .args in
+    let w = c .width .ensures in
+    (laid-past (a .out .now) (a .at) (wordText 8 (a .word)) _ (c .before .if1 .taken) (ap (λ (k : ℕ). a .at + k) (w .0)), omega (arith, w .1))
 
-cast-put-byte : tie.Need-cast-put-byte Inv-loop μ-loop
-cast-put-byte c = search needs
+sub-if2 : tie.Need-sub-if2
+sub-if2 c = search needs
 
-put-byte-requires : tie.Need-put-byte-requires Inv-loop μ-loop
-put-byte-requires c κs =
-    let l = c .before .before .loop in
-    omega (arith, word-near (l .inv) (λ e. c .before .loop-test .taken e))
+put-bytes-requires : tie.Need-put-bytes-requires
+put-bytes-requires c κs = search needs
 
-loop-less : tie.Need-loop-less Inv-loop μ-loop
-loop-less c = search needs
+same-length : tie.Need-same-length
+same-length c = search needs
 
-loop-again : tie.Need-loop-again Inv-loop μ-loop
-loop-again c =
-    let l = c .before .before .before .before .before .loop in
-    word-step (l .inv) (λ e. c .before .before .before .before .loop-test .taken e) (c .before .before .put-byte .ensures)
+returns-2 : tie.Need-returns-2
+returns-2 c = search needs
 
-same-length : tie.Need-same-length Inv-loop μ-loop
-same-length c = laid-length (c .before .loop .inv .so-far)
+put-eight-requires : tie.Need-put-eight-requires
+put-eight-requires c κs = search needs
 
-returns : tie.Need-returns Inv-loop μ-loop
-returns c = word-end (c .before .loop .inv) (omega arith)
+same-length-2 : tie.Need-same-length-2
+same-length-2 c = search needs
+
+returns-3 : tie.Need-returns-3
+returns-3 c = search needs
 
 pub put-word-spec : {M : Type 1} → statement M
 put-word-spec =
     tie.close
     (tie.spec
-    Inv-loop
-    μ-loop
-    loop-holds
-    cast-put-byte
-    put-byte-requires
-    loop-less
-    loop-again
+    width-requires
+    add-result
+    returns
+    sub-if2
+    put-bytes-requires
     same-length
-    returns)
+    returns-2
+    put-eight-requires
+    same-length-2
+    returns-3)

@@ -1,0 +1,58 @@
+-- Lists laid one after another, for the elements of a list: laws of `each`. Assumes nothing.
+use Prim.Native.Nat.{ℕ, zero, suc}
+use mathlib.Core.Path.{_≡_, refl, sym, ap, ap₂, _∙_}
+use mathlib.Core.Bool.{Bool, true, false}
+use mathlib.Core.List.{List, [], _∷_, _++_, append-assoc}
+use mathlib.Core.Option.{some}
+use lib.ListN.{length}
+use Rattle.model.specs.Notation.{if_then_else_, map, each, filter, nth, below}
+use Rattle.model.specs.Bytes.{Bytes}
+
+module _ {A B : Type 0} where
+  -- of two lists, one after the other
+  pub each-append : (f : A → List B) (xs ys : List A) → each f (xs ++ ys) ≡ each f xs ++ each f ys
+  each-append f [] ys = refl
+  each-append f (x ∷ xs) ys = ap (λ (l : List B). f x ++ l) (each-append f xs ys) ∙ sym (append-assoc (f x) (each f xs) (each f ys))
+
+  -- the same for each element
+  pub each-ext : (f g : A → List B) (xs : List A) → ((x : A) → f x ≡ g x) → each f xs ≡ each g xs
+  each-ext f g [] h = refl
+  each-ext f g (x ∷ xs) h = ap₂ (λ (l m : List B). l ++ m) (h x) (each-ext f g xs h)
+
+  -- of the elements that pass
+  pub each-filter : (f : A → List B) (p : A → Bool) (xs : List A) → each f (filter p xs) ≡ each (λ x. if p x then f x else []) xs
+  each-filter f p [] = refl
+  each-filter f p (x ∷ xs) = go (p x) (each-filter f p xs)
+    where
+      go : (b : Bool) → each f (filter p xs) ≡ each (λ y. if p y then f y else []) xs
+          → each f (if b then x ∷ filter p xs else filter p xs) ≡ (if b then f x else []) ++ each (λ y. if p y then f y else []) xs
+      go true e = ap (λ (l : List B). f x ++ l) e
+      go false e = e
+
+module _ {A B C : Type 0} where
+  -- of what a function gives
+  pub each-map : (f : B → List C) (g : A → B) (xs : List A) → each f (map g xs) ≡ each (λ x. f (g x)) xs
+  each-map f g [] = refl
+  each-map f g (x ∷ xs) = ap (λ (l : List C). f (g x) ++ l) (each-map f g xs)
+
+  -- of lists laid one after another
+  pub each-each : (f : B → List C) (g : A → List B) (xs : List A) → each f (each g xs) ≡ each (λ x. each f (g x)) xs
+  each-each f g [] = refl
+  each-each f g (x ∷ xs) = each-append f (g x) (each g xs) ∙ ap (λ (l : List C). each f (g x) ++ l) (each-each f g xs)
+
+-- the numbers below suc n: 0, and one more than each below n
+below-front : (n : ℕ) → below (suc n) ≡ 0 ∷ map suc (below n)
+below-front zero = refl
+below-front (suc n) = ap (λ (l : List ℕ). l ++ suc n ∷ []) (below-front n) ∙ ap (λ (l : List ℕ). 0 ∷ l) (sym (map-last (below n)))
+  where
+    map-last : (xs : List ℕ) → map suc (xs ++ n ∷ []) ≡ map suc xs ++ suc n ∷ []
+    map-last [] = refl
+    map-last (x ∷ xs) = ap (λ (l : List ℕ). suc x ∷ l) (map-last xs)
+
+-- by the places of a list
+pub each-place : {A : Type 0} (g : A → Bytes) (G : ℕ → Bytes) (xs : List A) → ((k : ℕ) (x : A) → nth xs k ≡ some x → G k ≡ g x)
+    → each G (below (length xs)) ≡ each g xs
+each-place g G [] h = refl
+each-place g G (x ∷ xs) h =
+    ap (each G) (below-front (length xs))
+    ∙ ap₂ (λ (l m : Bytes). l ++ m) (h 0 x refl) (each-map G suc (below (length xs)) ∙ each-place g (λ k. G (suc k)) xs (λ k y e. h (suc k) y e))

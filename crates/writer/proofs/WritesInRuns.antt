@@ -1,0 +1,107 @@
+-- The writer over lists of calls: for every list of loads, edits and requests that begins with a load, whatever was lent at first, the book that is then lent
+-- is written as the file of the ledger's state, and what is written loads as that state. Assumes nothing.
+use Prim.Native.Nat.{ℕ, suc}
+use mathlib.Core.Path.{_≡_, refl, sym, ap, subst, _∙_}
+use mathlib.Core.Logic.{_⊎_, _↔_}
+use mathlib.Core.List.{List, [], _∷_, _++_, List·Memᴰ·head as here, List·Memᴰ·tail as there}
+use lib.ListN.{length, take, drop}
+use Rattle.model.specs.Limits.{tableWords}
+use Rattle.model.specs.Numbers as refusal
+use Rattle.model.specs.Bytes.{Bytes}
+use Rattle.model.specs.State.{State, empty}
+use Rattle.model.specs.Ledger.{Call, Answer, Outcome, outcome, ledgerFrom, ledger}
+use Rattle.model.specs.FileText.{FileWritten, fileLines, fileText, writeFile}
+use Rattle.model.proofs.Lists.{_∈_}
+use Rattle.model.proofs.Reached.{Reached, tableOf}
+use Rattle.model.proofs.Writer
+use Rattle.model.proofs.Writer.{writtenBytes, TextTooLong}
+use Rattle.book.specs.Held.{Holds}
+use Rattle.engine.specs.Calls.{Gives}
+use Rattle.engine.specs.Runs.{Memory, Does, Leads, endState}
+use Rattle.engine.proofs.Runs.{does-gives, leads-together, leads-where-the-ledger-ends}
+use Rattle.writer.specs.WriteCalls.{written, WriteCall}
+
+-- ---- where a list of calls leads is a state of its ledger
+
+last-outcome : (S : State) (o : Outcome) (rest : List Outcome) → (x : Outcome) × (x ∈ (o ∷ rest)) × (x .state ≡ endState S (o ∷ rest))
+last-outcome S o [] = (o, here refl, refl)
+last-outcome S o (p ∷ rest) = let (x, m, e) = last-outcome (o .state) p rest in (x, there m, e)
+
+begins : {first : Memory} {calls : List Call} {S : State} {lent : Memory} → Leads first calls S lent → (file : Bytes) × (rest : List Call) × (calls ≡ Call.load file ∷ rest)
+begins (Leads.from-load {file = file} does) = (file, [], refl)
+begins (Leads.from-there {c = c} run does) = let (file, rest, e) = begins run in (file, rest ++ c ∷ [], ap (λ (l : List Call). l ++ c ∷ []) e)
+
+pub leads-reached : {first : Memory} {calls : List Call} {S : State} {lent : Memory} → Leads first calls S lent → Reached S
+unfolding ledger
+leads-reached {first} {calls} {S} {lent} run =
+    let (file, rest, e) = begins run in
+    let there′ = leads-where-the-ledger-ends (subst (λ (l : List Call). Leads first l S lent) e run) in
+    let (o, m, at) = last-outcome empty (outcome empty (first .words) (Call.load file)) (ledgerFrom (outcome empty (first .words) (Call.load file) .state) (outcome empty (first .words) (Call.load file) .words) rest) in
+    record { words = first .words; file = file; calls = rest; last = o; in-ledger = m; state-is = at ∙ there′ .0 }
+
+-- what a load does, by its promise
+load-gives : {file : Bytes} {other left : Memory} {a : Answer} → Does (Call.load file) other a left → Gives (outcome empty (other .words) (Call.load file)) a (left .words) (left .book) (left .code)
+load-gives (Does.loads g) = g
+
+-- ---- a write in a run
+
+module _ {first : Memory} {calls : List Call} {S : State} {lent : Memory} (run : Leads first calls S lent)
+    {before : Bytes} {number long : ℕ} {after : Bytes} (call : WriteCall (lent .book) (lent .code) before number long after) where
+  -- "A writer puts out the present one": the file of the ledger's state
+  pub writes-state : written number long after ≡ writeFile S before
+  writes-state = let t = leads-together run in call .exact S (t .standing) (t .holds)
+
+  number-is : number ≡ writeFile S before .number
+  number-is = ap (λ (w : FileWritten). w .number) writes-state
+
+  text-is : take long after ≡ writtenBytes (writeFile S before)
+  text-is = ap writtenBytes writes-state
+
+  -- "18, the writer's only one, when the text is longer than the buffer or than 32,768 bytes": then, and only then
+  pub eighteen-in-run : (number ≡ refusal.doesNotFit) ↔ TextTooLong S before
+  eighteen-in-run = subst (λ (n : ℕ). (n ≡ refusal.doesNotFit) ↔ TextTooLong S before) (sym number-is) (Writer.eighteen-exactly S before)
+
+  pub no-other-in-run : (number ≡ 0) ⊎ (number ≡ refusal.doesNotFit)
+  no-other-in-run = subst (λ (n : ℕ). (n ≡ 0) ⊎ (n ≡ refusal.doesNotFit)) (sym number-is) (Writer.no-other S before)
+
+  -- "A refusal leaves the buffer untouched", and carries 0
+  pub refused-in-run : number ≡ refusal.doesNotFit → (long ≡ 0) × (after ≡ before)
+  refused-in-run e =
+      let (z, b) = Writer.refused-write S before (sym number-is ∙ e) in
+      (ap (λ (w : FileWritten). w .textLength) writes-state ∙ z, ap (λ (w : FileWritten). w .buffer) writes-state ∙ b)
+
+  -- "answers 0 and its length"
+  pub length-in-run : number ≡ 0 → (long ≡ length (fileText S)) × (take long after ≡ fileText S)
+  length-in-run e =
+      let (l, t) = Writer.text-written S before (sym number-is ∙ e) in
+      (ap (λ (w : FileWritten). w .textLength) writes-state ∙ l, text-is ∙ t)
+
+  -- "Bytes of the buffer behind the text keep their content"
+  pub behind-in-run : drop long after ≡ drop long before
+  behind-in-run =
+      ap (λ (w : FileWritten). drop (w .textLength) (w .buffer)) writes-state ∙ Writer.behind-kept S before
+      ∙ ap (λ (w : FileWritten). drop (w .textLength) before) (sym writes-state)
+
+  -- "loading the result on a table of the right length gives a book equal in declarations, ties and rule tokens, and the table words that belong to these
+  -- ties", whatever was lent to that load
+  pub loads-back : number ≡ 0 → {other left : Memory} {a : Answer} → Does (Call.load (take long after)) other a left → length (other .words) ≡ tableWords
+      → Holds (left .book) (left .code) S × (left .words ≡ tableOf S) × (a ≡ Answer.loaded 0 (suc (length (fileLines S))))
+  loads-back e {other} {left} {a} does right =
+      let same = ap (λ (s : Bytes). outcome empty (other .words) (Call.load s)) text-is ∙ Writer.result-loads-on (leads-reached run) before (sym number-is ∙ e) empty (other .words) right in
+      let h = subst (λ (o : Outcome). Gives o a (left .words) (left .book) (left .code)) same (load-gives does) in
+      (h .holds, sym (h .table), sym (h .answered))
+
+  -- and that book, written again, gives the same bytes
+  pub written-again : number ≡ 0 → {other left : Memory} {a : Answer} → Does (Call.load (take long after)) other a left → length (other .words) ≡ tableWords
+      → {number′ long′ : ℕ} {after′ : Bytes} → WriteCall (left .book) (left .code) before number′ long′ after′ → written number′ long′ after′ ≡ written number long after
+  written-again e does right again = again .exact S (leads-together run .standing) (loads-back e does right .0) ∙ sym writes-state
+
+-- "two books equal in this way, neither refused, write equal bytes"
+module _ {first first′ : Memory} {calls calls′ : List Call} {S S′ : State} {lent lent′ : Memory} (run : Leads first calls S lent) (run′ : Leads first′ calls′ S′ lent′)
+    {before before′ : Bytes} {long long′ : ℕ} {after after′ : Bytes}
+    (call : WriteCall (lent .book) (lent .code) before 0 long after) (call′ : WriteCall (lent′ .book) (lent′ .code) before′ 0 long′ after′) where
+  pub equal-bytes-in-runs : S ≡ S′ → (long ≡ long′) × (take long after ≡ take long′ after′)
+  equal-bytes-in-runs e =
+      let (l, t) = length-in-run run call refl in
+      let (m, u) = length-in-run run′ call′ refl in
+      (l ∙ ap (λ (T : State). length (fileText T)) e ∙ sym m, t ∙ ap fileText e ∙ sym u)

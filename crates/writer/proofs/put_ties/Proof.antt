@@ -1,0 +1,30 @@
+-- `put_ties` meets its contract.
+use Rattle.output.proofs.Laying.{laid-on}
+use native.Mathlib.Omega.{arith}
+use borrow.Author.Needs.{needs}
+use Rattle.writer.proofs.put_ties.Statement.{statement}
+use Rattle.writer.proofs.put_ties.Tie as tie
+
+put-key-ups-requires : tie.Need-put-key-ups-requires
+put-key-ups-requires c κs = search needs
+
+put-key-ups-requires-2 : tie.Need-put-key-ups-requires-2
+put-key-ups-requires-2 c κs = search needs
+
+put-values-requires : tie.Need-put-values-requires
+put-values-requires c κs = search needs
+
+same-length : tie.Need-same-length
+same-length c = search needs
+
+returns : tie.Need-returns
+returns c =
+    let p0 = c .before .before .before .before .before .before .before .before .before .before .before .before .put-key-ups .ensures in
+    let p1 = c .before .before .before .before .before .before .before .put-key-ups2 .ensures in
+    let p2 = c .before .before .put-values .ensures in
+    (laid-on (p0 .0) (laid-on (p1 .0) (p2 .0)), omega (arith, p0 .1, p1 .1, p2 .1))
+
+pub put-ties-spec : {M : Type 1} → statement M
+put-ties-spec =
+    tie.close
+    (tie.spec put-key-ups-requires put-key-ups-requires-2 put-values-requires same-length returns)

@@ -1,0 +1,88 @@
+-- `put_rule_line` meets its contract.
+use Rattle.book.specs.Sections.{codeBytes}
+use lib.ListN.{take, drop}
+use Prim.Native.Nat.{ℕ, _+_, _-_, _*_, _%_}
+use Rattle.writer.specs.Texts.{nameText, operationAt, policyText, ruleLineText}
+use Rattle.output.proofs.Laying.{laid-on, laid-as}
+use mathlib.Core.Path.{_≡_, ap}
+use native.Mathlib.Omega.{arith}
+use borrow.Author.Needs.{needs}
+use Rattle.writer.proofs.rule.put_rule_line.Statement.{statement}
+use Rattle.writer.proofs.rule.put_rule_line.Tie as tie
+
+add-word : tie.Need-add-word
+add-word c = search needs
+
+word-requires : tie.Need-word-requires
+word-requires c κs = search needs
+
+mul-start : tie.Need-mul-start
+mul-start c = search needs
+
+put-key-requires : tie.Need-put-key-requires
+put-key-requires c κs = search needs
+
+mul-put-name : tie.Need-mul-put-name
+mul-put-name c = search needs
+
+add-put-name : tie.Need-add-put-name
+add-put-name c = search needs
+
+put-name-requires : tie.Need-put-name-requires
+put-name-requires c κs = search needs
+
+put-byte-requires : tie.Need-put-byte-requires
+put-byte-requires c κs = search needs
+
+add-put-policy : tie.Need-add-put-policy
+add-put-policy c = search needs
+
+sub-put-policy : tie.Need-sub-put-policy
+sub-put-policy c = search needs
+
+part-put-policy-start : tie.Need-part-put-policy-start
+part-put-policy-start c = search needs
+
+part-put-policy-end : tie.Need-part-put-policy-end
+part-put-policy-end c = search needs
+
+put-policy-requires : tie.Need-put-policy-requires
+put-policy-requires c κs = search needs
+
+put-byte-requires-2 : tie.Need-put-byte-requires-2
+put-byte-requires-2 c κs = search needs
+
+same-length : tie.Need-same-length
+same-length c = search needs
+
+returns : tie.Need-returns
+unfolding ruleLineText
+returns c =
+    let z : codeBytes * c .before .before .before .before .before .before .before .before .before .before .before .before .before .before .before .before .before .before .before .before .before .before .before .before .before .args .k + 768 - codeBytes * c .before .before .before .before .before .before .before .before .before .before .before .before .before .before .before .before .before .before .before .before .before .before .before .before .before .args .k ≡ codeBytes = omega arith in
+    let p0 = c .before .before .before .before .before .before .before .before .before .before .before .before .before .before .before .before .before .before .before .put-key .ensures in
+    let p1 = c .before .before .before .before .before .before .before .before .before .before .before .before .before .before .before .put-name .ensures in
+    let p2 = c .before .before .before .before .before .before .before .before .before .before .before .put-byte .ensures in
+    let p3 = c .before .before .before .before .before .before .put-policy .ensures in
+    let p4 = c .before .before .put-byte2 .ensures in
+    (laid-on (p0 .0) (laid-on (laid-as (ap (λ (k : ℕ). nameText (c .before .before .before .before .before .before .before .before .before .before .before .before .before .before .before .before .before .before .before .before .before .before .before .before .before .args .book .now) (operationAt (k % 8))) (c .before .before .before .before .before .before .before .before .before .before .before .before .before .before .before .before .before .before .before .before .before .word .ensures)) (p1 .0)) (laid-on p2 (laid-on (laid-as (ap (λ (k : ℕ). policyText (c .before .before .before .before .before .before .before .before .before .before .before .before .before .before .before .before .before .before .before .before .before .before .before .before .before .args .book .now) (take k (drop (codeBytes * c .before .before .before .before .before .before .before .before .before .before .before .before .before .before .before .before .before .before .before .before .before .before .before .before .before .args .k) (c .before .before .before .before .before .before .before .before .before .before .before .before .before .before .before .before .before .before .before .before .before .before .before .before .before .args .rules .now)))) z) (p3 .0)) p4))), omega (arith, p0 .1, p1 .1, p2 .behind, p3 .1, p4 .behind))
+
+pub put-rule-line-spec : {M : Type 1} → statement M
+put-rule-line-spec =
+    tie.close
+    (tie.spec
+    add-word
+    word-requires
+    mul-start
+    put-key-requires
+    mul-put-name
+    add-put-name
+    put-name-requires
+    put-byte-requires
+    add-put-policy
+    sub-put-policy
+    part-put-policy-start
+    part-put-policy-end
+    put-policy-requires
+    put-byte-requires-2
+    same-length
+    returns)

@@ -1,0 +1,66 @@
+-- `put_rules` meets its contract.
+use Rattle.writer.specs.Texts.{ruleLineText}
+use Rattle.output.specs.Laid.{Laid}
+use Rattle.model.specs.Notation.{each, below}
+use Prim.Native.Nat.{ℕ, _+_, _-_, _*_, _≤_}
+use Rattle.writer.proofs.LaidTexts.{laid-next}
+use Rattle.output.proofs.Laying.{laid-none, laid-as, laid-length}
+use mathlib.Core.Path.{_≡_, ap, _∙_}
+use native.Mathlib.Omega.{arith}
+use borrow.Author.Needs.{needs}
+use Rattle.writer.proofs.rule.put_rules.Statement.{statement}
+use Rattle.writer.proofs.rule.put_rules.Tie as tie
+
+abbrev Inv-loop : tie.InvT-loop
+Inv-loop out₀ at book rules count n₀ k₀ out n k = (k ≤ count) × Laid out₀ at (each (ruleLineText book rules) (below k)) out n × (n ≤ at + 32832 * k)
+
+abbrev μ-loop : tie.MeasureT-loop
+μ-loop out₀ at book rules count n₀ k₀ out n k = count - k
+
+count-requires : tie.Need-count-requires Inv-loop μ-loop
+count-requires c κs = search needs
+
+loop-holds : tie.Need-loop-holds Inv-loop μ-loop
+loop-holds c = let a = c .before .before .before .before .args in (omega arith, laid-none (a .out .now) (a .at), omega arith)
+
+put-rule-line-requires : tie.Need-put-rule-line-requires Inv-loop μ-loop
+put-rule-line-requires c κs = search needs
+
+add-k : tie.Need-add-k Inv-loop μ-loop
+add-k c = search needs
+
+loop-less : tie.Need-loop-less Inv-loop μ-loop
+loop-less c = search needs
+
+loop-again : tie.Need-loop-again Inv-loop μ-loop
+loop-again c =
+    let a = c .before .before .before .before .before .before .before .before .before .before .args in
+    let l = c .before .before .before .before .before .loop in
+    let p = c .before .before .put-rule-line .ensures in
+    (omega arith, laid-next (ruleLineText (a .book .now) (a .rules .now)) (l .inv .1) (p .0), omega (arith, p .1))
+
+same-length : tie.Need-same-length Inv-loop μ-loop
+same-length c = laid-length (c .before .loop .inv .1)
+
+returns : tie.Need-returns Inv-loop μ-loop
+returns c =
+    let a = c .before .before .before .before .before .before .args in
+    let l = c .before .loop in
+    let n = c .before .before .count in
+    let e : l .k ≡ n .result = omega arith in
+    (laid-as (ap (λ (i : ℕ). each (ruleLineText (a .book .now) (a .rules .now)) (below i)) (e ∙ n .ensures .0)) (l .inv .1), omega (arith, l .inv .2, n .ensures .1))
+
+pub put-rules-spec : {M : Type 1} → statement M
+put-rules-spec =
+    tie.close
+    (tie.spec
+    Inv-loop
+    μ-loop
+    count-requires
+    loop-holds
+    put-rule-line-requires
+    add-k
+    loop-less
+    loop-again
+    same-length
+    returns)

@@ -1,0 +1,174 @@
+// The lines of ties, key by key, those of a key by the number of the holder, then by the other's or the pair's.
+ghost use mathlib.Core.Path.{_≡_};
+ghost use Prim.Native.Nat.{_+_, _*_, _<_, _≤_};
+ghost use lib.ListN.{length};
+ghost use Rattle.model.specs.Notation.{each, below};
+ghost use Rattle.output.specs.Laid.{far, Laid};
+ghost use Rattle.book.specs.Sections.{bookWords};
+ghost use Rattle.writer.specs.Texts.{tiedBy, NextUp, upLineText, upsText, GroupsBelow, GroupBelow, keyOfUps, holderUpsText, keyUpsText, valueLineText, valuesText, holderCount};
+use book::HOLDER_COUNT;
+use book::OWN_AT;
+use book::SEATS_AT;
+use book::UPS_AT;
+use book::find::HOLDERS;
+use book::find::PAIRS;
+use codes::KEY_MEMBER;
+use codes::KEY_PARENT;
+use codes::KEY_VALUE;
+
+// How many slots there are.
+const SLOTS: u64 = 64;
+
+// Whether a mask of slots has the slot of a seat, which is 1 + the slot; a seat of 0 is none.
+fn is_tied(mask: u64, seat: u64) -> bool
+    ensures { λ r. ⌜ r ≡ tiedBy mask seat ⌝ }
+{
+    if seat == 0 {
+        return false;
+    }
+    if SLOTS < seat {
+        return false;
+    }
+    bits::has(mask, seat as usize - 1)
+}
+
+// The first holder from g on whose seat has its slot in a mask; how many seats there are where there is none.
+fn next_up(seats: &[u64], mask: u64, g: usize) -> usize
+    requires { ⌜ g ≤ length (now seats) ⌝ }
+    ensures { λ r. ⌜ NextUp (now (seats .entry)) mask g r ⌝ }
+{
+    for i in g..seats.len() {
+        if is_tied(mask, seats[i]) {
+            return i;
+        }
+    }
+    seats.len()
+}
+
+fn put_up_line(out: &mut [u8], at: usize, book: &[u64], key: u8, h: usize, g: usize) -> usize
+    requires { ⌜ (at + 64 ≤ far) × (h < 256) × (g < 256) ⌝ }
+    ensures { λ r. ⌜ Laid (now (out .entry)) at (upLineText (now (book .entry)) key h g) (now (out .exit)) r × (r ≤ at + 64) ⌝ }
+{
+    let a = crate::field::put_key(out, at, key);
+    let b = crate::line::put_holder(out, a, book, h);
+    let c = output::put_byte(out, b, b',');
+    let d = crate::line::put_holder(out, c, book, g);
+    output::put_byte(out, d, b'\n')
+}
+
+// The ties of a holder up to holders with numbers below n.
+fn put_ups(out: &mut [u8], at: usize, book: &[u64], key: u8, h: usize, n: usize) -> usize
+    requires { ⌜ (at + 16384 ≤ far) × (h < 256) × (n ≤ 256) × (length (now book) ≡ bookWords) ⌝ }
+    ensures { λ r. ⌜ Laid (now (out .entry)) at (upsText (now (book .entry)) n key h) (now (out .exit)) r × (r ≤ at + 16384) ⌝ }
+{
+    let mask = crate::field::word(book, UPS_AT + h);
+    let seats = &book[SEATS_AT..SEATS_AT + n];
+    let mut m = at;
+    let mut g = next_up(seats, mask, 0);
+    while g < n {
+        m = put_up_line(out, m, book, key, h, g);
+        g = next_up(seats, mask, g + 1);
+    }
+    m
+}
+
+// A group's ties up are to parents, another holder's are those of a member.
+fn key_of_ups(book: &[u64], h: usize) -> u8
+    requires { ⌜ h < 256 ⌝ }
+    ensures { λ r. ⌜ r ≡ keyOfUps (now (book .entry)) h ⌝ }
+{
+    if crate::field::word(book, SEATS_AT + h) == 0 {
+        return KEY_MEMBER;
+    }
+    KEY_PARENT
+}
+
+// The ties of a holder up, if they are of that key.
+fn put_holder_ups(out: &mut [u8], at: usize, book: &[u64], key: u8, h: usize, n: usize) -> usize
+    requires { ⌜ (at + 16384 ≤ far) × (h < 256) × (n ≤ 256) × (length (now book) ≡ bookWords) ⌝ }
+    ensures { λ r. ⌜ Laid (now (out .entry)) at (holderUpsText (now (book .entry)) n key h) (now (out .exit)) r × (r ≤ at + 16384) ⌝ }
+{
+    if key_of_ups(book, h) != key {
+        return at;
+    }
+    put_ups(out, at, book, key, h, n)
+}
+
+// Whether the last holder below n is no group.
+fn no_group_last(book: &[u64], n: usize) -> bool
+    requires { ⌜ n ≤ 256 ⌝ }
+    ensures { λ r. ⌜ GroupBelow (now (book .entry)) n r ⌝ }
+{
+    if n == 0 {
+        return false;
+    }
+    crate::field::word(book, SEATS_AT + (n - 1)) == 0
+}
+
+// A number that no group reaches, of n holders: ties are looked for below it, so that their search costs holders times groups.
+fn groups_below(book: &[u64], n: usize) -> usize
+    requires { ⌜ n ≤ 256 ⌝ }
+    ensures { λ r. ⌜ GroupsBelow (now (book .entry)) n r ⌝ }
+{
+    let mut m = n;
+    while no_group_last(book, m) {
+        m -= 1;
+    }
+    m
+}
+
+// The ties of all holders up that are of a key.
+pub fn put_key_ups(out: &mut [u8], at: usize, book: &[u64], key: u8) -> usize
+    requires { ⌜ (at + 4194304 ≤ far) × (length (now book) ≡ bookWords) ⌝ }
+    ensures { λ r. ⌜ Laid (now (out .entry)) at (keyUpsText (now (book .entry)) key) (now (out .exit)) r × (r ≤ at + 4194304) ⌝ }
+{
+    let count = crate::line::count(book, HOLDER_COUNT, HOLDERS);
+    let end = groups_below(book, count);
+    let mut n = at;
+    for h in 0..count {
+        n = put_holder_ups(out, n, book, key, h, end);
+    }
+    n
+}
+
+fn put_value_line(out: &mut [u8], at: usize, book: &[u64], h: usize, p: usize) -> usize
+    requires { ⌜ (at + 96 ≤ far) × (h < 256) × (p < 256) ⌝ }
+    ensures { λ r. ⌜ Laid (now (out .entry)) at (valueLineText (now (book .entry)) h p) (now (out .exit)) r × (r ≤ at + 96) ⌝ }
+{
+    let row = crate::line::row_of_pair(book, p);
+    let a = crate::field::put_key(out, at, KEY_VALUE);
+    let b = crate::line::put_holder(out, a, book, h);
+    let c = output::put_byte(out, b, b',');
+    let d = crate::field::put_name(out, c, book, row + 2);
+    let e = output::put_byte(out, d, b',');
+    let f = crate::line::put_pair_atom(out, e, book, p);
+    output::put_byte(out, f, b'\n')
+}
+
+// The lines of a holder's own pairs.
+fn put_values_of(out: &mut [u8], at: usize, book: &[u64], h: usize) -> usize
+    requires { ⌜ (at + 24576 ≤ far) × (h < 256) × (length (now book) ≡ bookWords) ⌝ }
+    ensures { λ r. ⌜ Laid (now (out .entry)) at (valuesText (now (book .entry)) h) (now (out .exit)) r × (r ≤ at + 24576) ⌝ }
+{
+    let start = OWN_AT + 4 * h;
+    let own = &book[start..start + 4];
+    let mut n = at;
+    let mut p = bits::first_from(own, 0);
+    while p < PAIRS {
+        n = put_value_line(out, n, book, h, p);
+        p = bits::first_from(own, p + 1);
+    }
+    n
+}
+
+pub fn put_values(out: &mut [u8], at: usize, book: &[u64]) -> usize
+    requires { ⌜ (at + 6291456 ≤ far) × (length (now book) ≡ bookWords) ⌝ }
+    ensures { λ r. ⌜ Laid (now (out .entry)) at (each (valuesText (now (book .entry))) (below (holderCount (now (book .entry))))) (now (out .exit)) r × (r ≤ at + 6291456) ⌝ }
+{
+    let count = crate::line::count(book, HOLDER_COUNT, HOLDERS);
+    let mut n = at;
+    for h in 0..count {
+        n = put_values_of(out, n, book, h);
+    }
+    n
+}
