@@ -30,9 +30,9 @@ use Rattle.book.specs.Sections.{sectionWords}
 use Rattle.book.specs.Held.{Holds}
 use Rattle.book.proofs.TieSections.{part-size}
 use Rattle.output.specs.Laid.{wordText}
-use Rattle.writer.specs.Texts.{listedText, nameText, rowOfPair, pairAtomText, lineEnd, hasUp, upLineText, upText, keyOfUps, holderUpsText, ownOf, valueLineText, valueText, valuesText, tiesText}
+use Rattle.writer.specs.Texts.{listedText, nameText, rowOfPair, pairAtomText, lineEnd, inMask, hasUp, upLineText, upText, keyOfUps, holderUpsText, ownOf, valueLineText, valueText, valuesText, tiesText}
 use Rattle.writer.proofs.LaidTexts.{each-none, each-same}
-use Rattle.writer.proofs.TieTexts.{no-up, seat-tells, member-key, parent-key, ups-of-key, ups-of-other}
+use Rattle.writer.proofs.TieTexts.{member-key, parent-key, ups-of-key, ups-of-other}
 use Rattle.writer.proofs.Listing.{each-append, each-ext, each-map, each-filter, each-each}
 use Rattle.writer.proofs.SectionWords.{section-word, word-at}
 use Rattle.writer.proofs.BookHolders.{holder-there, holder-numbers, holder-count, holder-name}
@@ -105,48 +105,12 @@ module _ {book : List ℕ} {rules : Bytes} {S : State} (standing : Standing S) (
 
   -- ---- ties up
 
-  -- a tie up to a group is the bit of its slot
-  up-group : (h g : ℕ) (s : Sort) → h < 256 → sortOf (S .declared) g ≡ some s → isGroup s ≡ true → hasUp book h g ≡ up (S .ties) h g
-  unfolding tiedUp Distinct hasUp
-  up-group h g s l e f =
-      let (q, a, b, c) = seat-group g s e f in
-      let few : h < length ups = subst (λ (n : ℕ). h < n) (sym ups-long) l in
-      let bit-is : bit (getD book (section.ups .start + h) 0) (getD book (section.seats .start + g) 0 - 1) ≡ bit (getD ups h 0) q =
-      ap₂ bit (sym (section-word section.ups book h l)) (let z : getD book (section.seats .start + g) 0 - 1 ≡ q = omega arith in z) in
-      let there : bit (getD ups h 0) q ≡ true → up (S .ties) h g ≡ true =
-      λ on. subst (λ (k : ℕ). up (S .ties) h k ≡ true) c (slot-up (held .ties) h q few b on) in
-      let back : up (S .ties) h g ≡ true → bit (getD ups h 0) q ≡ true = λ on.
-      let (r, i, j, k) = up-slot (held .ties) h g few on in
-      let z : q ≡ r = held .ties .distinct r q i b (held .ties .used h r few i j) (c ∙ sym k) in
-      subst (λ (m : ℕ). bit (getD ups h 0) m ≡ true) (sym z) j in
-      sym (seat-tells (getD book (section.ups .start + h) 0) (getD book (section.seats .start + g) 0) (λ z. omega arith) (omega arith)) ∙ bit-is ∙ same-truth (bit (getD ups h 0) q) (up (S .ties) h g) there back
-
-  -- no tie leads up to another holder
-  up-other : (h g : ℕ) (s : Sort) → h < 256 → sortOf (S .declared) g ≡ some s → isGroup s ≡ false → hasUp book h g ≡ up (S .ties) h g
-  up-other h g s l e f = no-up book h g (seat-other g s e f) ∙ sym (off (up (S .ties) h g) no-tie)
-    where
-      few : h < length ups
-      few = subst (λ (n : ℕ). h < n) (sym ups-long) l
-
-      no-slot : (q : ℕ) → q < 64 → 0 < getD slots q 0 → getD slots q 0 ≡ g → Dec (q < groups (S .declared)) → ⊥
-      no-slot q i j k (yes m) =
-          let (t, a, b) = held .groups .taken q m in
-          true≢false (sym b ∙ ap isGroup (Option·some-injective t s (sym a ∙ ap (sortOf (S .declared)) k ∙ e)) ∙ f)
-      no-slot q i j k (no m) = let z = held .groups .free q (omega arith) i in omega arith
-
-      no-tie : up (S .ties) h g ≡ true → ⊥
-      no-tie on =
-          let (q, i, j, k) = up-slot (held .ties) h g few on in
-          let u = in-use-lt (length ups) slots q (held .ties .used h q few i j) in
-          no-slot q i (u .0) k (decLt q (groups (S .declared)))
-
-  -- the mask of a holder tells its ties up
+  -- a tie up is a slot of the group in the holder's mask
   up-is : (h g : ℕ) → h < 256 → g < count → hasUp book h g ≡ up (S .ties) h g
-  up-is h g l m = let (b, e) = holder-there standing held g m in go b e (isGroup (b .sort)) refl
-    where
-      go : (b : Holder) → holderOf (S .declared) g ≡ some b → (t : Bool) → isGroup (b .sort) ≡ t → hasUp book h g ≡ up (S .ties) h g
-      go b e true f = up-group h g (b .sort) l (sort-of g b e) f
-      go b e false f = up-other h g (b .sort) l (sort-of g b e) f
+  unfolding inMask tiedUp
+  up-is h g l m =
+      ap (λ (m : ℕ). inMask (sectionWords section.slots book) m g) (sym (section-word section.ups book h l))
+      ∙ sym (held .ties .groups h g (subst (λ (n : ℕ). h < n) (sym ups-long) l))
 
   -- a group has no member tie, another holder no parent tie
   no-member : (h : ℕ) (s : Sort) → sortOf (S .declared) h ≡ some s → isGroup s ≡ true → (g : ℕ) → S .ties (Tie.member h g) ≡ false

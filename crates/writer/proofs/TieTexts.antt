@@ -1,49 +1,31 @@
 -- The texts of ties: which of them are there, and where none is, so that a walk may pass over them. Assumes nothing.
-use Prim.Native.Nat.{ℕ, _+_, _-_, _*_, _≤_, _<_}
+use Prim.Native.Nat.{ℕ, zero, suc, _+_, _*_, _/_, _%_, _≤_, _<_, min}
 use mathlib.Core.Path.{_≡_, refl, sym, ap, ap₂, subst, _∙_}
-use mathlib.Core.Bool.{Bool, true, false, _&&_}
-use mathlib.Core.List.{List, [], _++_}
+use mathlib.Core.Bool.{Bool, true, false, _&&_, _||_, not}
+use mathlib.Core.List.{List, [], _∷_}
 use native.Mathlib.Decide.{decLt}
 use native.Mathlib.Omega.{arith}
-use borrow.Author.Tests.{eq-eqb, ne-eqb, le-leb, lt-leb}
-use lib.Dec.{eqb, leb}
+use borrow.Author.Tests.{eq-eqb, ne-eqb}
+use lib.Dec.{eqb}
 use lib.ListN.{length, getD, take, drop, length-drop}
-use lib.Seq.{length-take-le, getD-take, getD-drop}
+use lib.Seq.{length-take-le}
 use Rattle.model.specs.Notation.{if_then_else_, each, below}
-use Rattle.model.specs.Limits.{pairLimit}
+use Rattle.model.specs.Limits.{pairLimit, holderNumbers}
 use Rattle.model.specs.Bytes.{Bytes}
 use Rattle.bits.specs.Bits.{bit, member}
 use Rattle.bits.specs.Lowest.{FirstFrom}
+use Rattle.bits.proofs.Bits.{bit-none}
+use Rattle.bits.proofs.Walks.{any-left, none-left}
+use Rattle.ties.proofs.Masks.{eqb-flip}
 use Rattle.book.specs.Sections as section
-use Rattle.book.specs.Sections.{bookWords}
-use Rattle.writer.specs.Texts.{tiedBy, hasUp, NextUp, upLineText, upText, upsText, keyOfUps, GroupsBelow, holderUpsText, ownOf, valueLineText, valueText}
+use Rattle.book.specs.Sections.{sectionWords, bookWords}
+use Rattle.writer.specs.Texts.{inMask, hasUp, AddsGroup, AddsGroups, upLineText, upAmong, upText, upsText, keyOfUps, holderUpsText, ownOf, valueLineText, valueText}
 use Rattle.writer.proofs.LaidTexts.{chosen, passed, each-none, each-same}
 
 -- ---- ties up
 
-module _ (mask seat : ℕ) where
-  pub no-seat : seat ≡ 0 → false ≡ tiedBy mask seat
-  unfolding tiedBy
-  no-seat e = ap (λ (s : ℕ). leb 1 s && leb s 64 && bit mask (s - 1)) (sym e)
-
-  pub no-such-seat : 64 < seat → false ≡ tiedBy mask seat
-  unfolding tiedBy
-  no-such-seat l = ap₂ (λ (x y : Bool). x && y && bit mask (seat - 1)) (sym (le-leb 1 seat (omega arith))) (sym (lt-leb seat 64 l))
-
-  pub seat-tells : (seat ≡ 0 → ⊥) → seat ≤ 64 → bit mask (seat - 1) ≡ tiedBy mask seat
-  unfolding tiedBy
-  seat-tells some l = ap₂ (λ (x y : Bool). x && y && bit mask (seat - 1)) (sym (le-leb 1 seat (omega (arith, some)))) (sym (le-leb seat 64 l))
-
 module _ (book : List ℕ) (h g : ℕ) where
-  pub no-up : getD book (section.seats .start + g) 0 ≡ 0 → hasUp book h g ≡ false
-  unfolding hasUp
-  no-up e = sym (no-seat (getD book (section.ups .start + h) 0) (getD book (section.seats .start + g) 0) e)
-
   module _ (key : ℕ) where
-    pub up-there : hasUp book h g ≡ true → upLineText book key h g ≡ upText book key h g
-    unfolding upText
-    up-there e = ap (λ (t : Bool). if t then upLineText book key h g else []) (sym e)
-
     pub up-lacks : hasUp book h g ≡ false → [] ≡ upText book key h g
     unfolding upText
     up-lacks e = ap (λ (t : Bool). if t then upLineText book key h g else []) (sym e)
@@ -66,68 +48,104 @@ module _ (book : List ℕ) (h : ℕ) where
     unfolding holderUpsText
     ups-of-other e = passed (upsText book n key h) [] e
 
--- ties up are to groups, so those to holders from the last group on are none
-pub ups-end : (book : List ℕ) (key n r h : ℕ) → GroupsBelow book n r → holderUpsText book r key h ≡ holderUpsText book n key h
-unfolding holderUpsText
-ups-end book key n r h b =
-    ap (λ (s : Bytes). if eqb (keyOfUps book h) key then s else [])
-    (each-none (upText book key h) r n (b .within) (λ g l m. sym (up-lacks book h g key (no-up book h g (b .none g l m)))))
+-- ---- groups in a set, in the order of their numbers
 
-pub all-ups-end : (book : List ℕ) (key n r : ℕ) → GroupsBelow book n r → each (holderUpsText book r key) (below n) ≡ each (holderUpsText book n key) (below n)
-all-ups-end book key n r b = each-same (holderUpsText book r key) (holderUpsText book n key) n (λ h l. ups-end book key n r h b)
+or-false : (b : Bool) → (b || false) ≡ b
+or-false true = refl
+or-false false = refl
 
--- none so far, and one more that is none
-abbrev pub NoneTied : List ℕ → ℕ → ℕ → ℕ → Type 0
-NoneTied seats mask g n = (i : ℕ) → g ≤ i → i < n → tiedBy mask (getD seats i 0) ≡ false
+or-assoc : (a b c : Bool) → (a || b || c) ≡ (a || (b || c))
+or-assoc true b c = refl
+or-assoc false b c = refl
 
-pub none-more : (seats : List ℕ) (mask : ℕ) {g n : ℕ} → NoneTied seats mask g n → tiedBy mask (getD seats n 0) ≡ false → NoneTied seats mask g (n + 1)
-none-more seats mask {g} {n} before here i a b = go (decLt i n)
-  where
-    go : Dec (i < n) → tiedBy mask (getD seats i 0) ≡ false
-    go (yes l) = before i a l
-    go (no l) = let z : i ≡ n = omega arith in ap (λ (k : ℕ). tiedBy mask (getD seats k 0)) z ∙ here
+-- one group more, and none where the number is that of no holder
+pub with-group : {before after : List ℕ} {number : ℕ} → length after ≡ 4 → ((q : ℕ) → member after q ≡ (member before q || eqb q number)) → AddsGroup number before after
+with-group {before} {number = number} long all = record { long = long; members = λ g l. all g ∙ ap (λ (b : Bool). member before g || b) (eqb-flip g number) }
 
--- the seats of the holders below n
-abbrev pub seatsBelow : List ℕ → ℕ → List ℕ
-seatsBelow book n = take n (drop (section.seats .start) book)
+pub without-group : (before : List ℕ) (number : ℕ) → length before ≡ 4 → 256 ≤ number → AddsGroup number before before
+without-group before number long large =
+    record { long = long; members = λ g l. sym (or-false (member before g)) ∙ ap (λ (b : Bool). member before g || b) (sym (ne-eqb number g (λ e. omega arith))) }
 
-module _ (book : List ℕ) (n key h : ℕ) where
-  pub seats-long : length book ≡ bookWords → n ≤ 256 → length (seatsBelow book n) ≡ n
-  seats-long l m = length-take-le n (drop (section.seats .start) book) (omega (arith, length-drop (section.seats .start) book))
+-- what is in the set so far, or in the slots that are left, is in the set before or in the mask
+pub record GroupsLeft (slots : List ℕ) (mask : ℕ) (before groups : List ℕ) (left : ℕ) : Type 0 where
+  pub long : length groups ≡ 4
+  pub members : (g : ℕ) → g < holderNumbers → (member groups g || inMask slots left g) ≡ (member before g || inMask slots mask g)
 
-  seat-of : (g : ℕ) → g < n → getD (seatsBelow book n) g 0 ≡ getD book (section.seats .start + g) 0
-  seat-of g l = getD-take n (drop (section.seats .start) book) g 0 l ∙ getD-drop (section.seats .start) book g 0
+pub groups-start : (slots : List ℕ) (mask : ℕ) (before : List ℕ) → length before ≡ 4 → GroupsLeft slots mask before before mask
+groups-start slots mask before long = record { long = long; members = λ g l. refl }
 
-  -- r is the next tie up from g on: the texts of those between are empty
-  pub record NextTie (g r : ℕ) : Type 0 where
+pub groups-step : {slots : List ℕ} {mask : ℕ} {before groups : List ℕ} {left : ℕ} → GroupsLeft slots mask before groups left → (rest q : ℕ) → bit left q ≡ true
+    → ((j : ℕ) → bit rest j ≡ (bit left j && not (eqb j q))) → q < 64 → {after : List ℕ} → AddsGroup (getD slots q 0) groups after → GroupsLeft slots mask before after rest
+unfolding inMask
+groups-step {slots} {mask} {before} {groups} {left} so-far rest q on without l {after} added = record {
+  long = added .long;
+  members = λ g m.
+      ap (λ (b : Bool). b || inMask slots rest g) (added .members g m) ∙ or-assoc (member groups g) (eqb (getD slots q 0) g) (inMask slots rest g)
+      ∙ ap (λ (b : Bool). member groups g || b) (sym (any-left left rest q on without 64 (λ j. eqb (getD slots j 0) g) l))
+      ∙ so-far .members g m;
+}
+
+pub groups-end : {slots : List ℕ} {mask : ℕ} {before groups : List ℕ} {left : ℕ} → GroupsLeft slots mask before groups left → left ≡ 0 → AddsGroups slots mask before groups
+unfolding inMask
+groups-end {slots} {mask} {before} {groups} {left} so-far none = record {
+  long = so-far .long;
+  members = λ g m.
+      sym (or-false (member groups g)) ∙ ap (λ (b : Bool). member groups g || b) (sym (none-left left 64 (λ j. eqb (getD slots j 0) g) none))
+      ∙ so-far .members g m;
+}
+
+module _ (groups book : List ℕ) (n key h : ℕ) where
+  pub among-there : (g : ℕ) → member groups g ≡ true → upLineText book key h g ≡ upAmong groups book key h g
+  unfolding upAmong
+  among-there g e = ap (λ (t : Bool). if t then upLineText book key h g else []) (sym e)
+
+  among-lacks : (g : ℕ) → member groups g ≡ false → upAmong groups book key h g ≡ []
+  unfolding upAmong
+  among-lacks g e = ap (λ (t : Bool). if t then upLineText book key h g else []) e
+
+  -- r is the next group of the set from g on: the texts of those between are empty. All of them, where it is n or more
+  pub record NextGroup (g r : ℕ) : Type 0 where
     pub from : g ≤ r
-    pub within : r ≤ n
-    pub line : r < n → upLineText book key h r ≡ upText book key h r
-    pub passes : each (upText book key h) (below g) ≡ each (upText book key h) (below r)
+    pub line : r < n → upLineText book key h r ≡ upAmong groups book key h r
+    pub passes : each (upAmong groups book key h) (below g) ≡ each (upAmong groups book key h) (below (min r n))
 
-  pub next-tie : {seats : List ℕ} {mask g r : ℕ} → seats ≡ seatsBelow book n → length (seatsBelow book n) ≡ n → mask ≡ getD book (section.ups .start + h) 0 → NextUp seats mask g r
-      → NextTie g r
-  unfolding hasUp
-  next-tie {seats} {mask} {g} {r} same long held f = go (subst (λ (s : List ℕ). NextUp s mask g r) same f)
+  pub next-group : {g r : ℕ} → length groups ≡ 4 → n ≤ 256 → g ≤ n → FirstFrom groups g r → NextGroup g r
+  next-group {g} {r} long few l f = go (decLt r 256)
     where
-      tied : (i : ℕ) {b : Bool} → i < n → tiedBy mask (getD (seatsBelow book n) i 0) ≡ b → hasUp book h i ≡ b
-      tied i l e = ap₂ tiedBy (sym held) (sym (seat-of i l)) ∙ e
-
-      go : NextUp (seatsBelow book n) mask g r → NextTie g r
-      go f = record {
-        from = f .from;
-        within = omega (arith, f .within);
-        line = λ l. up-there book h r key (tied r l (f .held (omega arith)));
-        passes = each-none (upText book key h) g r (f .from) (λ i a b. sym (up-lacks book h i key (tied i (omega (arith, f .within)) (f .lower i a b))));
+      rest : g ≤ r → NextGroup g r
+      rest q = record {
+        from = q;
+        line = λ m. among-there r (f .held (omega arith) .1);
+        passes = each-none (upAmong groups book key h) g (min r n) (omega arith) (λ k a b. among-lacks k (f .lower k a (omega arith)));
       }
 
--- one holder less, which is no group
-pub groups-step : {book : List ℕ} {n m : ℕ} → GroupsBelow book n m → 1 ≤ m → getD book (section.seats .start + (m - 1)) 0 ≡ 0 → GroupsBelow book n (m - 1)
-groups-step {book} {n} {m} b l e = record { within = omega (arith, b .within); none = λ g p q. go g p q (decLt g m) }
+      go : Dec (r < 256) → NextGroup g r
+      go (yes m) = rest (f .held (omega arith) .0)
+      go (no m) = rest (omega arith)
+
+-- four words of 0 hold no number
+abbrev pub noGroups : List ℕ
+noGroups = 0 ∷ 0 ∷ 0 ∷ 0 ∷ []
+
+pub none-in : (g : ℕ) → member noGroups g ≡ false
+unfolding member
+none-in g = ap (λ (w : ℕ). bit w (g % 64)) (word (g / 64)) ∙ bit-none (g % 64)
   where
-    go : (g : ℕ) → m - 1 ≤ g → g < n → Dec (g < m) → getD book (section.seats .start + g) 0 ≡ 0
-    go g p q (yes r) = let z : g ≡ m - 1 = omega arith in ap (λ (k : ℕ). getD book (section.seats .start + k) 0) z ∙ e
-    go g p q (no r) = b .none g (omega arith) q
+    word : (k : ℕ) → getD noGroups k 0 ≡ 0
+    word zero = refl
+    word (suc zero) = refl
+    word (suc (suc zero)) = refl
+    word (suc (suc (suc zero))) = refl
+    word (suc (suc (suc (suc k)))) = refl
+
+-- a set that was empty, with the groups of a holder's mask: its lines are those of the holder's ties
+pub ups-among : (groups before book : List ℕ) (n key h : ℕ) {mask : ℕ} → n ≤ 256 → ((g : ℕ) → member before g ≡ false) → mask ≡ getD book (section.ups .start + h) 0
+    → AddsGroups (sectionWords section.slots book) mask before groups → each (upAmong groups book key h) (below n) ≡ upsText book n key h
+unfolding upAmong upText
+ups-among groups before book n key h {mask} few empty same added =
+    each-same (upAmong groups book key h) (upText book key h) n
+    (λ g l. ap (λ (t : Bool). if t then upLineText book key h g else [])
+    (added .members g (omega arith) ∙ ap (λ (b : Bool). b || inMask (sectionWords section.slots book) mask g) (empty g) ∙ ap (λ (m : ℕ). inMask (sectionWords section.slots book) m g) same))
 
 -- ---- values
 

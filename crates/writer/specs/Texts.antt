@@ -12,11 +12,11 @@ use Rattle.model.specs.Bytes.{Bytes, bytes, newline}
 use Rattle.model.specs.Atoms.{decimal, quoted}
 use Rattle.model.specs.Block.{number, valueAt}
 use Rattle.model.specs.Lines.{firstLine}
-use Rattle.bits.specs.Bits.{bit, member}
+use Rattle.bits.specs.Bits.{bit, member, anyBelow}
 use Rattle.output.specs.Laid.{wordText}
 use Rattle.index.specs.Index.{rowPlace}
 use Rattle.book.specs.Sections as section
-use Rattle.book.specs.Sections.{codeBytes}
+use Rattle.book.specs.Sections.{sectionWords, codeBytes}
 
 -- ---- words of the format, each packed in a word of a table; the number that a book has for it is its place
 
@@ -115,23 +115,29 @@ holderLineText book sort k =
 
 -- ---- lines of ties
 
--- a mask of slots has the slot of a seat, which is 1 + the slot
-unfoldable pub tiedBy : ℕ → ℕ → Bool
-tiedBy mask seat = leb 1 seat && leb seat groupLimit && bit mask (seat - 1)
+-- holder g is the group of some slot of a mask
+unfoldable pub inMask : List ℕ → ℕ → ℕ → Bool
+inMask slots mask g = anyBelow groupLimit (λ q. bit mask q && eqb (getD slots q 0) g)
 
--- holder h has a tie up to holder g: g has a seat, and its slot is in the mask of h
-unfoldable pub hasUp : List ℕ → ℕ → ℕ → Bool
-hasUp book h g = tiedBy (getD book (section.ups .start + h) 0) (getD book (section.seats .start + g) 0)
+-- holder h has a tie up to holder g: a slot of g is in the mask of h
+abbrev pub hasUp : List ℕ → ℕ → ℕ → Bool
+hasUp book h g = inMask (sectionWords section.slots book) (getD book (section.ups .start + h) 0) g
 
--- r is the first from g on whose seat has its slot in the mask, or how many seats there are
-pub record NextUp (seats : List ℕ) (mask g r : ℕ) : Type 0 where
-  pub from : g ≤ r
-  pub within : r ≤ length seats
-  pub lower : (i : ℕ) → g ≤ i → i < r → tiedBy mask (getD seats i 0) ≡ false
-  pub held : r < length seats → tiedBy mask (getD seats r 0) ≡ true
+-- a set of four words with one holder more, and with all of a mask
+pub record AddsGroup (number : ℕ) (before after : List ℕ) : Type 0 where
+  pub long : length after ≡ 4
+  pub members : (g : ℕ) → g < holderNumbers → member after g ≡ (member before g || eqb number g)
+
+pub record AddsGroups (slots : List ℕ) (mask : ℕ) (before after : List ℕ) : Type 0 where
+  pub long : length after ≡ 4
+  pub members : (g : ℕ) → g < holderNumbers → member after g ≡ (member before g || inMask slots mask g)
 
 abbrev pub upLineText : List ℕ → ℕ → ℕ → ℕ → Bytes
 upLineText book key h g = listedText keyWords key ++ (nameOfHolder book h ++ (bytes "," ++ (nameOfHolder book g ++ lineEnd)))
+
+-- the line of a tie, if a set has its group
+unfoldable pub upAmong : List ℕ → List ℕ → ℕ → ℕ → ℕ → Bytes
+upAmong groups book key h g = if member groups g then upLineText book key h g else []
 
 unfoldable pub upText : List ℕ → ℕ → ℕ → ℕ → Bytes
 upText book key h g = if hasUp book h g then upLineText book key h g else []
@@ -139,15 +145,6 @@ upText book key h g = if hasUp book h g then upLineText book key h g else []
 -- the ties of holder h up to holders with numbers below n
 abbrev pub upsText : List ℕ → ℕ → ℕ → ℕ → Bytes
 upsText book n key h = each (upText book key h) (below n)
-
--- the last holder below n is no group: r tells
-pub record GroupBelow (book : List ℕ) (n : ℕ) (r : Bool) : Type 0 where
-  pub none : r ≡ true → (1 ≤ n) × (getD book (section.seats .start + (n - 1)) 0 ≡ 0)
-
--- no holder of n has a seat from the number r on
-pub record GroupsBelow (book : List ℕ) (n r : ℕ) : Type 0 where
-  pub within : r ≤ n
-  pub none : (g : ℕ) → r ≤ g → g < n → getD book (section.seats .start + g) 0 ≡ 0
 
 -- a group's ties up are to parents, another holder's are those of a member
 unfoldable pub keyOfUps : List ℕ → ℕ → ℕ

@@ -3,12 +3,14 @@ ghost use mathlib.Core.Path.{_≡_};
 ghost use Prim.Native.Nat.{_+_, _*_, _<_, _≤_};
 ghost use lib.ListN.{length};
 ghost use Rattle.model.specs.Notation.{each, below};
+ghost use Rattle.model.specs.Limits.{groupLimit};
 ghost use Rattle.output.specs.Laid.{far, Laid};
 ghost use Rattle.book.specs.Sections.{bookWords};
-ghost use Rattle.writer.specs.Texts.{tiedBy, NextUp, upLineText, upsText, GroupsBelow, GroupBelow, keyOfUps, holderUpsText, keyUpsText, valueLineText, valuesText, holderCount};
+ghost use Rattle.writer.specs.Texts.{AddsGroup, AddsGroups, upLineText, upAmong, upsText, keyOfUps, holderUpsText, keyUpsText, valueLineText, valuesText, holderCount};
 use book::HOLDER_COUNT;
 use book::OWN_AT;
 use book::SEATS_AT;
+use book::SLOTS_AT;
 use book::UPS_AT;
 use book::find::HOLDERS;
 use book::find::PAIRS;
@@ -16,33 +18,30 @@ use codes::KEY_MEMBER;
 use codes::KEY_PARENT;
 use codes::KEY_VALUE;
 
-// How many slots there are.
-const SLOTS: u64 = 64;
+// No holder has a number from here on.
+const NUMBERS: u64 = 256;
 
-// Whether a mask of slots has the slot of a seat, which is 1 + the slot; a seat of 0 is none.
-fn is_tied(mask: u64, seat: u64) -> bool
-    ensures { λ r. ⌜ r ≡ tiedBy mask seat ⌝ }
+// A set of holders with one more, if its number is one of a holder.
+fn add_group(groups: &mut [u64], number: u64)
+    requires { ⌜ length (now groups) ≡ 4 ⌝ }
+    ensures { λ _. ⌜ AddsGroup number (now (groups .entry)) (now (groups .exit)) ⌝ }
 {
-    if seat == 0 {
-        return false;
+    if number < NUMBERS {
+        bits::insert(groups, number as usize);
     }
-    if SLOTS < seat {
-        return false;
-    }
-    bits::has(mask, seat as usize - 1)
 }
 
-// The first holder from g on whose seat has its slot in a mask; how many seats there are where there is none.
-fn next_up(seats: &[u64], mask: u64, g: usize) -> usize
-    requires { ⌜ g ≤ length (now seats) ⌝ }
-    ensures { λ r. ⌜ NextUp (now (seats .entry)) mask g r ⌝ }
+// A set of holders with the groups of a mask's slots: it is walked by numbers then, in whatever order slots were given.
+fn add_groups(groups: &mut [u64], slots: &[u64], mask: u64)
+    requires { ⌜ (length (now groups) ≡ 4) × (length (now slots) ≡ groupLimit) ⌝ }
+    ensures { λ _. ⌜ AddsGroups (now (slots .entry)) mask (now (groups .entry)) (now (groups .exit)) ⌝ }
 {
-    for i in g..seats.len() {
-        if is_tied(mask, seats[i]) {
-            return i;
-        }
+    let mut left = mask;
+    while left != 0 {
+        let q = bits::lowest(left);
+        add_group(groups, slots[q]);
+        left = bits::without(left, q);
     }
-    seats.len()
 }
 
 fn put_up_line(out: &mut [u8], at: usize, book: &[u64], key: u8, h: usize, g: usize) -> usize
@@ -56,20 +55,37 @@ fn put_up_line(out: &mut [u8], at: usize, book: &[u64], key: u8, h: usize, g: us
     output::put_byte(out, d, b'\n')
 }
 
+// The ties of a holder up to the holders of a set, with numbers below n.
+fn put_groups(
+    out: &mut [u8],
+    at: usize,
+    book: &[u64],
+    key: u8,
+    h: usize,
+    n: usize,
+    groups: &[u64],
+) -> usize
+    requires { ⌜ (at + 16384 ≤ far) × (h < 256) × (n ≤ 256) × (length (now groups) ≡ 4) ⌝ }
+    ensures { λ r. ⌜ Laid (now (out .entry)) at (each (upAmong (now (groups .entry)) (now (book .entry)) key h) (below n)) (now (out .exit)) r × (r ≤ at + 16384) ⌝ }
+{
+    let mut m = at;
+    let mut g = bits::first_from(groups, 0);
+    while g < n {
+        m = put_up_line(out, m, book, key, h, g);
+        g = bits::first_from(groups, g + 1);
+    }
+    m
+}
+
 // The ties of a holder up to holders with numbers below n.
 fn put_ups(out: &mut [u8], at: usize, book: &[u64], key: u8, h: usize, n: usize) -> usize
     requires { ⌜ (at + 16384 ≤ far) × (h < 256) × (n ≤ 256) × (length (now book) ≡ bookWords) ⌝ }
     ensures { λ r. ⌜ Laid (now (out .entry)) at (upsText (now (book .entry)) n key h) (now (out .exit)) r × (r ≤ at + 16384) ⌝ }
 {
+    let mut groups: [u64; 4] = [0; 4];
     let mask = crate::field::word(book, UPS_AT + h);
-    let seats = &book[SEATS_AT..SEATS_AT + n];
-    let mut m = at;
-    let mut g = next_up(seats, mask, 0);
-    while g < n {
-        m = put_up_line(out, m, book, key, h, g);
-        g = next_up(seats, mask, g + 1);
-    }
-    m
+    add_groups(&mut groups, &book[SLOTS_AT..UPS_AT], mask);
+    put_groups(out, at, book, key, h, n, &groups)
 }
 
 // A group's ties up are to parents, another holder's are those of a member.
@@ -94,39 +110,15 @@ fn put_holder_ups(out: &mut [u8], at: usize, book: &[u64], key: u8, h: usize, n:
     put_ups(out, at, book, key, h, n)
 }
 
-// Whether the last holder below n is no group.
-fn no_group_last(book: &[u64], n: usize) -> bool
-    requires { ⌜ n ≤ 256 ⌝ }
-    ensures { λ r. ⌜ GroupBelow (now (book .entry)) n r ⌝ }
-{
-    if n == 0 {
-        return false;
-    }
-    crate::field::word(book, SEATS_AT + (n - 1)) == 0
-}
-
-// A number that no group reaches, of n holders: ties are looked for below it, so that their search costs holders times groups.
-fn groups_below(book: &[u64], n: usize) -> usize
-    requires { ⌜ n ≤ 256 ⌝ }
-    ensures { λ r. ⌜ GroupsBelow (now (book .entry)) n r ⌝ }
-{
-    let mut m = n;
-    while no_group_last(book, m) {
-        m -= 1;
-    }
-    m
-}
-
 // The ties of all holders up that are of a key.
 pub fn put_key_ups(out: &mut [u8], at: usize, book: &[u64], key: u8) -> usize
     requires { ⌜ (at + 4194304 ≤ far) × (length (now book) ≡ bookWords) ⌝ }
     ensures { λ r. ⌜ Laid (now (out .entry)) at (keyUpsText (now (book .entry)) key) (now (out .exit)) r × (r ≤ at + 4194304) ⌝ }
 {
     let count = crate::line::count(book, HOLDER_COUNT, HOLDERS);
-    let end = groups_below(book, count);
     let mut n = at;
     for h in 0..count {
-        n = put_holder_ups(out, n, book, key, h, end);
+        n = put_holder_ups(out, n, book, key, h, count);
     }
     n
 }

@@ -1,5 +1,4 @@
 -- `put_key_ups` meets its contract.
-use Rattle.writer.proofs.TieTexts.{all-ups-end}
 use Rattle.writer.specs.Texts.{holderUpsText}
 use Rattle.output.specs.Laid.{Laid}
 use Rattle.model.specs.Notation.{each, below}
@@ -13,19 +12,16 @@ use Rattle.writer.proofs.tie.put_key_ups.Statement.{statement}
 use Rattle.writer.proofs.tie.put_key_ups.Tie as tie
 
 abbrev Inv-loop : tie.InvT-loop
-Inv-loop out₀ at book key count end n₀ h₀ out n h = (h ≤ count) × Laid out₀ at (each (holderUpsText book end key) (below h)) out n × (n ≤ at + 16384 * h)
+Inv-loop out₀ at book key count n₀ h₀ out n h = (h ≤ count) × Laid out₀ at (each (holderUpsText book count key) (below h)) out n × (n ≤ at + 16384 * h)
 
 abbrev μ-loop : tie.MeasureT-loop
-μ-loop out₀ at book key count end n₀ h₀ out n h = count - h
+μ-loop out₀ at book key count n₀ h₀ out n h = count - h
 
 count-requires : tie.Need-count-requires Inv-loop μ-loop
 count-requires c κs = search needs
 
-groups-below-requires : tie.Need-groups-below-requires Inv-loop μ-loop
-groups-below-requires c κs = search needs
-
 loop-holds : tie.Need-loop-holds Inv-loop μ-loop
-loop-holds c = let a = c .before .before .before .before .args in (omega arith, laid-none (a .out .now) (a .at), omega arith)
+loop-holds c = let a = c .before .before .before .args in (omega arith, laid-none (a .out .now) (a .at), omega arith)
 
 put-holder-ups-requires : tie.Need-put-holder-ups-requires Inv-loop μ-loop
 put-holder-ups-requires c κs = search needs
@@ -38,25 +34,22 @@ loop-less c = search needs
 
 loop-again : tie.Need-loop-again Inv-loop μ-loop
 loop-again c =
-    let a = c .before .before .before .before .before .before .before .before .before .before .args in
+    let a = c .before .before .before .before .before .before .before .before .before .args in
     let l = c .before .before .before .before .before .loop in
     let p = c .before .before .put-holder-ups .ensures in
-    (omega arith, laid-next (holderUpsText (a .book .now) (c .before .before .before .before .before .before .groups-below .result) (a .key)) (l .inv .1) (p .0), omega (arith, p .1))
+    (omega arith, laid-next (holderUpsText (a .book .now) (c .before .before .before .before .before .before .count .result) (a .key)) (l .inv .1) (p .0), omega (arith, p .1))
 
 same-length : tie.Need-same-length Inv-loop μ-loop
 same-length c = laid-length (c .before .loop .inv .1)
 
 returns : tie.Need-returns Inv-loop μ-loop
 returns c =
-    let a = c .before .before .before .before .before .before .args in
+    let a = c .before .before .before .before .before .args in
     let l = c .before .loop in
-    let n = c .before .before .before .count in
-    let b = c .before .before .groups-below in
+    let n = c .before .before .count in
     let e : l .h ≡ n .result = omega arith in (
       laid-as
-          (ap (λ (i : ℕ). each (holderUpsText (a .book .now) (b .result) (a .key)) (below i)) e
-          ∙ all-ups-end (a .book .now) (a .key) (n .result) (b .result) (b .ensures)
-          ∙ ap (λ (i : ℕ). each (holderUpsText (a .book .now) i (a .key)) (below i)) (n .ensures .0))
+          (ap (λ (i : ℕ). each (holderUpsText (a .book .now) (n .result) (a .key)) (below i)) e ∙ ap (λ (i : ℕ). each (holderUpsText (a .book .now) i (a .key)) (below i)) (n .ensures .0))
           (l .inv .1),
       omega (arith, l .inv .2, n .ensures .1),
     )
@@ -68,7 +61,6 @@ put-key-ups-spec =
     Inv-loop
     μ-loop
     count-requires
-    groups-below-requires
     loop-holds
     put-holder-ups-requires
     add-h
