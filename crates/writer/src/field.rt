@@ -4,7 +4,7 @@ ghost use mathlib.Core.Path.{_≡_};
 ghost use Prim.Native.Nat.{_+_, _≤_, min};
 ghost use lib.ListN.{getD};
 ghost use Rattle.model.specs.Atoms.{quoted};
-ghost use Rattle.output.specs.Laid.{far, Laid};
+ghost use Rattle.output.specs.Laid.{far, Laid, wordText};
 ghost use Rattle.writer.specs.Texts.{listedText, keyWords, sourceWords, typeWords, boolWords, tokenWords, nameText, stringText, atomText, attributeText};
 use codes::INT;
 use codes::STR;
@@ -124,13 +124,24 @@ pub fn put_token(out: &mut [u8], at: usize, kind: u8) -> usize
     put_listed(out, at, &TOKENS, kind as u64)
 }
 
+// The bytes of a packed word that stands behind another: mostly it is 0 and has none.
+fn put_rest(out: &mut [u8], at: usize, word: u64) -> usize
+    requires { ⌜ at + 8 ≤ far ⌝ }
+    ensures { λ r. ⌜ Laid (now (out .entry)) at (wordText 8 word) (now (out .exit)) r × (r ≤ at + 8) ⌝ }
+{
+    if word == 0 {
+        return at;
+    }
+    output::put_word(out, at, word)
+}
+
 // The name in the two words from a place on.
 pub fn put_name(out: &mut [u8], at: usize, book: &[u64], place: usize) -> usize
     requires { ⌜ (at + 16 ≤ far) × (place + 1 ≤ far) ⌝ }
     ensures { λ r. ⌜ Laid (now (out .entry)) at (nameText (now (book .entry)) place) (now (out .exit)) r × (r ≤ at + 16) ⌝ }
 {
     let n = output::put_word(out, at, word(book, place));
-    output::put_word(out, n, word(book, place + 1))
+    put_rest(out, n, word(book, place + 1))
 }
 
 // The string in the three words from a place on, in its quotes.
@@ -140,7 +151,7 @@ fn put_string(out: &mut [u8], at: usize, book: &[u64], place: usize) -> usize
 {
     let a = output::put_byte(out, at, b'"');
     let b = put_name(out, a, book, place);
-    let c = output::put_word(out, b, word(book, place + 2));
+    let c = put_rest(out, b, word(book, place + 2));
     output::put_byte(out, c, b'"')
 }
 

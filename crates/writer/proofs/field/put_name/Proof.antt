@@ -20,8 +20,8 @@ add-word c = search needs
 word-requires-2 : tie.Need-word-requires-2
 word-requires-2 c κs = search needs
 
-put-word-requires-2 : tie.Need-put-word-requires-2
-put-word-requires-2 c κs = search needs
+put-rest-requires : tie.Need-put-rest-requires
+put-rest-requires c κs = search needs
 
 same-length : tie.Need-same-length
 same-length c = search needs
@@ -30,7 +30,7 @@ returns : tie.Need-returns
 unfolding nameText
 returns c =
     let p0 = c .before .before .before .before .before .before .before .put-word .ensures in
-    let p1 = c .before .before .put-word2 .ensures in
+    let p1 = c .before .before .put-rest .ensures in
     (laid-on (laid-as (ap (wordText 8) (c .before .before .before .before .before .before .before .before .word .ensures)) (p0 .0)) (laid-as (ap (wordText 8) (c .before .before .before .word2 .ensures)) (p1 .0)), omega (arith, p0 .1, p1 .1))
 
 pub put-name-spec : {M : Type 1} → statement M
@@ -41,6 +41,6 @@ put-name-spec =
     put-word-requires
     add-word
     word-requires-2
-    put-word-requires-2
+    put-rest-requires
     same-length
     returns)

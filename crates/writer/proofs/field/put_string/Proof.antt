@@ -20,8 +20,8 @@ add-word c = search needs
 word-requires : tie.Need-word-requires
 word-requires c κs = search needs
 
-put-word-requires : tie.Need-put-word-requires
-put-word-requires c κs = search needs
+put-rest-requires : tie.Need-put-rest-requires
+put-rest-requires c κs = search needs
 
 put-byte-requires-2 : tie.Need-put-byte-requires-2
 put-byte-requires-2 c κs = search needs
@@ -34,7 +34,7 @@ unfolding stringText
 returns c =
     let a = c .before .before .before .before .before .before .before .before .before .before .before .before .before .before .before .put-byte .ensures in
     let b = c .before .before .before .before .before .before .before .before .before .before .before .put-name .ensures in
-    let d = c .before .before .before .before .before .before .put-word .ensures in
+    let d = c .before .before .before .before .before .before .put-rest .ensures in
     let e = c .before .before .put-byte2 .ensures in
     (laid-on a (laid-on (laid-on (b .0) (laid-as (ap (wordText 8) (c .before .before .before .before .before .before .before .word .ensures)) (d .0))) e), omega (arith, a .behind, b .1, d .1, e .behind))
 
@@ -46,7 +46,7 @@ put-string-spec =
     put-name-requires
     add-word
     word-requires
-    put-word-requires
+    put-rest-requires
     put-byte-requires-2
     same-length
     returns)
