@@ -18,11 +18,11 @@
    edit is refused, each request gets 15 or 16, and the file that zhul_write puts out is the first line alone, 9 bytes.
 
    Stack, as hosts/stack measures it on x86-64 (KB of 1000 bytes, rounded up; measured, not proved): zhul_pass 277 KB, zhul_load 210 KB, zhul_edit
-   16 KB, zhul_decide 18 KB, zhul_write NNN KB. The first two are for a refused file with a rule line full of parentheses, as a policy is read to its
+   16 KB, zhul_decide 18 KB, zhul_write 1 KB. The first two are for a refused file with a rule line full of parentheses, as a policy is read to its
    end before its depth is judged, some 0.8 KB for each parenthesis; for the largest files that are accepted it is 94 KB and 28 KB. The last two are
-   for a book and rules that calls left: on other bytes, which must not be lent, zhul_decide takes up to 617 KB, zhul_write NNN KB.
+   for a book and rules that calls left: on other bytes, which must not be lent, zhul_decide takes up to 617 KB, zhul_write still 1 KB.
 
-   Of the C library the calls need memset and nothing else; a firmware without that library gives its own. */
+   Of the C library the calls need memset and, for zhul_write, memcpy, and nothing else; a firmware without that library gives its own. */
 #ifndef ZHULMEKOV_H
 #define ZHULMEKOV_H
 
