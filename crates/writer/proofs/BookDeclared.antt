@@ -1,21 +1,21 @@
 -- The lines of attributes, operations and pairs, from the words of a book that holds a state. Assumes nothing.
-use Prim.Native.Nat.{ℕ, suc, _+_, _-_, _*_, _%_, _≤_, _<_, min}
+use Prim.Native.Nat.{ℕ, _+_, _%_, _≤_, _<_, min}
 use mathlib.Core.Path.{_≡_, refl, sym, ap, ap₂, _∙_}
-use mathlib.Core.Bool.{Bool, true, _&&_}
-use mathlib.Core.List.{List, [], _∷_, _++_, append-assoc}
-use mathlib.Core.Option.{Option, none, some, Option·some-injective}
+use mathlib.Core.Bool.{true}
+use mathlib.Core.List.{List, _++_, append-assoc}
+use mathlib.Core.Option.{Option, some, Option·some-injective}
 use native.Mathlib.Omega.{arith}
 use borrow.Author.Tests.{leb-true}
-use lib.ListN.{length, getD}
-use Rattle.model.specs.Notation.{nth, map, each, below, place}
+use lib.ListN.{getD}
+use Rattle.model.specs.Notation.{nth, map, each, below}
 use Rattle.model.specs.Limits.{attributeLimit, operationLimit, pairLimit, largestInt}
-use Rattle.model.specs.Bytes.{Bytes, bytes, newline, same}
+use Rattle.model.specs.Bytes.{Bytes, bytes, same}
 use Rattle.model.specs.Names.{isName}
-use Rattle.model.specs.Attributes.{Source, AtomType, sourceWord, typeWord, sameSource}
+use Rattle.model.specs.Attributes.{Source, sourceWord, typeWord, sameSource}
 use Rattle.model.specs.Attributes as attributes
 use Rattle.model.specs.Atoms.{Atom, int, str, bool, typeOf, isAtom, decimal, quoted, writeAtom}
 use Rattle.model.specs.Declarations.{Declarations, Attribute, Pair, attributeNumber, attributeOf, sameSourceAndName}
-use Rattle.model.specs.Lines.{op, writeLine}
+use Rattle.model.specs.Lines.{op}
 use Rattle.model.specs.State.{State}
 use Rattle.model.specs.Standing.{Standing}
 use Rattle.model.specs.FileText.{attributeLine, pairLine, lineText}
@@ -23,19 +23,16 @@ use Rattle.model.proofs.Options.{parts, bind-some}
 use Rattle.model.proofs.Lists.{nth-lt, place-nth}
 use Rattle.model.proofs.WordTables.{same-eq, same-word, reads-source}
 use Rattle.codes.specs.Codes.{sourceCode, typeCode}
-use Rattle.text.specs.Packing.{packedOf, threeWords}
+use Rattle.text.specs.Packing.{packedOf}
 use Rattle.text.specs.Values.{atomWords}
 use Rattle.output.specs.Laid.{wordText}
-use Rattle.rows.specs.Rows.{AttributeRow}
-use Rattle.index.specs.Index.{RowWritten}
 use Rattle.book.specs.Sections as section
-use Rattle.book.specs.Sections.{Section}
 use Rattle.book.specs.Held.{Holds, pairRow}
-use Rattle.writer.specs.Texts.{keyWords, sourceWords, typeWords, boolWords, listedText, attributeAt, operationAt, pairAt, counted, nameText, stringText, atomText, attributeText, rowOfPair, pairAtomText, lineEnd, attributeLineText, operationLineText, pairLineText, declaredText}
+use Rattle.writer.specs.Texts.{sourceWords, typeWords, boolWords, listedText, attributeAt, operationAt, pairAt, counted, nameText, stringText, atomText, attributeText, rowOfPair, pairAtomText, lineEnd, attributeLineText, operationLineText, pairLineText, declaredText}
 use Rattle.writer.proofs.LaidTexts.{int-atom, str-atom, bool-atom}
 use Rattle.writer.proofs.Spellings.{source-text, type-text, bool-text}
 use Rattle.writer.proofs.Unpacked.{name-back, string-back}
-use Rattle.writer.proofs.Listing.{each-append, each-map, each-place}
+use Rattle.writer.proofs.Listing.{each-map, each-place}
 use Rattle.writer.proofs.SectionWords.{word-at}
 
 -- how many there are, by the word of the counts

@@ -1,21 +1,21 @@
 -- The lines of rules, from the rule code that a book holds: the text of code is the canonical spelling of its tokens. Assumes nothing.
-use Prim.Native.Nat.{ℕ, zero, suc, _+_, _-_, _*_, _%_, _≤_, _<_}
+use Prim.Native.Nat.{ℕ, zero, suc, _+_, _*_, _%_, _≤_, _<_}
 use mathlib.Core.Path.{_≡_, refl, sym, ap, ap₂, _∙_}
 use mathlib.Core.Bool.{Bool, true, false, _&&_, true≢false}
 use mathlib.Core.List.{List, [], _∷_, _++_, append-assoc}
-use mathlib.Core.Option.{Option, none, some}
+use mathlib.Core.Option.{some}
 use native.Mathlib.Omega.{arith}
 use borrow.Author.Tests.{leb-true}
 use lib.ListN.{length, getD, take, drop, length-append, length-take}
 use Rattle.model.specs.Notation.{if_then_else_, anyOf, allOf, nth, map, each, below}
-use Rattle.model.specs.Limits.{ruleLimit, operationLimit, largestInt}
+use Rattle.model.specs.Limits.{ruleLimit, largestInt}
 use Rattle.model.specs.Bytes.{Bytes, bytes, same}
 use Rattle.model.specs.Atoms.{decimal, quoted}
 use Rattle.model.specs.Truth.{Truth}
 use Rattle.model.specs.Attributes.{Source, sourceWord, sameSource}
 use Rattle.model.specs.Attributes as attributes
 use Rattle.model.specs.Tokens.{Token, name, int, str, truth, operator, mark, Operator, Mark, isToken, isWord, spelling, spelledBehind, spelled}
-use Rattle.model.specs.Declarations.{Declarations, Attribute, Rule, attributeNumber, operationNumber, sameSourceAndName}
+use Rattle.model.specs.Declarations.{Declarations, Rule, attributeNumber, operationNumber, sameSourceAndName}
 use Rattle.model.specs.Refusals.{unknownName}
 use Rattle.model.specs.State.{State}
 use Rattle.model.specs.Standing.{Standing}
@@ -27,13 +27,13 @@ use Rattle.model.proofs.Spelling.{int-word, name-is-word}
 use Rattle.codes.specs.Codes.{kindOf}
 use Rattle.codes.proofs.TokenKinds.{kind-range}
 use Rattle.rows.specs.Rows.{numberOr}
-use Rattle.tokens.specs.RuleCode.{Coded, size, ruleCode, encodeToken}
+use Rattle.tokens.specs.RuleCode.{Coded, size, encodeToken}
 use Rattle.tokens.proofs.RuleCode.{coded-front, coded-end, coded-long, name-number, int-value, str-length, str-text}
 use Rattle.output.specs.Laid.{wordText}
 use Rattle.book.specs.Sections as section
-use Rattle.book.specs.Sections.{codeBytes, ruleBytes}
+use Rattle.book.specs.Sections.{codeBytes}
 use Rattle.book.specs.Held.{Holds}
-use Rattle.writer.specs.Texts.{listedText, tokenWords, attributeAt, operationAt, nameText, attributeText, counted, lineEnd, wordKind, tokenText, sizeAt, gapText, codeText, policyText, ruleLineText, rulesText}
+use Rattle.writer.specs.Texts.{listedText, tokenWords, attributeAt, operationAt, nameText, attributeText, lineEnd, wordKind, tokenText, sizeAt, gapText, codeText, ruleLineText, rulesText}
 use Rattle.writer.proofs.LaidTexts.{chosen, passed}
 use Rattle.writer.proofs.RuleTexts.{int-token, str-token, name-token, plain-token, int-size, str-size, name-size, plain-size}
 use Rattle.writer.proofs.Spellings.{operator-text, mark-text, truth-text}

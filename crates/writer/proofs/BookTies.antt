@@ -1,10 +1,9 @@
 -- The text of a book's ties is that of the ties of its state. Assumes nothing.
-use Prim.Native.Nat.{ℕ, suc, _+_, _-_, _*_, _/_, _%_, _≤_, _<_}
+use Prim.Native.Nat.{ℕ, suc, _+_, _*_, _/_, _%_, _≤_, _<_}
 use mathlib.Core.Path.{_≡_, refl, sym, ap, ap₂, subst, _∙_}
 use mathlib.Core.Bool.{Bool, true, false, _||_, true≢false}
 use mathlib.Core.List.{List, [], _++_, append-nil, append-assoc}
 use mathlib.Core.Option.{Option, some, Option·some-injective}
-use native.Mathlib.Decide.{decLt}
 use native.Mathlib.Omega.{arith}
 use lib.ListN.{length, getD, drop}
 use lib.Seq.{getD-take, getD-drop}
@@ -19,12 +18,10 @@ use Rattle.model.specs.State.{State}
 use Rattle.model.specs.Standing.{Standing}
 use Rattle.model.specs.FileText.{tiesWith, tiesInOrder, tieLine, tieLines, lineText}
 use Rattle.model.proofs.WordTables.{none-is-some}
-use Rattle.model.proofs.Lists.{nth-lt, lt-nth, same-truth}
+use Rattle.model.proofs.Lists.{nth-lt, lt-nth}
 use Rattle.model.proofs.Standing.{sorted-fits, pairs-fit}
 use Rattle.bits.specs.Bits.{bit, member, holds}
-use Rattle.ties.specs.TieArrays.{tiedUp, Distinct}
-use Rattle.ties.proofs.Keeps.{up-slot, slot-up}
-use Rattle.ties.proofs.Masks.{in-use-lt}
+use Rattle.ties.specs.TieArrays.{tiedUp}
 use Rattle.book.specs.Sections as section
 use Rattle.book.specs.Sections.{sectionWords}
 use Rattle.book.specs.Held.{Holds}

@@ -1,17 +1,16 @@
 -- The texts of ties: which of them are there, and where none is, so that a walk may pass over them. Assumes nothing.
 use Prim.Native.Nat.{ℕ, zero, suc, _+_, _*_, _/_, _%_, _≤_, _<_, min}
-use mathlib.Core.Path.{_≡_, refl, sym, ap, ap₂, subst, _∙_}
+use mathlib.Core.Path.{_≡_, refl, sym, ap, subst, _∙_}
 use mathlib.Core.Bool.{Bool, true, false, _&&_, _||_, not}
 use mathlib.Core.List.{List, [], _∷_}
 use native.Mathlib.Decide.{decLt}
 use native.Mathlib.Omega.{arith}
 use borrow.Author.Tests.{eq-eqb, ne-eqb}
 use lib.Dec.{eqb}
-use lib.ListN.{length, getD, take, drop, length-drop}
+use lib.ListN.{length, getD, drop, length-drop}
 use lib.Seq.{length-take-le}
 use Rattle.model.specs.Notation.{if_then_else_, each, below}
 use Rattle.model.specs.Limits.{pairLimit, holderNumbers}
-use Rattle.model.specs.Bytes.{Bytes}
 use Rattle.bits.specs.Bits.{bit, member}
 use Rattle.bits.specs.Lowest.{FirstFrom}
 use Rattle.bits.proofs.Bits.{bit-none}
@@ -19,16 +18,11 @@ use Rattle.bits.proofs.Walks.{any-left, none-left}
 use Rattle.ties.proofs.Masks.{eqb-flip}
 use Rattle.book.specs.Sections as section
 use Rattle.book.specs.Sections.{sectionWords, bookWords}
-use Rattle.writer.specs.Texts.{inMask, hasUp, AddsGroup, AddsGroups, upLineText, upAmong, upText, upsText, keyOfUps, holderUpsText, ownOf, valueLineText, valueText}
+use Rattle.writer.specs.GroupSets.{AddsGroup, AddsGroups}
+use Rattle.writer.specs.Texts.{inMask, upLineText, upAmong, upText, upsText, keyOfUps, holderUpsText, ownOf, valueLineText, valueText}
 use Rattle.writer.proofs.LaidTexts.{chosen, passed, each-none, each-same}
 
 -- ---- ties up
-
-module _ (book : List ℕ) (h g : ℕ) where
-  module _ (key : ℕ) where
-    pub up-lacks : hasUp book h g ≡ false → [] ≡ upText book key h g
-    unfolding upText
-    up-lacks e = ap (λ (t : Bool). if t then upLineText book key h g else []) (sym e)
 
 module _ (book : List ℕ) (h : ℕ) where
   pub member-key : getD book (section.seats .start + h) 0 ≡ 0 → 9 ≡ keyOfUps book h

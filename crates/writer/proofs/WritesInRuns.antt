@@ -18,7 +18,7 @@ use Rattle.model.proofs.Writer.{writtenBytes, TextTooLong}
 use Rattle.book.specs.Held.{Holds}
 use Rattle.engine.specs.Calls.{Gives}
 use Rattle.engine.specs.Runs.{Memory, Does, Leads, endState}
-use Rattle.engine.proofs.Runs.{does-gives, leads-together, leads-where-the-ledger-ends}
+use Rattle.engine.proofs.Runs.{leads-together, leads-where-the-ledger-ends}
 use Rattle.writer.specs.WriteCalls.{written, WriteCall}
 
 -- ---- where a list of calls leads is a state of its ledger

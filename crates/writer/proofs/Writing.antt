@@ -1,8 +1,7 @@
 -- A text that is refused, and one that is laid from a buffer's start: what the writer's answer and the buffer then are. Assumes nothing.
 use Prim.Native.Nat.{ℕ, _+_, _≤_, _<_}
 use mathlib.Core.Path.{_≡_, refl, sym, ap, ap₂, _∙_}
-use mathlib.Core.Logic.{_⊎_, inl, inr}
-use mathlib.Core.Bool.{Bool, true, false, _||_}
+use mathlib.Core.Bool.{Bool, _||_}
 use mathlib.Core.List.{List, _++_}
 use native.Mathlib.Omega.{arith}
 use borrow.Author.Tests.{lt-ltb, le-ltb}
@@ -13,12 +12,9 @@ use Rattle.model.specs.Notation.{if_then_else_}
 use Rattle.model.specs.Limits.{fileBytes}
 use Rattle.model.specs.Numbers as refusal
 use Rattle.model.specs.Bytes.{Bytes}
-use Rattle.model.specs.State.{State}
 use Rattle.model.specs.Refusals.{doesNotFit}
-use Rattle.model.specs.Standing.{Standing}
-use Rattle.model.specs.FileText.{FileWritten, fileText, writeText, writeFile}
+use Rattle.model.specs.FileText.{FileWritten, writeText, writeFile}
 use Rattle.output.specs.Laid.{Laid}
-use Rattle.book.specs.Held.{Holds}
 use Rattle.writer.specs.Texts.{bookText}
 use Rattle.writer.specs.WriteCalls.{written, WriteCall}
 use Rattle.writer.proofs.BookTexts.{book-text}

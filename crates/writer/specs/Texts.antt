@@ -1,10 +1,9 @@
 -- The lines of a file as the words of a book and the bytes of its rules spell them: on any words, so that code is compared with words alone. That these are the
 -- lines of the state that a book holds is `BookTexts.book-text`.
-use Prim.Native.Nat.{ℕ, zero, suc, _+_, _-_, _*_, _/_, _%_, _≤_, _<_, min}
-use mathlib.Core.Path.{_≡_}
-use mathlib.Core.Bool.{Bool, true, false, _&&_, _||_}
+use Prim.Native.Nat.{ℕ, zero, suc, _+_, _-_, _*_, _%_, min}
+use mathlib.Core.Bool.{Bool, false, _&&_, _||_}
 use mathlib.Core.List.{List, [], _∷_, _++_}
-use lib.ListN.{length, getD, take, drop}
+use lib.ListN.{getD, take, drop}
 use lib.Dec.{eqb, leb}
 use Rattle.model.specs.Notation.{if_then_else_, map, each, below}
 use Rattle.model.specs.Limits.{attributeLimit, operationLimit, pairLimit, holderNumbers, groupLimit, ruleLimit}
@@ -122,15 +121,6 @@ inMask slots mask g = anyBelow groupLimit (λ q. bit mask q && eqb (getD slots q
 -- holder h has a tie up to holder g: a slot of g is in the mask of h
 abbrev pub hasUp : List ℕ → ℕ → ℕ → Bool
 hasUp book h g = inMask (sectionWords section.slots book) (getD book (section.ups .start + h) 0) g
-
--- a set of four words with one holder more, and with all of a mask
-pub record AddsGroup (number : ℕ) (before after : List ℕ) : Type 0 where
-  pub long : length after ≡ 4
-  pub members : (g : ℕ) → g < holderNumbers → member after g ≡ (member before g || eqb number g)
-
-pub record AddsGroups (slots : List ℕ) (mask : ℕ) (before after : List ℕ) : Type 0 where
-  pub long : length after ≡ 4
-  pub members : (g : ℕ) → g < holderNumbers → member after g ≡ (member before g || inMask slots mask g)
 
 abbrev pub upLineText : List ℕ → ℕ → ℕ → ℕ → Bytes
 upLineText book key h g = listedText keyWords key ++ (nameOfHolder book h ++ (bytes "," ++ (nameOfHolder book g ++ lineEnd)))

@@ -1,7 +1,6 @@
 -- `put_operation_line` meets its contract.
 use Rattle.writer.specs.Texts.{operationLineText}
-use Rattle.output.proofs.Laying.{laid-on, laid-as}
-use mathlib.Core.Path.{ap}
+use Rattle.output.proofs.Laying.{laid-on}
 use native.Mathlib.Omega.{arith}
 use borrow.Author.Needs.{needs}
 use Rattle.writer.proofs.line.put_operation_line.Statement.{statement}

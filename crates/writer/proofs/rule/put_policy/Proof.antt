@@ -1,6 +1,6 @@
 -- `put_policy` meets its contract.
 use lib.ListN.{getD}
-use Prim.Native.Nat.{ℕ, _+_, _-_, _*_, _≤_}
+use Prim.Native.Nat.{_+_, _-_, _*_, _≤_}
 use Rattle.writer.proofs.RuleTexts.{PolicyLaid, policy-start, within-code, policy-next, policy-end}
 use Rattle.output.proofs.Laying.{laid-length}
 use mathlib.Core.Path.{_≡_, sym, _∙_}
