@@ -119,7 +119,8 @@ uint64_t zhul_decide(const uint8_t *block, size_t block_length, const uint64_t *
 /* The file as it stands now, into the start of the host's buffer[buffer_length], from the book that the last load or edit left and the rules that the
    last load left. Nothing else is written: the bytes of the buffer behind the file keep their content, and so do all of them after a refusal, 18.
    32,768 bytes are always enough for a file that can be loaded; a host that lends so many and gets 18 takes ties away first. The file ends with its
-   last line's byte 10; there is no byte 0 behind it. Time: linear in what is written, and in the number of holders times the number of groups. */
+   last line's byte 10; there is no byte 0 behind it. Time: linear in the length of the file, also of one that is
+   refused, and in the number of holders. */
 uint64_t zhul_write(const uint64_t *book, const uint8_t *rules, uint8_t *buffer, size_t buffer_length);
 
 #ifdef __cplusplus
