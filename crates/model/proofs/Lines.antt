@@ -18,7 +18,7 @@ use Rattle.model.specs.Keys.{Key, keyWord, keys, readKey}
 use Rattle.model.specs.Tokens.{Token, isToken, tokensOf, Spells, spelled}
 use Rattle.model.specs.Grammar.{readPolicy}
 use Rattle.model.specs.Declarations.{Sort, sortWord, isSort}
-use Rattle.model.specs.Lines.{Line, readAttr, readOp, readPair, readHolder, readTwo, readValue, readRule, readFields, readKeyed, framed, readLine, writeLine, lineKey, isLine, Writes}
+use Rattle.model.specs.Lines.{Line, readAttr, readOp, readPair, readHolder, readTwo, readValue, readRule, readFields, readKeyed, framed, readLine, writeLine, isLine, Writes}
 use Rattle.model.proofs.WordTables.{false-is-true, one-of-word, reads-key}
 use Rattle.model.proofs.Options.{parts, both, fields, bound, condition}
 use Rattle.model.proofs.Lists.{all-parts, all-append, all-cons}
@@ -28,6 +28,25 @@ use Rattle.model.proofs.Atoms.{atom-lacks}
 use Rattle.model.proofs.Tokens.{tokens-exact, spells-lack}
 use Rattle.model.proofs.Spelled.{spelled-spells}
 use Rattle.model.proofs.Fields.{nameField, atomField, sourceField, typeField, reads, both-fields, reads-both, three-fields, reads-three}
+
+-- the key of the lines that declare holders of a sort. Admin has none: `attr` stands for it, as no key is before that
+abbrev pub sortKey : Sort → Key
+sortKey Sort.admin = Key.attr
+sortKey Sort.ugroup = Key.ugroup
+sortKey Sort.ogroup = Key.ogroup
+sortKey Sort.user = Key.user
+sortKey Sort.object = Key.object
+
+-- the key of a line
+abbrev pub lineKey : Line → Key
+lineKey (Line.attr s n t) = Key.attr
+lineKey (Line.op n) = Key.op
+lineKey (Line.atom s n a) = Key.atom
+lineKey (Line.holder s n) = sortKey s
+lineKey (Line.parent c g) = Key.parent
+lineKey (Line.member p g) = Key.member
+lineKey (Line.value h n a) = Key.value
+lineKey (Line.rule o ts) = Key.rule
 
 -- the frame: the key stands before the first equals sign
 pub keyed-exact : (s : Bytes) (k : Key) (f : Bytes) → (readKeyed s ≡ some (k, f)) ↔ (s ≡ keyWord k ++ 61 ∷ f)

@@ -1,14 +1,14 @@
--- Laws of the words on lists: what `anyOf`, `allOf`, `filter`, `countOf`, `place`, `nth`, `numbered`, `map` and `below` say of the elements. Assumes nothing.
+-- Laws of the words on lists: what `anyOf`, `allOf`, `filter`, `countOf`, `place`, `nth`, `numbered`, `map`, `each` and `below` say of the elements. Assumes nothing.
 use Prim.Native.Nat.{ℕ, zero, suc, _+_, _≤_, _<_}
 use mathlib.Core.Path.{_≡_, refl, sym, ap, ap₂, subst, _∙_}
 use mathlib.Core.Logic.{_⊎_, inl, inr, ⊎-elim}
 use mathlib.Core.Bool.{Bool, true, false, _||_, true≢false}
-use mathlib.Core.List.{List, [], _∷_, _++_, List·Memᴰ, List·Memᴰ·head as here, List·Memᴰ·tail as there, List·Memᴰ·append-cases, List·Memᴰ·eq-of-singleton, Memᴰ·append-left, Memᴰ·append-right}
+use mathlib.Core.List.{List, [], _∷_, _++_, List·Memᴰ, List·Memᴰ·head as here, List·Memᴰ·tail as there, List·Memᴰ·append-cases, List·Memᴰ·eq-of-singleton, Memᴰ·append-left, Memᴰ·append-right, append-assoc, append-nil}
 use mathlib.Core.Option.{Option, none, some, Option·some-injective}
 use native.Mathlib.Omega.{arith}
 use native.Mathlib.Nat.{add-zero, add-suc, suc-add, eq-or-lt-of-le}
 use lib.ListN.{length, length-append}
-use Rattle.model.specs.Notation.{if_then_else_, _>>=_, isEmpty, anyOf, allOf, filter, countOf, place, nth, numberedFrom, map, below}
+use Rattle.model.specs.Notation.{if_then_else_, _>>=_, isEmpty, anyOf, allOf, filter, countOf, place, nth, numberedFrom, map, each, below}
 use Rattle.model.proofs.WordTables.{false-is-true, none-is-some}
 
 -- membership
@@ -286,3 +286,11 @@ all-by p q f (x ∷ s) e = let (h, r) = all-parts p x s e in all-cons q x s (f x
 pub empty : {A : Type 0} (s : List A) → isEmpty s ≡ true → s ≡ []
 empty [] e = refl
 empty (x ∷ s) e = false-is-true e
+
+-- the lists of a list's elements, one after another
+pub each-append : {A B : Type 0} (f : A → List B) (xs ys : List A) → each f (xs ++ ys) ≡ each f xs ++ each f ys
+each-append f [] ys = refl
+each-append {B = B} f (x ∷ xs) ys = ap (λ (l : List B). f x ++ l) (each-append f xs ys) ∙ sym (append-assoc (f x) (each f xs) (each f ys))
+
+pub each-below : {B : Type 0} (f : ℕ → List B) (n : ℕ) → each f (below (suc n)) ≡ each f (below n) ++ f n
+each-below {B} f n = each-append f (below n) (n ∷ []) ∙ ap (λ (l : List B). each f (below n) ++ l) (append-nil (f n))

@@ -12,10 +12,11 @@ use Rattle.model.specs.Notation.{if_then_else_, _>>=_, _is_, isNone, map
 use Rattle.model.specs.Limits.{lineBytes}
 use Rattle.model.specs.Bytes.{Bytes, newline, linesOf, begun}
 use Rattle.model.specs.Keys.{Key, keyWord, rank}
-use Rattle.model.specs.Lines.{Line, framed, readFields, readLine, writeLine, lineKey, isLine, Writes}
+use Rattle.model.specs.Lines.{Line, framed, readFields, readLine, writeLine, isLine, Writes}
 use Rattle.model.specs.State.{State, after}
 use Rattle.model.specs.Refusals.{unframed, outOfOrder, malformed, overLimits, undeclared, wrongSort, repeated, full, circular, lineRefusal}
 use Rattle.model.specs.FileText.{lineText}
+use Rattle.model.proofs.Lines.{lineKey}
 use Rattle.model.proofs.Lists.{all-parts, map-append}
 use Rattle.model.proofs.Cuts.{isnt, lacks}
 use Rattle.model.proofs.Lines.{fields-read, writes-lack, framed-exact}

@@ -18,12 +18,13 @@ use Rattle.model.specs.Attributes.{Source, sourceWord, AtomType, typeWor
 use Rattle.model.specs.Atoms.{Atom, isAtom, writeAtom, typeOf, sameAtom, decimal, isText, textByte}
 use Rattle.model.specs.Keys.{rank}
 use Rattle.model.specs.Declarations.{Declarations, Attribute, Pair, Holder, Rule, Sort, sortWord, isSort, isGroup, groups, sameSourceAndName, attributeNumber, attributeOf, operationNumber, pairNumber, holderNumber, holderOf, holderNumbersOf}
-use Rattle.model.specs.Lines.{Line, op, atom, lineKey, sortKey}
+use Rattle.model.specs.Lines.{Line, op, atom}
 use Rattle.model.specs.Ties.{Ties, noTies}
 use Rattle.model.specs.State.{State, after}
 use Rattle.model.specs.Refusals.{circular}
 use Rattle.model.specs.Standing.{rising, Unique, AttributesStand, OperationsStand, PairStands, PairsStand, HoldersStand}
 use Rattle.model.specs.FileText.{attributeLine, pairLine, holderLine, holderSorts}
+use Rattle.model.proofs.Lines.{lineKey, sortKey}
 use Rattle.model.proofs.WordTables.{none-is-some, same-eq, same-refl, same-word, reads-sort, sorts}
 use Rattle.model.proofs.Options.{parts, both, no-result, bind-some}
 use Rattle.model.proofs.Lists.{_∈_, true-or-false, nth-lt, nth-append, place-nth, all-in, map-append}

@@ -15,15 +15,16 @@ use Rattle.model.specs.Attributes.{Source, sourceWord}
 use Rattle.model.specs.Atoms.{sameAtom}
 use Rattle.model.specs.Keys.{Key, rank}
 use Rattle.model.specs.Declarations.{Declarations, Pair, Holder, Sort, sortWord, isSort, sameSourceAndName, holderNumber, pairNumber, holderOf, sortOf, holderNumbersOf, sourceFor, parentSort, groupSort}
-use Rattle.model.specs.Lines.{Line, parent, member, value, lineKey}
+use Rattle.model.specs.Lines.{Line, parent, member, value}
 use Rattle.model.specs.Ties.{Tie, Ties, noTies, added, sameTie, up, Acyclic, Below, one, more, isBelow, closesCircle}
 use Rattle.model.specs.State.{State, tieOf, tied, after}
 use Rattle.model.specs.Refusals.{fits, stands, tieCloses, circular}
 use Rattle.model.specs.Standing.{rising, SortsFit, TieFits, WellDeclared, HoldersStand, Standing}
 use Rattle.model.specs.FileText.{tiesWith, tiesInOrder, tieLine}
+use Rattle.model.proofs.Lines.{lineKey}
 use Rattle.model.proofs.WordTables.{false-is-true, same-refl}
 use Rattle.model.proofs.Options.{parts, both, bind-some}
-use Rattle.model.proofs.Lists.{_∈_, fun-ext, true-or-false, same-truth, or-cases, or-left, or-right, nth-lt, place-nth, in-filter, filter-in, in-map, map-in, in-below, below-in, all-in}
+use Rattle.model.proofs.Lists.{_∈_, fun-ext, true-or-false, same-truth, or-cases, or-left, or-right, nth-lt, place-nth, in-filter, filter-in, in-map, map-in, in-below, below-in, all-in, each-append}
 use Rattle.model.proofs.Growing.{place-nowhere}
 use Rattle.model.proofs.Ties.{tie-refl, added-cases}
 use Rattle.model.proofs.Chains.{below-sound}
@@ -324,10 +325,6 @@ filter-append p (x ∷ xs) ys = go (p x) (filter-append p xs ys)
     go : (b : Bool) → filter p (xs ++ ys) ≡ filter p xs ++ filter p ys → (if b then x ∷ filter p (xs ++ ys) else filter p (xs ++ ys)) ≡ (if b then x ∷ filter p xs else filter p xs) ++ filter p ys
     go true e = ap (λ l. x ∷ l) e
     go false e = e
-
-each-append : {A B : Type 0} (f : A → List B) (xs ys : List A) → each f (xs ++ ys) ≡ each f xs ++ each f ys
-each-append f [] ys = refl
-each-append f (x ∷ xs) ys = ap (λ l. f x ++ l) (each-append f xs ys) ∙ sym (append-assoc (f x) (each f xs) (each f ys))
 
 all-append : (ts us : List Tie) (U : Ties) → addAll (ts ++ us) U ≡ addAll us (addAll ts U)
 all-append [] us U = refl

@@ -19,15 +19,15 @@ use Rattle.model.specs.Grammar.{readPolicy}
 use Rattle.model.specs.Attributes.{readSource}
 use Rattle.model.specs.Atoms.{readAtom}
 use Rattle.model.specs.Declarations.{Declarations, Holder, Rule, holderOf}
-use Rattle.model.specs.Lines.{Line, attr, op, atom, holder, parent, member, value, rule, readAttr, readOp, readPair, readHolder, readTwo, readValue, readRule, readFields, framed, readLine, writeLine, lineKey, sortKey, isLine, Writes}
+use Rattle.model.specs.Lines.{Line, attr, op, atom, holder, parent, member, value, rule, readAttr, readOp, readPair, readHolder, readTwo, readValue, readRule, readFields, framed, readLine, writeLine, isLine, Writes}
 use Rattle.model.specs.Ties.{Tie, Ties}
 use Rattle.model.specs.State.{State, empty, after, withHolder}
 use Rattle.model.specs.Refusals.{outOfOrder, lineRefusal, wrongTable}
 use Rattle.model.specs.Load
 use Rattle.model.specs.Load.{Loaded, keyOf}
 use Rattle.model.specs.Ledger.{Call, step, withTable, withoutTable, Outcome, outcome, ledgerFrom, ledger}
-use Rattle.model.specs.Standing.{WellDeclared, Standing}
-use Rattle.model.specs.SoFar.{isReached, Loadable, SoFar}
+use Rattle.model.specs.Standing.{Each, WellDeclared, Standing}
+use Rattle.model.proofs.Lines.{lineKey, sortKey}
 use Rattle.model.proofs.WordTables.{false-is-true, none-is-some}
 use Rattle.model.proofs.Options.{parts, bound, is-some, some-not}
 use Rattle.model.proofs.Lists.{_∈_, true-or-false}
@@ -43,6 +43,24 @@ use Rattle.model.proofs.Refusals.{line-unmet}
 use Rattle.model.proofs.Accepted.{ReadAs, edit-declared}
 use Rattle.model.proofs.Loads.{AcceptedLines, end, next, load-accepted, load-refused, refused-load}
 use Rattle.model.proofs.Reached.{Reached}
+
+-- ---- what holds of a state while a file is read, and of what a file leaves declared: "keys in this order" and the limit of a line make sure of it
+
+-- behind a line with the key `previous`: whether a key is reached, so that no line of a key before it can come
+abbrev pub isReached : Key → Option Key → Bool
+isReached key previous = previous is λ p. leb (rank key) (rank p)
+
+-- what a file leaves declared: the numbers of holders rise with their keys, and each rule, as it was read from a line, fits one
+pub record Loadable (D : Declarations) : Type 0 where
+  pub by-key : (j k : ℕ) (g h : Holder) → holderOf D j ≡ some g → holderOf D k ≡ some h → j < k → rank (sortKey (g .sort)) ≤ rank (sortKey (h .sort))
+  pub short : Each (λ r. length (writeLine (rule (r .operation) (r .tokens))) ≤ lineBytes) (D .rules)
+
+-- the state behind the lines that were read so far, the last of them with the key `previous`: the key of each holder is reached, and no tie stands before
+-- `parent` is
+pub record SoFar (S : State) (previous : Option Key) : Type 0 where
+  pub loadable : Loadable (S .declared)
+  pub holders-reached : (k : ℕ) (h : Holder) → holderOf (S .declared) (suc k) ≡ some h → isReached (sortKey (h .sort)) previous ≡ true
+  pub ties-reached : (t : Tie) → S .ties t ≡ true → isReached Key.parent previous ≡ true
 
 -- ---- the key of a line that is read
 

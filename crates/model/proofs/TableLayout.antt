@@ -20,7 +20,7 @@ use Rattle.model.specs.Table.{word, wordsOf, effectiveSet, storedSet, ta
 pub use Rattle.model.specs.Table.{setIn}
 use Rattle.model.specs.State.{State}
 use Rattle.model.proofs.Options.{parts, both}
-use Rattle.model.proofs.Lists.{_∈_, same-truth, nth-lt, lt-nth, in-below}
+use Rattle.model.proofs.Lists.{_∈_, same-truth, nth-lt, lt-nth, in-below, each-below}
 use Rattle.model.proofs.Effective.{effective-has}
 use Rattle.model.specs.Standing.{Standing}
 use Rattle.model.proofs.Standing.{among, holder-below}
@@ -32,13 +32,6 @@ unfoldable pub pairIn : List ℕ → ℕ → ℕ → Bool
 pairIn words k p = bitOf (getD words (setWords * k + p / wordBits) 0) (p % wordBits)
 
 -- ---- lists of four, one after another
-
-each-append : (F : ℕ → List ℕ) (xs ys : List ℕ) → each F (xs ++ ys) ≡ each F xs ++ each F ys
-each-append F [] ys = refl
-each-append F (x ∷ xs) ys = ap (λ (l : List ℕ). F x ++ l) (each-append F xs ys) ∙ sym (append-assoc (F x) (each F xs) (each F ys))
-
-each-below : (F : ℕ → List ℕ) (n : ℕ) → each F (below (suc n)) ≡ each F (below n) ++ F n
-each-below F n = each-append F (below n) (n ∷ []) ∙ ap (λ (l : List ℕ). each F (below n) ++ l) (append-nil (F n))
 
 module _ (F : ℕ → List ℕ) (four : (k : ℕ) → length (F k) ≡ setWords) where
   length-each : (n : ℕ) → length (each F (below n)) ≡ setWords * n

@@ -7,6 +7,7 @@ use mathlib.Core.Bool.{Bool, true, false, _||_}
 use mathlib.Core.List.{List, [], _∷_, _++_}
 use native.Mathlib.Omega.{arith}
 use lib.ListN.{length, length-append, take, drop, length-drop}
+use lib.Seq.{take-append-seam, drop-append-seam}
 use lib.Dec.{ltb}
 use borrow.Author.Tests.{ltb-true, ltb-false}
 use Rattle.model.specs.Limits.{fileBytes, tableWords}
@@ -25,14 +26,6 @@ use Rattle.model.proofs.SoFar.{reached-loadable}
 use Rattle.model.proofs.WrittenBack
 
 -- ---- what is refused, and what stays in the buffer
-
-front-taken : (s t : Bytes) → take (length s) (s ++ t) ≡ s
-front-taken [] t = refl
-front-taken (x ∷ s) t = ap (λ (l : Bytes). x ∷ l) (front-taken s t)
-
-front-dropped : (s t : Bytes) → drop (length s) (s ++ t) ≡ t
-front-dropped [] t = refl
-front-dropped (x ∷ s) t = front-dropped s t
 
 -- the bytes that are written: so many, from the buffer's start
 abbrev pub writtenBytes : FileWritten → Bytes
@@ -77,11 +70,11 @@ module _ (S : State) (buffer : Bytes) where
 
   -- "answers 0 and its length": the text stands at the buffer's start
   pub text-written : writeFile S buffer .number ≡ 0 → (writeFile S buffer .textLength ≡ length (fileText S)) × (writtenBytes (writeFile S buffer) ≡ fileText S)
-  text-written = write-cases (λ w. w .number ≡ 0 → (w .textLength ≡ length (fileText S)) × (writtenBytes w ≡ fileText S)) (λ long e. absurd (omega arith)) (λ fits e. (refl, front-taken (fileText S) _))
+  text-written = write-cases (λ w. w .number ≡ 0 → (w .textLength ≡ length (fileText S)) × (writtenBytes w ≡ fileText S)) (λ long e. absurd (omega arith)) (λ fits e. (refl, take-append-seam (fileText S) _))
 
   -- "Bytes of the buffer behind the text keep their content", and there are as many as before, refused or not
   pub behind-kept : drop (writeFile S buffer .textLength) (writeFile S buffer .buffer) ≡ drop (writeFile S buffer .textLength) buffer
-  behind-kept = write-cases (λ w. drop (w .textLength) (w .buffer) ≡ drop (w .textLength) buffer) (λ long. refl) (λ fits. front-dropped (fileText S) _)
+  behind-kept = write-cases (λ w. drop (w .textLength) (w .buffer) ≡ drop (w .textLength) buffer) (λ long. refl) (λ fits. drop-append-seam (fileText S) _)
 
   pub same-length : length (writeFile S buffer .buffer) ≡ length buffer
   same-length = write-cases (λ w. length (w .buffer) ≡ length buffer) (λ long. refl)

@@ -15,19 +15,20 @@ use Rattle.model.specs.Keys.{rank}
 use Rattle.model.specs.Tokens.{isToken}
 use Rattle.model.specs.Grammar.{Policy, readPolicy, tooLarge}
 use Rattle.model.specs.Declarations.{Declarations, Holder, Rule, Sort, isSort, holderOf, sortOf, holderNumbersOf, groups, operationNumber, attributeNumber, attributeOf}
-use Rattle.model.specs.Lines.{firstLine, Line, op, sortKey}
+use Rattle.model.specs.Lines.{firstLine, Line, op}
 use Rattle.model.specs.Ties.{Tie, Ties, noTies}
 use Rattle.model.specs.State.{State, empty, after}
 use Rattle.model.specs.Refusals.{tooLong, circular}
 use Rattle.model.specs.Load.{load}
 use Rattle.model.specs.Standing.{rising, WellDeclared, TieFits, Standing}
-use Rattle.model.specs.SoFar.{Loadable}
 use Rattle.model.specs.FileText.{attributeLine, pairLine, holderLine, ruleLine, holderSorts, holderLines, tiesInOrder, tieLine, tieLines, fileLines, lineText, fileText}
+use Rattle.model.proofs.Lines.{sortKey}
 use Rattle.model.proofs.WordTables.{none-is-some, same-eq}
 use Rattle.model.proofs.Options.{both, is-there}
 use Rattle.model.proofs.Lists.{_∈_, place-nth, nth-in}
 use Rattle.model.proofs.Numbered.{length-map, rising-back, rising-apart, numbers-listed}
 use Rattle.model.proofs.Loads.{accepted-load}
+use Rattle.model.proofs.SoFar.{Loadable}
 use Rattle.model.proofs.Rereading.{text-lines, Goes, goes-append, goes-earlier, goes-later}
 use Rattle.model.proofs.RoundTrip.{list-go, parts-of, admin, admin-alone, attributes-go, operations-go, pairs-go, holder-found, admin-leads, holders-go, Rising, by-numbers, other-rank, lastRank, ofSort, by-keys, each-sorts, nth-at, room-left}
 use Rattle.model.proofs.RoundTripTies.{addAll, all-ties, all-ties-go}

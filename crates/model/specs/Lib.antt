@@ -35,9 +35,8 @@ pub mod Ledger
 -- "Numbers a caller may meet"
 pub mod Numbers
 pub mod Refusals
--- What holds of every state in a ledger, and of a state while a file is read
+-- What holds of every state in a ledger
 pub mod Standing
-pub mod SoFar
 -- "For C builds"
 pub mod Host
 -- "Office program"

@@ -125,25 +125,6 @@ writeLine (member p g) = bytes "member=" ++ p ++ bytes "," ++ g
 writeLine (value h n a) = bytes "value=" ++ h ++ bytes "," ++ n ++ bytes "," ++ writeAtom a
 writeLine (rule o ts) = bytes "rule=" ++ o ++ bytes "," ++ spelled ts
 
--- the key of the lines that declare holders of a sort. Admin has none: `attr` stands for it, as no key is before that
-abbrev pub sortKey : Sort → Key
-sortKey Sort.admin = Key.attr
-sortKey Sort.ugroup = Key.ugroup
-sortKey Sort.ogroup = Key.ogroup
-sortKey Sort.user = Key.user
-sortKey Sort.object = Key.object
-
--- the key of a line
-abbrev pub lineKey : Line → Key
-lineKey (attr s n t) = Key.attr
-lineKey (op n) = Key.op
-lineKey (atom s n a) = Key.atom
-lineKey (holder s n) = sortKey s
-lineKey (parent c g) = Key.parent
-lineKey (member p g) = Key.member
-lineKey (value h n a) = Key.value
-lineKey (rule o ts) = Key.rule
-
 -- the lines that stand in files: their names, atoms and policies are well formed, and admin is no key
 abbrev pub isLine : Line → Bool
 isLine (attr s n t) = isName n

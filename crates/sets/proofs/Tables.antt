@@ -14,7 +14,7 @@ use Rattle.model.specs.Declarations.{Declarations, isHolder, holderNumbersOf}
 use Rattle.model.specs.Ties.{Ties, value}
 use Rattle.model.specs.Effective.{Has, own, inherited}
 use Rattle.model.specs.Table.{word, wordsOf, effectiveSet, storedSet, table}
-use Rattle.model.proofs.Lists.{_∈_, in-below, true-or-false, nth-lt}
+use Rattle.model.proofs.Lists.{_∈_, in-below, true-or-false, nth-lt, each-below}
 use Rattle.model.proofs.Effective.{effective-has}
 use Rattle.model.specs.Standing.{Standing}
 use Rattle.model.proofs.Standing.{among, holder-below}
@@ -24,13 +24,6 @@ use Rattle.bits.proofs.Sets.{member-none}
 use Rattle.bits.proofs.WordsOfSets.{length-words, getD-words, bit-word, word-is, words-are}
 
 -- ---- blocks of four
-
-each-append : (F : ℕ → List ℕ) (xs ys : List ℕ) → each F (xs ++ ys) ≡ each F xs ++ each F ys
-each-append F [] ys = refl
-each-append F (x ∷ xs) ys = ap (λ (l : List ℕ). F x ++ l) (each-append F xs ys) ∙ sym (append-assoc (F x) (each F xs) (each F ys))
-
-each-below : (F : ℕ → List ℕ) (n : ℕ) → each F (below (suc n)) ≡ each F (below n) ++ F n
-each-below F n = each-append F (below n) (n ∷ []) ∙ ap (λ (l : List ℕ). each F (below n) ++ l) (append-nil (F n))
 
 module _ (F : ℕ → List ℕ) (four : (k : ℕ) → length (F k) ≡ 4) where
   pub length-each : (n : ℕ) → length (each F (below n)) ≡ 4 * n

@@ -21,15 +21,12 @@ use Rattle.tokens.specs.declared.Written.{Written}
 use Rattle.tokens.specs.RuleCode.{encodeToken, ruleCode, size, Encodes, CodeOf}
 use Rattle.tokens.specs.TokenAt.{codeOf, placed, tokenAt, lead}
 use Rattle.tokens.specs.Writing.{TokenStands, Given, Wrote}
+use Rattle.model.proofs.Lists.{each-append}
 use Rattle.output.proofs.Laying.{laid-front, laid-rest, laid-length}
 use Rattle.tokens.proofs.Seen.{within-enough, within-nil, CodeRoom, ReadAt, Seen, ended, refused, read, seen}
 
 -- laws of lists that are gone through from the front
 module _ {A : Type 0} where
-  each-append : {B : Type 0} (f : A → List B) (xs ys : List A) → each f (xs ++ ys) ≡ each f xs ++ each f ys
-  each-append f [] ys = refl
-  each-append {B} f (x ∷ xs) ys = ap (λ (l : List B). f x ++ l) (each-append f xs ys) ∙ sym (append-assoc (f x) (each f xs) (each f ys))
-
   any-append : (p : A → Bool) (xs : List A) (y : A) → anyOf p (xs ++ (y ∷ [])) ≡ (anyOf p xs || p y)
   any-append p [] y = go (p y)
     where

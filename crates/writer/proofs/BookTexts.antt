@@ -11,7 +11,7 @@ use Rattle.model.specs.Standing.{Standing}
 use Rattle.model.specs.FileText.{attributeLine, pairLine, ruleLine, holderLines, tieLines, fileLines, lineText, fileText}
 use Rattle.book.specs.Held.{Holds}
 use Rattle.writer.specs.Texts.{bookText}
-use Rattle.writer.proofs.Listing.{each-append}
+use Rattle.model.proofs.Lists.{each-append}
 use Rattle.writer.proofs.BookDeclared.{pair-name, pair-atom, declared-text}
 use Rattle.writer.proofs.BookHolders.{holders-text}
 use Rattle.writer.proofs.BookTies.{ties-text}

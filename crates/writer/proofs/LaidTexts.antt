@@ -14,16 +14,13 @@ use Rattle.model.specs.Atoms.{decimal, quoted}
 use Rattle.output.specs.Laid.{Laid}
 use Rattle.book.specs.Sections as section
 use Rattle.output.proofs.Laying.{laid-as, laid-on}
-use Rattle.writer.proofs.Listing.{each-append}
+use Rattle.model.proofs.Lists.{each-below}
 use Rattle.writer.specs.Texts.{keyWords, boolWords, listedText, stringText, atomText, nameOfHolder, lineEnd, holderLineText}
-
-pub each-more : (f : ℕ → Bytes) (i : ℕ) → each f (below (suc i)) ≡ each f (below i) ++ f i
-each-more f i = each-append f (below i) (i ∷ []) ∙ ap (λ (l : Bytes). each f (below i) ++ l) (append-nil (f i))
 
 -- the next of a list's texts
 pub laid-next : (f : ℕ → Bytes) {b : Bytes} {at i : ℕ} {m : Bytes} {n : ℕ} {a : Bytes} {r : ℕ} → Laid b at (each f (below i)) m n → Laid m n (f i) a r
     → Laid b at (each f (below (i + 1))) a r
-laid-next f {i = i} p q = let z : suc i ≡ i + 1 = omega arith in laid-as (sym (each-more f i) ∙ ap (λ (k : ℕ). each f (below k)) z) (laid-on p q)
+laid-next f {i = i} p q = let z : suc i ≡ i + 1 = omega arith in laid-as (sym (each-below f i) ∙ ap (λ (k : ℕ). each f (below k)) z) (laid-on p q)
 
 -- texts that are empty from some number on
 pub each-none : (f : ℕ → Bytes) (m n : ℕ) → m ≤ n → ((k : ℕ) → m ≤ k → k < n → f k ≡ []) → each f (below m) ≡ each f (below n)
@@ -32,12 +29,12 @@ each-none f m (suc n) l h = go (decLt n m) (λ i. each-none f m n i (λ k a b. h
   where
     go : Dec (n < m) → (m ≤ n → each f (below m) ≡ each f (below n)) → each f (below m) ≡ each f (below (suc n))
     go (yes p) more = ap (λ (k : ℕ). each f (below k)) (let z : m ≡ suc n = omega arith in z)
-    go (no p) more = more (omega arith) ∙ sym (append-nil (each f (below n))) ∙ ap (λ (l : Bytes). each f (below n) ++ l) (sym (h n (omega arith) (omega arith))) ∙ sym (each-more f n)
+    go (no p) more = more (omega arith) ∙ sym (append-nil (each f (below n))) ∙ ap (λ (l : Bytes). each f (below n) ++ l) (sym (h n (omega arith) (omega arith))) ∙ sym (each-below f n)
 
 -- texts that are the same
 pub each-same : (f g : ℕ → Bytes) (n : ℕ) → ((k : ℕ) → k < n → f k ≡ g k) → each f (below n) ≡ each g (below n)
 each-same f g zero h = refl
-each-same f g (suc n) h = each-more f n ∙ ap₂ (λ (x y : Bytes). x ++ y) (each-same f g n (λ k l. h k (omega arith))) (h n (omega arith)) ∙ sym (each-more g n)
+each-same f g (suc n) h = each-below f n ∙ ap₂ (λ (x y : Bytes). x ++ y) (each-same f g n (λ k l. h k (omega arith))) (h n (omega arith)) ∙ sym (each-below g n)
 
 -- ---- a text by a test
 

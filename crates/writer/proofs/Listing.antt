@@ -7,13 +7,9 @@ use mathlib.Core.Option.{some}
 use lib.ListN.{length}
 use Rattle.model.specs.Notation.{if_then_else_, map, each, filter, nth, below}
 use Rattle.model.specs.Bytes.{Bytes}
+use Rattle.model.proofs.Lists.{each-append}
 
 module _ {A B : Type 0} where
-  -- of two lists, one after the other
-  pub each-append : (f : A → List B) (xs ys : List A) → each f (xs ++ ys) ≡ each f xs ++ each f ys
-  each-append f [] ys = refl
-  each-append f (x ∷ xs) ys = ap (λ (l : List B). f x ++ l) (each-append f xs ys) ∙ sym (append-assoc (f x) (each f xs) (each f ys))
-
   -- the same for each element
   pub each-ext : (f g : A → List B) (xs : List A) → ((x : A) → f x ≡ g x) → each f xs ≡ each g xs
   each-ext f g [] h = refl

@@ -1,7 +1,7 @@
 -- The texts of ties: which of them are there, and where none is, so that a walk may pass over them. Assumes nothing.
 use Prim.Native.Nat.{ℕ, zero, suc, _+_, _*_, _/_, _%_, _≤_, _<_, min}
 use mathlib.Core.Path.{_≡_, refl, sym, ap, subst, _∙_}
-use mathlib.Core.Bool.{Bool, true, false, _&&_, _||_, not}
+use mathlib.Core.Bool.{Bool, true, false, _&&_, _||_, not, or-false, or-assoc}
 use mathlib.Core.List.{List, [], _∷_}
 use native.Mathlib.Decide.{decLt}
 use native.Mathlib.Omega.{arith}
@@ -43,14 +43,6 @@ module _ (book : List ℕ) (h : ℕ) where
     ups-of-other e = passed (upsText book n key h) [] e
 
 -- ---- groups in a set, in the order of their numbers
-
-or-false : (b : Bool) → (b || false) ≡ b
-or-false true = refl
-or-false false = refl
-
-or-assoc : (a b c : Bool) → (a || b || c) ≡ (a || (b || c))
-or-assoc true b c = refl
-or-assoc false b c = refl
 
 -- one group more, and none where the number is that of no holder
 pub with-group : {before after : List ℕ} {number : ℕ} → length after ≡ 4 → ((q : ℕ) → member after q ≡ (member before q || eqb q number)) → AddsGroup number before after
