@@ -119,6 +119,9 @@ static int call(const uint8_t *s, size_t n) {
         printf("c=%" PRIu32 "\n", zhul_pass(bytes, (size_t)f, other, (size_t)b, table, words));
     } else if (begins(s, n, "write=")) {
         if (!call_write(s + 6, n - 6)) return 0;
+    } else if (begins(s, n, "length=")) {
+        if (n != 7) return 0;
+        printf("length=%" PRIu64 "\n", zhul_length(book, rules));
     } else {
         const uint8_t *equals = memchr(s, '=', n);
         if (equals == NULL) return 0;
@@ -180,6 +183,7 @@ static const char *wrong_text(size_t n) {
     static uint8_t second_rules[ZHUL_RULES_BYTES], again[LONGEST_FILE + BEHIND];
     const uint64_t done = (uint64_t)n << 32;
     if (n > LONGEST_FILE) return "the length is over 32,768";
+    if (zhul_length(book, rules) != n) return "another length is told beforehand";
     if (!all(buffer + n, LONGEST_FILE + BEHIND - n, 0)) return "bytes behind the text are written";
     if (n == 0 || lend(book, rules, again, n - 1, 0xaa) != ZHUL_DOES_NOT_FIT) return "a buffer that is one byte too short is not refused";
     if (!all(again, n - 1 + BEHIND, 0xaa)) return "a refusal writes to the buffer";
@@ -195,6 +199,7 @@ static const char *wrong_text(size_t n) {
 /* The same for a refusal: the text of a book is over 32,768 bytes. */
 static const char *wrong_refusal(uint64_t r) {
     if (r != ZHUL_DOES_NOT_FIT) return "a refusal is not 18 and 0";
+    if (zhul_length(book, rules) <= LONGEST_FILE) return "the length told beforehand is not over 32,768";
     if (!all(buffer, LONGEST_FILE + BEHIND, 0)) return "a refusal writes to the buffer";
     if (lend(book, rules, buffer, INPUT, 0xaa) != ZHUL_DOES_NOT_FIT) return "a longer buffer is not refused";
     if (!all(buffer, INPUT + BEHIND, 0xaa)) return "a refusal writes to a longer buffer";

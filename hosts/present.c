@@ -34,6 +34,13 @@ static void tell_left_out(unsigned long line) {
     status = 1;
 }
 
+/* By how much says how many ties have to go. */
+static void tell_too_long(uint64_t length) {
+    fprintf(stderr, "present: with these edits the file has %lu bytes, %lu more than 32,768: it is refused: 18\n", (unsigned long)length,
+            (unsigned long)(length - FILE_BYTES));
+    status = 1;
+}
+
 /* The length of a line with its byte 10, which the last one may lack. */
 static size_t line_length(const uint8_t *line, size_t n) {
     const uint8_t *end = memchr(line, '\n', n);
@@ -76,7 +83,7 @@ static int play(size_t n) {
 static void print_file(void) {
     uint64_t answer = zhul_write(book, rules, file, FILE_BYTES);
     size_t n = ZHUL_CARRIED(answer);
-    if (ZHUL_NUMBER(answer) != 0) tell("with these edits the file has more than 32,768 bytes: it is refused: 18");
+    if (ZHUL_NUMBER(answer) != 0) tell_too_long(zhul_length(book, rules));
     else if (fwrite(file, 1, n, stdout) != n || fflush(stdout) != 0) tell("standard output cannot be written");
 }
 

@@ -1,7 +1,7 @@
 /* Measures the stack that the calls take: each call runs on a thread whose stack was filled with a pattern, and the lowest byte that lost it tells how
    deep the call went, counted from the frame that made the call. `stack SESSION.in...` takes the largest input and then each session, whose answers
    have to be those of SESSION.out; the file that is written behind it has to load. Prints the most of each call; status 1 for a wrong answer, as a call
-   that was refused early would measure little. Last come a request on rules that no load leaves, and writes on such rules and on such books. */
+   that was refused early would measure little. Last come a request on rules that no load leaves, and lengths and writes on such rules and on such books. */
 #define _GNU_SOURCE
 #include "zhulmekov.h"
 
@@ -13,10 +13,10 @@
 #include <string.h>
 
 enum { STACK = 1 << 20, PATTERN = 0xa5, INPUT = 65536, FILE_LIMIT = 32768 };
-enum { EMPTY, PASS, LOAD, EDIT, DECIDE, WRITE, CALLS };
+enum { EMPTY, PASS, LOAD, EDIT, DECIDE, WRITE, LENGTH, CALLS };
 enum { ATTRIBUTES = 32, OF_USER = 24, OF_OBJECT = 4, GROUPS = 64, USERS = 190 };
 
-static const char *const names[CALLS] = {"empty", "zhul_pass", "zhul_load", "zhul_edit", "zhul_decide", "zhul_write"};
+static const char *const names[CALLS] = {"empty", "zhul_pass", "zhul_load", "zhul_edit", "zhul_decide", "zhul_write", "zhul_length"};
 static _Alignas(4096) uint8_t stack[STACK];
 static uint64_t book[ZHUL_BOOK_WORDS], table[ZHUL_TABLE_WORDS];
 static uint8_t rules[ZHUL_RULES_BYTES], input[INPUT + 1], bytes[INPUT], buffer[FILE_LIMIT];
@@ -32,6 +32,7 @@ static __attribute__((noinline)) uint8_t *make_call(void) {
     case EDIT: job.answer = zhul_edit(job.first, job.first_length, book, table, ZHUL_TABLE_WORDS); break;
     case DECIDE: job.answer = zhul_decide(job.first, job.first_length, book, rules, table, ZHUL_TABLE_WORDS); break;
     case WRITE: job.answer = zhul_write(book, rules, buffer, FILE_LIMIT); break;
+    case LENGTH: job.answer = zhul_length(book, rules); break;
     default: job.answer = 0;
     }
     return __builtin_frame_address(0);
@@ -67,12 +68,13 @@ static void expect(const char *what, uint64_t answer, uint32_t number, uint32_t 
     exit(1);
 }
 
-/* Writes the file as it stands now: it has to load, unless it is too long to be written. */
+/* Writes the file as it stands now: it has to load, unless it is too long to be written, and to be as long as was told beforehand. */
 static uint64_t written(const char *what) {
     static uint64_t second[ZHUL_BOOK_WORDS], second_table[ZHUL_TABLE_WORDS];
     static uint8_t second_rules[ZHUL_RULES_BYTES];
-    uint64_t answer = measured(WRITE, input, 0, input, 0);
-    if (answer == ZHUL_DOES_NOT_FIT) return answer;
+    uint64_t told = measured(LENGTH, input, 0, input, 0), answer = measured(WRITE, input, 0, input, 0);
+    if (answer == ZHUL_DOES_NOT_FIT && told > FILE_LIMIT) return answer;
+    expect(what, ZHUL_CARRIED(answer), (uint32_t)told, 0);
     expect(what, ZHUL_NUMBER(answer), 0, 0);
     expect(what, ZHUL_NUMBER(zhul_load(buffer, ZHUL_CARRIED(answer), second, second_rules, second_table, ZHUL_TABLE_WORDS)), 0, 0);
     return answer;
@@ -177,10 +179,10 @@ static void stray(void) {
     printf("%s on rules that no load leaves %zu\n", names[DECIDE], job.depth);
 }
 
-/* One write, whatever it answers. */
+/* A length and a write, whatever they answer. */
 static void write_stray(void) {
-    measured(WRITE, input, 0, input, 0);
-    if (ZHUL_CARRIED(job.answer) > FILE_LIMIT) printf("%s: a length over the buffer's\n", names[WRITE]), exit(1);
+    uint64_t told = measured(LENGTH, input, 0, input, 0), answer = measured(WRITE, input, 0, input, 0);
+    if (answer != (told > FILE_LIMIT ? ZHUL_DOES_NOT_FIT : told << 32)) printf("%s: another length than was told\n", names[WRITE]), exit(1);
 }
 
 static uint64_t drawn(void) {
@@ -192,7 +194,7 @@ static uint64_t drawn(void) {
 /* Books and rules that no call leaves: the largest file's book with rules of one byte, for each byte; books and rules of one byte; drawn ones. */
 static void stray_writes(void) {
     largest(0);
-    most[WRITE] = 0;
+    most[WRITE] = most[LENGTH] = 0;
     for (int byte = 0; byte < 256; byte++) memset(rules, byte, sizeof rules), write_stray();
     for (int byte = 0; byte < 256; byte++) memset(rules, byte, sizeof rules), memset(book, byte, sizeof book), write_stray();
     for (int times = 0; times < 256; times++) {
@@ -200,7 +202,7 @@ static void stray_writes(void) {
         for (size_t i = 0; i < ZHUL_BOOK_WORDS; i++) book[i] = times % 2 == 0 ? drawn() : drawn() >> (drawn() >> 32) % 64;
         write_stray();
     }
-    printf("%s on books and rules that no call leaves %zu\n", names[WRITE], most[WRITE]);
+    for (int call = WRITE; call <= LENGTH; call++) printf("%s on books and rules that no call leaves %zu\n", names[call], most[call]);
 }
 
 static int digit(uint8_t c) { return c >= '0' && c <= '9' ? c - '0' : c >= 'a' && c <= 'f' ? c - 'a' + 10 : -1; }

@@ -3,24 +3,24 @@
    A host owns three buffers, the book, the rules and the table, and lends them to the calls; zhul_write is lent a fourth, which it writes a file into.
    No call allocates, locks or keeps anything between calls, and none writes outside what it is lent. No argument may be a null pointer, and no two
    buffers that a call is lent may overlap. A file, an edit line, a block and the buffer of zhul_write are bytes with their length; the table is words
-   with their number, which has to be ZHUL_TABLE_WORDS (else every call but zhul_write, which is lent no table, answers 1 and the table keeps its
-   words).
+   with their number, which has to be ZHUL_TABLE_WORDS (else every call that is lent a table answers 1 and the table keeps its words; zhul_write and
+   zhul_length are lent none).
 
    The book, the rules and the table may hold anything before a load. Between calls they are the library's: a host may copy and keep them as plain
    memory, and must not write to them. The table's words may be read (see ZHUL_TABLE_WORDS) and compared; the book and the rules may not, since words
    that a book does not use are free: two books of one state can differ there, and a refused load leaves old bytes in the rules. An edit must be lent
-   the book and the table that the last load or edit left, a request these two and the rules that the last load left, zhul_write the book that the
-   last load or edit left and the rules that the last load left. On other contents these three still end and stay in bounds, but what they answer, and
-   what an edit writes to the book and the table and zhul_write to its buffer, is not fixed.
+   the book and the table that the last load or edit left, a request these two and the rules that the last load left, zhul_write and zhul_length the
+   book that the last load or edit left and the rules that the last load left. On other contents these four still end and stay in bounds, but what they
+   answer, and what an edit writes to the book and the table and zhul_write to its buffer, is not fixed.
 
    Before the first load there is no book to lend. A host that may be asked earlier starts with the empty book: it loads a file of 0 bytes. This load
    answers 3 with line 1, as for every file without its first line, and makes the table all 0. On the empty book, which every refused load leaves, each
-   edit is refused, each request gets 15 or 16, and the file that zhul_write puts out is the first line alone, 9 bytes.
+   edit is refused, each request gets 15 or 16, and the file that zhul_write puts out is the first line alone, 9 bytes, which zhul_length tells.
 
    Stack, as hosts/stack measures it on x86-64 (KB of 1000 bytes, rounded up; measured, not proved): zhul_pass 277 KB, zhul_load 210 KB, zhul_edit
-   16 KB, zhul_decide 18 KB, zhul_write 1 KB. The first two are for a refused file with a rule line full of parentheses, as a policy is read to its
-   end before its depth is judged, some 0.8 KB for each parenthesis; for the largest files that are accepted it is 94 KB and 28 KB. The last two are
-   for a book and rules that calls left: on other bytes, which must not be lent, zhul_decide takes up to 617 KB, zhul_write still 1 KB.
+   16 KB, zhul_decide 18 KB, zhul_write and zhul_length 1 KB. The first two are for a refused file with a rule line full of parentheses, as a policy is
+   read to its end before its depth is judged, some 0.8 KB for each parenthesis; for the largest files that are accepted it is 94 KB and 28 KB. The last
+   three are for a book and rules that calls left: on other bytes, which must not be lent, zhul_decide takes up to 617 KB, the other two still 1 KB.
 
    Of the C library the calls need memset and, for zhul_write, memcpy, and nothing else; a firmware without that library gives its own. */
 #ifndef ZHULMEKOV_H
@@ -52,8 +52,8 @@ extern "C" {
    before all but 4, and the first offending line of a file decides. zhul_pass gives the refusals of zhul_load, and after an accepted load those of
    zhul_decide. README.md says what to do about each. */
 
-/* Every call but zhul_write; the table keeps its words, a load leaves the empty book, an edit keeps its own. */
-#define ZHUL_WRONG_TABLE 1 /* the lent table has not 1,024 words (any call of a host in C but zhul_write) */
+/* Every call that is lent a table; the table keeps its words, a load leaves the empty book, an edit keeps its own. */
+#define ZHUL_WRONG_TABLE 1 /* the lent table has not 1,024 words (any call of a host in C that is lent a table) */
 
 /* zhul_load, which carries the line, from 1, but 0 with 1 and 2; it leaves the empty book and, but for 1, a table all 0. */
 #define ZHUL_TOO_LONG 2 /* the file has more than 32,768 bytes */
@@ -99,7 +99,8 @@ extern "C" {
 #define ZHUL_UNDEFINED 65
 
 /* The number of an answer, and what it carries: the line of a load (of an accepted one the lines read), the count of an edit (0 of a refused one), the
-   rule of a permit (0 of every other answer to a request), the length in bytes of the file that a write put out (0 of a refused one). */
+   rule of a permit (0 of every other answer to a request), the length in bytes of the file that a write put out (0 of a refused one). zhul_length
+   answers a length and nothing else: it has no such parts. */
 #define ZHUL_NUMBER(answer) ((uint32_t)((answer) & 0xffffffffu))
 #define ZHUL_CARRIED(answer) ((uint32_t)((answer) >> 32))
 
@@ -119,9 +120,15 @@ uint64_t zhul_decide(const uint8_t *block, size_t block_length, const uint64_t *
 /* The file as it stands now, into the start of the host's buffer[buffer_length], from the book that the last load or edit left and the rules that the
    last load left. Nothing else is written: the bytes of the buffer behind the file keep their content, and so do all of them after a refusal, 18.
    32,768 bytes are always enough for a file that can be loaded; a host that lends so many and gets 18 takes ties away first. The file ends with its
-   last line's byte 10; there is no byte 0 behind it. Time: linear in the length of the file, also of one that is
-   refused, and in the number of holders. */
+   last line's byte 10; there is no byte 0 behind it. Time: linear in the length of the file, also of one that is refused, and in the number of
+   holders. */
 uint64_t zhul_write(const uint64_t *book, const uint8_t *rules, uint8_t *buffer, size_t buffer_length);
+
+/* The length in bytes of the file that zhul_write would put out, told beforehand, from the same book and rules: a buffer of so many bytes is just
+   enough. Nothing is written and nothing is refused. zhul_write answers 18 precisely when this length is over its buffer's or over 32,768. Edits can
+   make a file longer than that, and its length is told all the same: megabytes are possible (hosts/longest.c: 3,556,503 bytes), and whatever book and
+   rules are lent, it is at most 15,782,188. Time: linear as that of a write, of which it takes some 0.4 (bench/README.md). */
+uint64_t zhul_length(const uint64_t *book, const uint8_t *rules);
 
 #ifdef __cplusplus
 }

@@ -8,7 +8,7 @@ use Rattle.model.specs.Tokens.{tokensOf, spelled}
 use Rattle.model.specs.State.{empty}
 use Rattle.model.specs.Edits.{edit}
 use Rattle.model.specs.Valley.{valley}
-use Rattle.model.specs.FileText.{fileText, writeFile}
+use Rattle.model.specs.FileText.{fileText, writeFile, writtenLength}
 use Rattle.model.proofs.Computing.{computing}
 
 -- "one space stands only between two neighbouring words": a string is no word, and none stands at either end
@@ -35,3 +35,12 @@ pub valley-text : fileText (edit valley (bytes "-parent=season,day\n") .state)
     ≡ bytes "rights=1\nattr=user,kind,str\nattr=user,zone,int\nattr=user,staff,bool\nattr=object,zone,int\nattr=env,hour,int\nop=pass\natom=user.kind,\"day\"\natom=user.kind,\"season\"\natom=user.zone,1\natom=user.zone,2\natom=object.zone,2\nugroup=day\nugroup=season\nogroup=upper\nuser=p17\nobject=g2\nmember=p17,season\nmember=g2,upper\nvalue=day,kind,\"day\"\nvalue=day,zone,1\nvalue=season,kind,\"season\"\nvalue=season,zone,2\nvalue=upper,zone,2\nrule=pass,user.zone=object.zone AND env.hour<17\nrule=pass,user.staff\n"
 unfolding computing
 valley-text = refl
+
+-- "the exact byte length that the writer of E1 would put out"
+pub empty-length : writtenLength empty ≡ 9
+unfolding computing
+empty-length = refl
+
+pub valley-length : writtenLength (edit valley (bytes "-parent=season,day\n") .state) ≡ 477
+unfolding computing
+valley-length = refl

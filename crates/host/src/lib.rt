@@ -6,7 +6,7 @@ ghost use Rattle.model.specs.Host.{hostCall, hostTable};
 ghost use Rattle.engine.specs.Decisions.{numberAndValuesOf};
 ghost use Rattle.engine.specs.Calls.{Loads};
 ghost use Rattle.engine.specs.EditSteps.{EditCall};
-ghost use Rattle.writer.specs.WriteCalls.{WriteCall};
+ghost use Rattle.writer.specs.WriteCalls.{WriteCall, LengthCall};
 ghost use Rattle.host.specs.AnswerNumbers.{high, carriedValue, Packs, RequestNumber};
 use book::BOOK_WORDS;
 use book::RULE_BYTES;
@@ -109,4 +109,12 @@ pub extern "C" fn zhul_write(
 {
     let written = writer::write(book, rules, buffer);
     pack(written.number as u32, written.length as u32)
+}
+
+// Tells the length that the file as it stands now has: no number beside it, as nothing is refused.
+#[no_mangle]
+pub extern "C" fn zhul_length(book: &[u64; BOOK_WORDS], rules: &[u8; RULE_BYTES]) -> u64
+    ensures { λ r. ⌜ LengthCall (now (book .entry)) (now (rules .entry)) r ⌝ }
+{
+    writer::length(book, rules) as u64
 }

@@ -19,7 +19,7 @@ use Rattle.model.specs.State.{State}
 use Rattle.model.specs.Refusals.{doesNotFit}
 use Rattle.model.specs.Load.{Loaded, load}
 use Rattle.model.specs.Ledger.{Call, Answer, step, outcome}
-use Rattle.model.specs.FileText.{fileLines, fileText, FileWritten, writeText, writeFile}
+use Rattle.model.specs.FileText.{fileLines, fileText, FileWritten, writeText, writeFile, writtenLength}
 use Rattle.model.proofs.Lists.{fun-ext, or-cases, or-none}
 use Rattle.model.proofs.Reached.{Reached, reached-standing, tableOf, right-table, table-after}
 use Rattle.model.proofs.SoFar.{reached-loadable}
@@ -31,12 +31,19 @@ use Rattle.model.proofs.WrittenBack
 abbrev pub writtenBytes : FileWritten → Bytes
 writtenBytes w = take (w .textLength) (w .buffer)
 
-module _ (S : State) (buffer : Bytes) where
-  abbrev pub TextTooLong : Type 0
-  TextTooLong = (length buffer < length (fileText S)) ⊎ (fileBytes < length (fileText S))
+-- "over its buffer or over 32,768": of a length, and its contrary
+abbrev pub TooLong : ℕ → Bytes → Type 0
+TooLong long buffer = (length buffer < long) ⊎ (fileBytes < long)
 
-  abbrev pub TextFits : Type 0
-  TextFits = (length (fileText S) ≤ length buffer) × (length (fileText S) ≤ fileBytes)
+abbrev pub Fits : ℕ → Bytes → Type 0
+Fits long buffer = (long ≤ length buffer) × (long ≤ fileBytes)
+
+module _ (S : State) (buffer : Bytes) where
+  abbrev TextTooLong : Type 0
+  TextTooLong = TooLong (writtenLength S) buffer
+
+  abbrev TextFits : Type 0
+  TextFits = Fits (writtenLength S) buffer
 
   write-cases : (P : FileWritten → Type 0)
       → (TextTooLong → P (record { number = refusal.doesNotFit; textLength = 0; buffer = buffer }))
@@ -53,7 +60,7 @@ module _ (S : State) (buffer : Bytes) where
       go true e = refused (⊎-elim (λ l. inl (ltb-true _ _ l)) (λ l. inr (ltb-true _ _ l)) (or-cases (ltb (length buffer) (length (fileText S))) (ltb fileBytes (length (fileText S))) e))
       go false e = let (a, b) = or-none (ltb (length buffer) (length (fileText S))) (ltb fileBytes (length (fileText S))) e in written (ltb-false _ _ a, ltb-false _ _ b)
 
-  -- "18, the writer's only one, when the text is longer than the buffer or than 32,768 bytes": then, and only then
+  -- "18, the writer's only one, when the text is longer than the buffer or than 32,768 bytes"; "precisely when this length is over its buffer or over 32,768"
   pub eighteen-exactly : (writeFile S buffer .number ≡ refusal.doesNotFit) ↔ TextTooLong
   eighteen-exactly = write-cases (λ w. (w .number ≡ refusal.doesNotFit) ↔ TextTooLong) (λ long. (λ e. long, λ l. refl)) (λ (a, b). (λ e. absurd (omega arith), λ l. absurd (⊎-elim (λ c. omega arith) (λ c. omega arith) l)))
 
@@ -69,8 +76,8 @@ module _ (S : State) (buffer : Bytes) where
   refused-write = write-cases (λ w. w .number ≡ refusal.doesNotFit → (w .textLength ≡ 0) × (w .buffer ≡ buffer)) (λ long e. (refl, refl)) (λ fits e. absurd (omega arith))
 
   -- "answers 0 and its length": the text stands at the buffer's start
-  pub text-written : writeFile S buffer .number ≡ 0 → (writeFile S buffer .textLength ≡ length (fileText S)) × (writtenBytes (writeFile S buffer) ≡ fileText S)
-  text-written = write-cases (λ w. w .number ≡ 0 → (w .textLength ≡ length (fileText S)) × (writtenBytes w ≡ fileText S)) (λ long e. absurd (omega arith)) (λ fits e. (refl, take-append-seam (fileText S) _))
+  pub text-written : writeFile S buffer .number ≡ 0 → (writeFile S buffer .textLength ≡ writtenLength S) × (writtenBytes (writeFile S buffer) ≡ fileText S)
+  text-written = write-cases (λ w. w .number ≡ 0 → (w .textLength ≡ writtenLength S) × (writtenBytes w ≡ fileText S)) (λ long e. absurd (omega arith)) (λ fits e. (refl, take-append-seam (fileText S) _))
 
   -- "Bytes of the buffer behind the text keep their content", and there are as many as before, refused or not
   pub behind-kept : drop (writeFile S buffer .textLength) (writeFile S buffer .buffer) ≡ drop (writeFile S buffer .textLength) buffer
@@ -104,11 +111,11 @@ module _ {S : State} (reached : Reached S) where
   asWritten = record { number = 0; line = suc (length (fileLines S)); state = S }
 
   -- its text, where it is no longer than a file may be, loads as it
-  pub text-loads : length (fileText S) ≤ fileBytes → load (fileText S) ≡ asWritten
+  pub text-loads : writtenLength S ≤ fileBytes → load (fileText S) ≡ asWritten
   text-loads = WrittenBack.written-back (reached-standing reached) (reached-loadable reached)
 
   -- so no two such states have one text
-  pub text-tells : {R : State} → Reached R → length (fileText S) ≤ fileBytes → fileText S ≡ fileText R → S ≡ R
+  pub text-tells : {R : State} → Reached R → writtenLength S ≤ fileBytes → fileText S ≡ fileText R → S ≡ R
   text-tells {R} other short e =
       ap (λ (l : Loaded). l .state) (sym (text-loads short) ∙ ap load e ∙ WrittenBack.written-back (reached-standing other) (reached-loadable other) (subst (λ (s : Bytes). length s ≤ fileBytes) e short))
 

@@ -1,4 +1,4 @@
--- Document 02, E1: "The file as it stands now."
+-- Document 02, E1: "The file as it stands now.", and E14: "Length told beforehand."
 use Prim.Native.Nat.{ℕ}
 use mathlib.Core.List.{List, [], _∷_, _++_}
 use mathlib.Core.Option.{Option, some}
@@ -86,3 +86,7 @@ writeText text buffer =
 -- "A writer puts out the present one into a lent buffer"
 unfoldable pub writeFile : State → Bytes → FileWritten
 writeFile S buffer = writeText (fileText S) buffer
+
+-- "the exact byte length that the writer of E1 would put out, …, also when it exceeds 32,768"
+abbrev pub writtenLength : State → ℕ
+writtenLength S = length (fileText S)

@@ -1,25 +1,26 @@
--- The writer over lists of calls: for every list of loads, edits and requests that begins with a load, whatever was lent at first, the book that is then lent
--- is written as the file of the ledger's state, and what is written loads as that state. Assumes nothing.
-use Prim.Native.Nat.{ℕ, suc}
+-- The writer and the length told beforehand over lists of calls: for every list of loads, edits and requests that begins with a load, whatever was lent at
+-- first, the book that is then lent is written as the file of the ledger's state, what is written loads as that state, and the length told is that of this
+-- file. Assumes nothing.
+use Prim.Native.Nat.{ℕ, suc, _≤_}
 use mathlib.Core.Path.{_≡_, refl, sym, ap, subst, _∙_}
 use mathlib.Core.Logic.{_⊎_, _↔_}
 use mathlib.Core.List.{List, [], _∷_, _++_, List·Memᴰ·head as here, List·Memᴰ·tail as there}
 use lib.ListN.{length, take, drop}
-use Rattle.model.specs.Limits.{tableWords}
+use Rattle.model.specs.Limits.{fileBytes, tableWords}
 use Rattle.model.specs.Numbers as refusal
 use Rattle.model.specs.Bytes.{Bytes}
 use Rattle.model.specs.State.{State, empty}
 use Rattle.model.specs.Ledger.{Call, Answer, Outcome, outcome, ledgerFrom, ledger}
-use Rattle.model.specs.FileText.{FileWritten, fileLines, fileText, writeFile}
+use Rattle.model.specs.FileText.{FileWritten, fileLines, fileText, writeFile, writtenLength}
 use Rattle.model.proofs.Lists.{_∈_}
 use Rattle.model.proofs.Reached.{Reached, tableOf}
 use Rattle.model.proofs.Writer
-use Rattle.model.proofs.Writer.{writtenBytes, TextTooLong}
+use Rattle.model.proofs.Writer.{writtenBytes, TooLong, Fits}
 use Rattle.book.specs.Held.{Holds}
 use Rattle.engine.specs.Calls.{Gives}
 use Rattle.engine.specs.Runs.{Memory, Does, Leads, endState}
 use Rattle.engine.proofs.Runs.{leads-together, leads-where-the-ledger-ends}
-use Rattle.writer.specs.WriteCalls.{written, WriteCall}
+use Rattle.writer.specs.WriteCalls.{written, WriteCall, LengthCall}
 
 -- ---- where a list of calls leads is a state of its ledger
 
@@ -58,8 +59,12 @@ module _ {first : Memory} {calls : List Call} {S : State} {lent : Memory} (run :
   text-is = ap writtenBytes writes-state
 
   -- "18, the writer's only one, when the text is longer than the buffer or than 32,768 bytes": then, and only then
-  pub eighteen-in-run : (number ≡ refusal.doesNotFit) ↔ TextTooLong S before
-  eighteen-in-run = subst (λ (n : ℕ). (n ≡ refusal.doesNotFit) ↔ TextTooLong S before) (sym number-is) (Writer.eighteen-exactly S before)
+  pub eighteen-in-run : (number ≡ refusal.doesNotFit) ↔ TooLong (writtenLength S) before
+  eighteen-in-run = subst (λ (n : ℕ). (n ≡ refusal.doesNotFit) ↔ TooLong (writtenLength S) before) (sym number-is) (Writer.eighteen-exactly S before)
+
+  -- and 0 otherwise
+  pub zero-in-run : (number ≡ 0) ↔ Fits (writtenLength S) before
+  zero-in-run = subst (λ (n : ℕ). (n ≡ 0) ↔ Fits (writtenLength S) before) (sym number-is) (Writer.zero-exactly S before)
 
   pub no-other-in-run : (number ≡ 0) ⊎ (number ≡ refusal.doesNotFit)
   no-other-in-run = subst (λ (n : ℕ). (n ≡ 0) ⊎ (n ≡ refusal.doesNotFit)) (sym number-is) (Writer.no-other S before)
@@ -71,7 +76,7 @@ module _ {first : Memory} {calls : List Call} {S : State} {lent : Memory} (run :
       (ap (λ (w : FileWritten). w .textLength) writes-state ∙ z, ap (λ (w : FileWritten). w .buffer) writes-state ∙ b)
 
   -- "answers 0 and its length"
-  pub length-in-run : number ≡ 0 → (long ≡ length (fileText S)) × (take long after ≡ fileText S)
+  pub length-in-run : number ≡ 0 → (long ≡ writtenLength S) × (take long after ≡ fileText S)
   length-in-run e =
       let (l, t) = Writer.text-written S before (sym number-is ∙ e) in
       (ap (λ (w : FileWritten). w .textLength) writes-state ∙ l, text-is ∙ t)
@@ -104,4 +109,25 @@ module _ {first first′ : Memory} {calls calls′ : List Call} {S S′ : State}
   equal-bytes-in-runs e =
       let (l, t) = length-in-run run call refl in
       let (m, u) = length-in-run run′ call′ refl in
-      (l ∙ ap (λ (T : State). length (fileText T)) e ∙ sym m, t ∙ ap fileText e ∙ sym u)
+      (l ∙ ap (λ (T : State). writtenLength T) e ∙ sym m, t ∙ ap fileText e ∙ sym u)
+
+-- ---- a length told in a run
+
+module _ {first : Memory} {calls : List Call} {S : State} {lent : Memory} (run : Leads first calls S lent)
+    {told : ℕ} (tells : LengthCall (lent .book) (lent .code) told) where
+  -- "the exact byte length that the writer of E1 would put out, for every producible book …, also when it exceeds 32,768"
+  pub tells-state : told ≡ writtenLength S
+  tells-state = let t = leads-together run in tells .exact S (t .standing) (t .holds)
+
+  module _ {before : Bytes} {number long : ℕ} {after : Bytes} (call : WriteCall (lent .book) (lent .code) before number long after) where
+    -- "The writer refuses by 18 precisely when this length is over its buffer or over 32,768."
+    pub eighteen-by-length : (number ≡ refusal.doesNotFit) ↔ TooLong told before
+    eighteen-by-length = subst (λ (n : ℕ). (number ≡ refusal.doesNotFit) ↔ TooLong n before) (sym tells-state) (eighteen-in-run run call)
+
+    -- so a buffer of this length is enough for every file that can be loaded
+    pub zero-by-length : (number ≡ 0) ↔ Fits told before
+    zero-by-length = subst (λ (n : ℕ). (number ≡ 0) ↔ Fits n before) (sym tells-state) (zero-in-run run call)
+
+    -- and it is the length that such a write answers
+    pub told-then-written : number ≡ 0 → long ≡ told
+    told-then-written e = length-in-run run call e .0 ∙ sym tells-state

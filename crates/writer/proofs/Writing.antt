@@ -16,7 +16,7 @@ use Rattle.model.specs.Refusals.{doesNotFit}
 use Rattle.model.specs.FileText.{FileWritten, writeText, writeFile}
 use Rattle.output.specs.Laid.{Laid}
 use Rattle.writer.specs.Texts.{bookText}
-use Rattle.writer.specs.WriteCalls.{written, WriteCall}
+use Rattle.writer.specs.WriteCalls.{written, WriteCall, LengthCall}
 use Rattle.writer.proofs.BookTexts.{book-text}
 
 module _ (text before : Bytes) where
@@ -47,3 +47,9 @@ pub call : {book : List ℕ} {rules before : Bytes} {number long : ℕ} {after :
     → WriteCall book rules before number long after
 unfolding writeFile
 call {book} {rules} {before} e = record { any = e; exact = λ S st h. e ∙ ap (λ (t : Bytes). writeText t before) (book-text st h) }
+
+-- and so is the length that is told: the place behind their text, laid from a buffer's start
+pub length-call : {book : List ℕ} {rules before after : Bytes} {told : ℕ} → Laid before 0 (bookText book rules) after told → LengthCall book rules told
+length-call {book} {rules} {told = told} p =
+    let e : told ≡ length (bookText book rules) = omega (arith, p .behind) in
+    record { any = e; exact = λ S st h. e ∙ ap length (book-text st h) }

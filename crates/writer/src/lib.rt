@@ -5,7 +5,7 @@ ghost use Prim.Native.Nat.{_≤_};
 ghost use lib.ListN.{length};
 ghost use Rattle.output.specs.Laid.{Laid};
 ghost use Rattle.writer.specs.Texts.{declaredText, holdersText, tiesText, bookText};
-ghost use Rattle.writer.specs.WriteCalls.{WriteCall};
+ghost use Rattle.writer.specs.WriteCalls.{WriteCall, LengthCall};
 use book::BOOK_WORDS;
 use book::RULE_BYTES;
 use codes::DOES_NOT_FIT;
@@ -72,9 +72,9 @@ fn put_text(out: &mut [u8], book: &[u64; BOOK_WORDS], rules: &[u8; RULE_BYTES]) 
     rule::put_rules(out, d, book, rules)
 }
 
-// How long the text of a book is: it is laid over no bytes.
-fn text_length(book: &[u64; BOOK_WORDS], rules: &[u8; RULE_BYTES]) -> usize
-    ensures { λ r. ⌜ (r ≡ length (bookText (now (book .entry)) (now (rules .entry)))) × (r ≤ 15782188) ⌝ }
+// "A call gives the exact byte length that the writer of E1 would put out, …, also when it exceeds 32,768, writing nothing": the text is laid over no bytes.
+pub fn length(book: &[u64; BOOK_WORDS], rules: &[u8; RULE_BYTES]) -> usize
+    ensures { λ r. ⌜ LengthCall (now (book .entry)) (now (rules .entry)) r × (r ≤ 15782188) ⌝ }
 {
     let mut none: [u8; 0] = [0; 0];
     put_text(&mut none, book, rules)
@@ -84,7 +84,7 @@ fn text_length(book: &[u64; BOOK_WORDS], rules: &[u8; RULE_BYTES]) -> usize
 pub fn write(book: &[u64; BOOK_WORDS], rules: &[u8; RULE_BYTES], buffer: &mut [u8]) -> Written
     ensures { λ r. ⌜ WriteCall (now (book .entry)) (now (rules .entry)) (now (buffer .entry)) (r .number) (r .length) (now (buffer .exit)) × (r .length ≤ 32768) ⌝ }
 {
-    let length = text_length(book, rules);
+    let length = length(book, rules);
     if buffer.len() < length {
         return Written {
             number: DOES_NOT_FIT,

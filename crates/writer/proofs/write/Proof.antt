@@ -9,22 +9,22 @@ use borrow.Author.Needs.{needs}
 use Rattle.writer.proofs.write.Statement.{statement}
 use Rattle.writer.proofs.write.Tie as tie
 
-text-length-requires : tie.Need-text-length-requires
-text-length-requires c κs = search needs
+length-requires : tie.Need-length-requires
+length-requires c κs = search needs
 
 returns : tie.Need-returns
 returns c =
     let a = c .before .before .before .args in
-    let l = c .before .text-length .ensures in
+    let l = c .before .length .ensures in
     let text = bookText (a .book .now) (a .rules .now) in
-    (call (over-buffer text (a .buffer .now) (subst (λ (k : ℕ). length (a .buffer .now) < k) (l .0) (c .if1 .taken))), omega arith)
+    (call (over-buffer text (a .buffer .now) (subst (λ (k : ℕ). length (a .buffer .now) < k) (l .0 .any) (c .if1 .taken))), omega arith)
 
 returns-2 : tie.Need-returns-2
 returns-2 c =
     let a = c .before .before .before .before .args in
-    let l = c .before .before .text-length .ensures in
+    let l = c .before .before .length .ensures in
     let text = bookText (a .book .now) (a .rules .now) in
-    (call (over-limit text (a .buffer .now) (subst (λ (k : ℕ). k ≤ length (a .buffer .now)) (l .0) (c .before .if1 .left)) (subst (λ (k : ℕ). 32768 < k) (l .0) (c .if2 .taken))), omega arith)
+    (call (over-limit text (a .buffer .now) (subst (λ (k : ℕ). k ≤ length (a .buffer .now)) (l .0 .any) (c .before .if1 .left)) (subst (λ (k : ℕ). 32768 < k) (l .0 .any) (c .if2 .taken))), omega arith)
 
 put-text-requires : tie.Need-put-text-requires
 put-text-requires c κs = search needs
@@ -35,11 +35,11 @@ same-length c = search needs
 returns-3 : tie.Need-returns-3
 returns-3 c =
     let a = c .before .before .before .before .before .before .before .before .args in
-    let l = c .before .before .before .before .before .before .text-length .ensures in
+    let l = c .before .before .before .before .before .before .length .ensures in
     let text = bookText (a .book .now) (a .rules .now) in
-    (call (laid-whole text (a .buffer .now) (c .before .before .put-text .ensures .0) (l .0) (c .before .before .before .before .before .if1 .left) (c .before .before .before .before .if2 .left)), omega arith)
+    (call (laid-whole text (a .buffer .now) (c .before .before .put-text .ensures .0) (l .0 .any) (c .before .before .before .before .before .if1 .left) (c .before .before .before .before .if2 .left)), omega arith)
 
 pub write-spec : {M : Type 1} → statement M
 write-spec =
     tie.close
-    (tie.spec text-length-requires returns returns-2 put-text-requires same-length returns-3)
+    (tie.spec length-requires returns returns-2 put-text-requires same-length returns-3)

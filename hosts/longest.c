@@ -1,0 +1,105 @@
+/* The longest file that edits make, and its length told beforehand: loads a file with every table of holders and pairs full, puts every tie that can
+   stand by edits, then takes some away again. The length has to be the one before with just the bytes of each line that was put or taken, its sign not
+   counted, and the writer has to refuse precisely when that length is over its buffer or over 32,768 bytes, leaving the buffer as it was. Prints the
+   length; status 1 with the first difference. */
+#include "zhulmekov.h"
+
+#include <inttypes.h>
+#include <stdarg.h>
+#include <stdio.h>
+#include <stdlib.h>
+#include <string.h>
+
+enum { FILE_BYTES = 32768, BUFFER = 40000, PATTERN = 0xa5, GROUPS = 64, USERS = 191, PAIRS = 256, ATTRIBUTES = 32, OPERATIONS = 8, RULES = 32 };
+
+static uint64_t book[ZHUL_BOOK_WORDS], table[ZHUL_TABLE_WORDS];
+static uint8_t rules[ZHUL_RULES_BYTES], buffer[BUFFER];
+static char file[FILE_BYTES + 1];
+static uint64_t expected; /* the length by the lines alone */
+
+static void fail(const char *what, uint64_t given) {
+    printf("longest: %s: expected %" PRIu64 ", given %" PRIu64 "\n", what, expected, given);
+    exit(1);
+}
+
+static void put(const char *format, ...) {
+    va_list list;
+    va_start(list, format);
+    expected += (uint64_t)vsnprintf(file + expected, sizeof file - expected, format, list);
+    va_end(list);
+    if (expected > FILE_BYTES) fail("the file to load", FILE_BYTES);
+}
+
+static void told(void) {
+    uint64_t length = zhul_length(book, rules);
+    if (length != expected) fail("the length told", length);
+}
+
+/* The writer, lent so many bytes, answers by the length alone; a refusal keeps every byte, and so do those behind what is lent or written. */
+static void writes(size_t lent) {
+    uint64_t fits = expected <= lent && expected <= FILE_BYTES;
+    size_t from = fits ? (size_t)expected : 0;
+    memset(buffer, PATTERN, sizeof buffer);
+    uint64_t answer = zhul_write(book, rules, buffer, lent);
+    if (answer != (fits ? expected << 32 : ZHUL_DOES_NOT_FIT)) fail("the writer's answer", answer);
+    for (size_t i = from; i < sizeof buffer; i++)
+        if (buffer[i] != PATTERN) fail("a byte that the writer has to keep", i);
+}
+
+/* One edit that is accepted. Near the limit of a file each is followed by the length and by writes. */
+static void edit(const char *format, ...) {
+    char line[64];
+    va_list list;
+    va_start(list, format);
+    int n = vsnprintf(line, sizeof line, format, list);
+    va_end(list);
+    uint64_t answer = zhul_edit((const uint8_t *)line, (size_t)n, book, table, ZHUL_TABLE_WORDS);
+    if (ZHUL_NUMBER(answer) != 0) fail(line, answer);
+    expected = line[0] == '+' ? expected + (uint64_t)n - 1 : expected - ((uint64_t)n - 1);
+    if (expected > BUFFER) return;
+    told();
+    writes(BUFFER);
+    writes((size_t)expected);
+    writes((size_t)expected - 1);
+}
+
+/* Every holder but admin is of users, so that each may have every pair. */
+static void load(void) {
+    put("rights=1\n");
+    for (int k = 0; k < ATTRIBUTES; k++) put("attr=user,a%011d,str\n", k);
+    for (int k = 0; k < OPERATIONS; k++) put("op=o%011d\n", k);
+    for (int p = 0; p < PAIRS; p++) put("atom=user.a%011d,\"%012d\"\n", p % ATTRIBUTES, p);
+    for (int g = 0; g < GROUPS; g++) put("ugroup=g%011d\n", g);
+    for (int u = 0; u < USERS; u++) put("user=u%011d\n", u);
+    for (int r = 0; r < RULES; r++) put("rule=o%011d,user.a%011d={\"%012d\",\"%012d\"}AND NOT user.a%011d\n", r % OPERATIONS, r, r, r + 1, r);
+    uint64_t answer = zhul_load((const uint8_t *)file, (size_t)expected, book, rules, table, ZHUL_TABLE_WORDS);
+    if (ZHUL_NUMBER(answer) != 0) fail("the load", answer);
+    told();
+    writes(BUFFER);
+    if (memcmp(buffer, file, (size_t)expected) != 0) fail("the file written is the one loaded", 0);
+}
+
+/* Puts or takes every tie of a group: its parents have lower numbers, so that no circle is closed. */
+static void ties_of_group(char sign, int g) {
+    for (int over = 0; over < g; over++) edit("%cparent=g%011d,g%011d\n", sign, g, over);
+    for (int p = 0; p < PAIRS; p++) edit("%cvalue=g%011d,a%011d,\"%012d\"\n", sign, g, p % ATTRIBUTES, p);
+    told();
+}
+
+static void ties_of_user(char sign, int u) {
+    for (int g = 0; g < GROUPS; g++) edit("%cmember=u%011d,g%011d\n", sign, u, g);
+    for (int p = 0; p < PAIRS; p++) edit("%cvalue=u%011d,a%011d,\"%012d\"\n", sign, u, p % ATTRIBUTES, p);
+    told();
+}
+
+int main(void) {
+    load();
+    for (int u = 0; u < USERS; u++) ties_of_user('+', u);
+    for (int g = 0; g < GROUPS; g++) ties_of_group('+', g);
+    uint64_t longest = expected;
+    writes(BUFFER);
+    for (int g = 0; g < GROUPS; g++) ties_of_group('-', g);
+    for (int u = 0; u < USERS; u++) ties_of_user('-', u);
+    printf("%" PRIu64 "\n", longest);
+    return 0;
+}
