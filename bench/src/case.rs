@@ -21,6 +21,8 @@ pub enum Calls {
     Request(Vec<u8>, Told),
     /// The write of the file as it stands now, which has so many bytes, into a buffer that fits every file.
     Write(usize),
+    /// The length of the file as it stands now, told beforehand.
+    Length(usize),
     /// The one call for hosts in C, with the case's file.
     Pass(Vec<u8>, u32),
 }

@@ -12,7 +12,7 @@ const TOP_GOAL: f64 = 1.0;
 const REQUEST_GOAL: f64 = 2.0;
 const WRITE_GOAL: f64 = 3.0;
 
-/// How the rows of the full file's load and write begin: their times are held against each other.
+/// How the rows of the full file's load, write and length begin: their times are held against each other.
 pub const FULL: &str = "every table full";
 
 /// The user and the object of the full file that edits and requests are about.
@@ -29,6 +29,7 @@ pub fn all() -> Vec<Case> {
     cases.extend(requests(&size, &full));
     cases.extend(refused_requests(&size, &full));
     cases.extend(writes(&full));
+    cases.extend(lengths(&full));
     cases.extend(passes(&size, &full));
     cases
 }
@@ -147,6 +148,14 @@ fn writes(full: &FullFile) -> Vec<Case> {
         let length = files::written_length(file);
         let name = format!("{name}, {length} bytes");
         Case::new("write", name, file, Calls::Write(length)).with_goal(WRITE_GOAL)
+    };
+    vec![case("valley", &files::valley()), case(FULL, &full.bytes)]
+}
+
+fn lengths(full: &FullFile) -> Vec<Case> {
+    let case = |name: &str, file: &[u8]| {
+        let length = files::written_length(file);
+        Case::new("length", format!("{name}, {length} bytes"), file, Calls::Length(length))
     };
     vec![case("valley", &files::valley()), case(FULL, &full.bytes)]
 }

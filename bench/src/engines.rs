@@ -29,6 +29,7 @@ impl Engines {
             Calls::Edits(edits) => edits.iter().try_for_each(|(line, wanted)| self.edit(line, *wanted)),
             Calls::Request(block, wanted) => self.request(block, *wanted),
             Calls::Write(length) => self.write(*length),
+            Calls::Length(length) => self.length(*length),
             Calls::Pass(block, wanted) => self.pass(&case.file, block, *wanted),
         }
     }
@@ -60,6 +61,12 @@ impl Engines {
             return Err(format!("write: byte {byte} of the buffer differs"));
         }
         self.compare("write", ours, reference, Told::new(0, length))
+    }
+
+    fn length(&self, wanted: usize) -> Result<(), String> {
+        let ours = Told::new(0, self.ours.length() as usize);
+        let reference = Told::new(0, self.reference.length());
+        self.compare("length", ours, reference, Told::new(0, wanted))
     }
 
     fn pass(&mut self, file: &[u8], block: &[u8], wanted: u32) -> Result<(), String> {

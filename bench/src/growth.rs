@@ -8,7 +8,8 @@ use crate::told::{Told, DENY, UNDEFINED};
 
 pub fn all() -> Vec<Case> {
     let mut cases = loads();
-    cases.extend(writes());
+    cases.extend(by_bytes("write, by bytes", Calls::Write));
+    cases.extend(by_bytes("length, by bytes", Calls::Length));
     cases.extend(edits("edit of a group, by members below", files::members));
     cases.extend(edits("edit of a group, by holders below, chain of groups first", files::chain));
     cases.extend(requests_by_terms());
@@ -32,10 +33,10 @@ fn loads() -> Vec<Case> {
     growing().iter().map(case).collect()
 }
 
-fn writes() -> Vec<Case> {
+fn by_bytes(part: &'static str, calls: fn(usize) -> Calls) -> Vec<Case> {
     let case = |file: &Vec<u8>| {
         let length = files::written_length(file);
-        Case::new("write, by bytes", format!("{length} bytes"), file, Calls::Write(length))
+        Case::new(part, format!("{length} bytes"), file, calls(length))
     };
     growing().iter().map(case).collect()
 }

@@ -38,6 +38,7 @@ extern "C" {
         table_words: usize,
     ) -> u64;
     fn zhul_write(book: *const u64, rules: *const u8, buffer: *mut u8, buffer_length: usize) -> u64;
+    fn zhul_length(book: *const u64, rules: *const u8) -> u64;
 }
 
 /// The three buffers that a host lends.
@@ -75,6 +76,11 @@ impl Library {
     pub fn write(&self, buffer: &mut [u8]) -> u64 {
         let (book, rules) = (self.book.as_ptr(), self.rules.as_ptr());
         unsafe { zhul_write(book, rules, buffer.as_mut_ptr(), buffer.len()) }
+    }
+
+    #[inline(always)]
+    pub fn length(&self) -> u64 {
+        unsafe { zhul_length(self.book.as_ptr(), self.rules.as_ptr()) }
     }
 
     #[inline(always)]

@@ -50,6 +50,7 @@ fn time(case: &Case, engines: &mut Engines) -> Times {
         Calls::Write(_) => {
             best(1, || ours.write(black_box(&mut to)), || reference.write(black_box(&mut to_other)))
         }
+        Calls::Length(_) => best(1, || black_box(&*ours).length(), || black_box(&*reference).length()),
         Calls::Pass(block, _) => best(
             1,
             || ours.pass(black_box(file), black_box(block)),
@@ -117,6 +118,7 @@ fn library_turn(case: &Case, engines: &mut Engines, buffer: &mut [u8]) {
         Calls::Edits(edits) => edits.iter().for_each(|(line, _)| seen(ours.edit(line.as_bytes()))),
         Calls::Request(block, _) => seen(ours.request(block)),
         Calls::Write(_) => seen(ours.write(buffer)),
+        Calls::Length(_) => seen(ours.length()),
         Calls::Pass(block, _) => seen(ours.pass(&case.file, block)),
     }
 }

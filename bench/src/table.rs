@@ -39,24 +39,27 @@ pub fn tables(lines: &str) -> Result<String, String> {
         }
         text += &print(row);
     }
-    text += &write_by_load(&rows).unwrap_or_default();
+    for (what, of, than) in [("writes", "write", "load"), ("tells the length of", "length", "write")] {
+        if let Some((told, verdict)) = share(&rows, of, than) {
+            text += &format!("\nThe library {what} the full file in {told} of the time of its {than}. Goal, at most {verdict}\n");
+        }
+    }
     Ok(text)
 }
 
-/// The library's write of the full file is to take at most this part of the time of its load.
-const WRITE_BY_LOAD_GOAL: f64 = 0.5;
+/// The library's write of the full file is to take at most this part of the time of its load, and its length at
+/// most this part of the time of its write.
+const SHARE_GOAL: f64 = 0.5;
 
-/// What part it takes, run by run.
-fn write_by_load(rows: &[Row]) -> Option<String> {
+/// What part of the time of another call on the full file a call takes, run by run, and whether that is the goal.
+fn share(rows: &[Row], of: &str, than: &str) -> Option<(String, String)> {
     let times = |part: &str| {
         rows.iter().find(|row| row.part == part && row.name.starts_with(FULL)).map(|row| &row.times)
     };
-    let both = times("write")?.iter().zip(times("load")?);
-    let parts: Vec<f64> = both.map(|(write, load)| write.ours / load.ours).collect();
-    let met = parts.iter().filter(|&&part| part <= WRITE_BY_LOAD_GOAL).count();
-    let (told, verdict) =
-        (spread(&parts, |part| format!("{part:.2}")), verdict(WRITE_BY_LOAD_GOAL, met, parts.len()));
-    Some(format!("\nThe library writes the full file in {told} of the time that it loads it in. Goal, at most {verdict}\n"))
+    let both = times(of)?.iter().zip(times(than)?);
+    let parts: Vec<f64> = both.map(|(one, other)| one.ours / other.ours).collect();
+    let met = parts.iter().filter(|&&part| part <= SHARE_GOAL).count();
+    Some((spread(&parts, |part| format!("{part:.2}")), verdict(SHARE_GOAL, met, parts.len())))
 }
 
 fn read(line: &str) -> Option<Row> {

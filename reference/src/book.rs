@@ -1,4 +1,5 @@
-//! The engine that keeps the lent table: load, edit, request, write and the C call.
+//! The engine that keeps the lent table: load, edit, request, write, length and
+//! the C call.
 
 use crate::answer::{Decision, EditAnswer, LoadAnswer, Refusal, RefusedLine, WriteAnswer};
 use crate::block::Block;
@@ -9,7 +10,7 @@ use crate::graph::TieGraph;
 use crate::pairs::PairSet;
 use crate::policy::Truth;
 use crate::tie::{judge_edit, Change, StandingTies, Tie};
-use crate::{writer, TABLE_WORDS};
+use crate::{length, writer, TABLE_WORDS};
 
 /// Declarations and ties. The default is the empty book, with admin alone.
 #[derive(Clone, Debug, Default, PartialEq, Eq)]
@@ -106,6 +107,12 @@ impl Book {
     /// The file as it stands now, also one that is too long to be written.
     pub fn text(&self) -> Vec<u8> {
         writer::text(&self.declared, &self.ties)
+    }
+
+    /// How long the file as it stands now is, also one that is too long to be
+    /// written. Nothing is put out for it.
+    pub fn length(&self) -> usize {
+        length::of_text(&self.declared, &self.ties)
     }
 
     pub fn declared(&self) -> &Declarations {

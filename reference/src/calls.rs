@@ -3,11 +3,12 @@
 //!
 //! `table=LENGTH,INDEX:WORD,...` comes first and names the words that are not
 //! 0. Then come `load=`, `edit=` and `request=` with their bytes in hex,
-//! `write=LENGTH,BYTE` with a buffer of that many bytes, and `c=FILE,BLOCK` for
-//! the call for hosts in C. Each call prints its answer as the office program
-//! would (`write=` number and length, `c=` number), then `words=` with the words
-//! of the table that are not 0; a write prints `buffer=` and the whole buffer
-//! before that. Lengths and indexes are decimal, bytes and words are hex.
+//! `write=LENGTH,BYTE` with a buffer of that many bytes, `length=` with nothing
+//! behind it, and `c=FILE,BLOCK` for the call for hosts in C. Each call prints its
+//! answer as the office program would (`write=` number and length, `length=` bytes,
+//! `c=` number), then `words=` with the words of the table that are not 0; a write
+//! prints `buffer=` and the whole buffer before that. Lengths and indexes are
+//! decimal, bytes and words are hex.
 
 use crate::answer::Decision;
 use crate::book::c_call;
@@ -56,6 +57,10 @@ impl Engine for LedgerWords {
 
     fn write(&self, buffer: &mut [u8]) -> crate::WriteAnswer {
         self.engine.write(buffer)
+    }
+
+    fn length(&self) -> usize {
+        self.engine.length()
     }
 }
 
@@ -118,6 +123,7 @@ fn answer_line(line: &[u8], engine: &mut impl Shown) -> Option<Vec<u8>> {
         b"load" => Call::Load(bytes),
         b"edit" => Call::Edit(bytes),
         b"request" => Call::Request(bytes),
+        b"length" if bytes.is_empty() => Call::Length,
         _ => return None,
     };
     Some(print(engine.call(&call)))
@@ -173,6 +179,7 @@ pub fn write(session: &Session) -> Vec<u8> {
             Call::Edit(line) => format!("edit={}\n", hex(line)),
             Call::Request(block) => format!("request={}\n", hex(block)),
             Call::Write(Buffer { length, byte }) => format!("write={length},{byte:02x}\n"),
+            Call::Length => "length=\n".to_string(),
         };
     }
     list.into_bytes()

@@ -109,7 +109,7 @@ impl Coverage {
 }
 
 /// The kinds of call in the summary, as the names of answers begin.
-pub const KINDS: [&str; 5] = ["load ", "edit ", "request ", "write ", "C call "];
+pub const KINDS: [&str; 6] = ["load ", "edit ", "request ", "write ", "length ", "C call "];
 
 impl Coverage {
     /// How often `number` was met for this kind of call; for request 0 how
@@ -169,6 +169,8 @@ fn name_answer(call: &Call, answer: &Answer) -> String {
             let long = if buffer.len() < FILE_LIMIT { "short buffer" } else { "long text" };
             format!("write {long} {}", refusal.number())
         }
+        (_, Answer::Length(length)) if *length > FILE_LIMIT => "length long text 0".to_string(),
+        (_, Answer::Length(_)) => "length 0".to_string(),
         (call, answer) => unreachable!("{answer:?} to {call:?}"),
     }
 }
@@ -193,6 +195,7 @@ fn name_on_empty_book(answer: &Answer) -> String {
             let number = written.err().map_or(0, Refusal::number);
             format!("write {number}")
         }
+        Answer::Length(length) => format!("length {length}"),
         Answer::Load(_) => unreachable!("a load is not made on a book"),
     }
 }
@@ -264,7 +267,7 @@ pub fn possible() -> Vec<String> {
 }
 
 /// Answers that do not hang on a key.
-const FIXED: [(&str, &[&str]); 17] = [
+const FIXED: [(&str, &[&str]); 20] = [
     ("load", &["0", "1", "2", "3"]),
     ("load other", &["4"]),
     ("edit", &["1"]),
@@ -276,7 +279,10 @@ const FIXED: [(&str, &[&str]); 17] = [
     ("write", &["0"]),
     ("write short buffer", &["18"]),
     ("write long text", &["18"]),
+    ("length", &["0"]),
+    ("length long text", &["0"]),
     ("empty book: write", &["0", "18"]),
+    ("empty book: length", &["9"]),
     ("empty book: edit", &["1", "4", "6", "8", "9", "13"]),
     ("empty book: request", &["1", "15", "16"]),
     (

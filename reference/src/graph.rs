@@ -85,6 +85,11 @@ impl TieGraph {
         &self.up[holder]
     }
 
+    /// Children and parties of a group.
+    pub fn right_below(&self, holder: usize) -> &BTreeSet<usize> {
+        &self.down[holder]
+    }
+
     pub fn direct(&self, holder: usize) -> &PairSet {
         &self.direct[holder]
     }

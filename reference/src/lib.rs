@@ -1,5 +1,6 @@
-//! Document 01 of Zhulmekov (rights file, edits and pass block) and request E1 of
-//! document 02 (the file as it stands now) in plain Rust.
+//! Document 01 of Zhulmekov (rights file, edits and pass block) and requests E1
+//! (the file as it stands now) and E14 (its length told beforehand) of document 02
+//! in plain Rust.
 //!
 //! Two engines give the same answers. `book` keeps the effective sets in the
 //! lent table and brings them up to date; `ledger` works every answer out
@@ -14,6 +15,7 @@ pub mod evaluate;
 pub mod file;
 pub mod graph;
 pub mod ledger;
+pub mod length;
 pub mod line;
 pub mod office;
 pub mod pairs;

@@ -80,14 +80,15 @@ fn digit(byte: u8) -> Option<u8> {
     }
 }
 
-/// An answer as `gate` prints it, with its byte 10. A write is no call of
-/// `gate`: its line is for call lists.
+/// An answer as `gate` prints it, with its byte 10. A write and a length are no
+/// calls of `gate`: their lines are for call lists.
 pub fn print(answer: Answer) -> Vec<u8> {
     let text = match answer {
         Answer::Load(loaded) => print_load(loaded),
         Answer::Edit(edited) => print_edit(edited),
         Answer::Request(decision) => print_decision(decision),
         Answer::Write(written, _) => print_write(written),
+        Answer::Length(length) => format!("length={length}"),
     };
     (text + "\n").into_bytes()
 }

@@ -12,6 +12,8 @@ pub enum Call {
     Request(Vec<u8>),
     /// No call of the ledger's: it changes neither book nor table.
     Write(Buffer),
+    /// Nor does this.
+    Length,
 }
 
 /// A buffer to write into: its length, and the byte that it is full of.
@@ -34,6 +36,8 @@ pub enum Answer {
     Request(Decision),
     /// With all bytes of the buffer after the call.
     Write(WriteAnswer, Vec<u8>),
+    /// Bytes of the text; it refuses nothing.
+    Length(usize),
 }
 
 /// Something that answers calls one after another. The engines do, each with
@@ -43,6 +47,7 @@ pub trait Engine {
     fn edit(&mut self, line: &[u8]) -> EditAnswer;
     fn request(&mut self, block: &[u8]) -> Decision;
     fn write(&self, buffer: &mut [u8]) -> WriteAnswer;
+    fn length(&self) -> usize;
 
     fn call(&mut self, call: &Call) -> Answer {
         match call {
@@ -54,6 +59,7 @@ pub trait Engine {
                 let written = self.write(&mut buffer);
                 Answer::Write(written, buffer)
             }
+            Call::Length => Answer::Length(self.length()),
         }
     }
 }
@@ -89,6 +95,10 @@ impl Engine for TableEngine {
     fn write(&self, buffer: &mut [u8]) -> WriteAnswer {
         self.book.write(buffer)
     }
+
+    fn length(&self) -> usize {
+        self.book.length()
+    }
 }
 
 /// The ledger, fed with the table's length besides each input.
@@ -122,6 +132,10 @@ impl Engine for LedgerEngine {
         buffer.copy_from_slice(&after);
         written
     }
+
+    fn length(&self) -> usize {
+        self.ledger.length()
+    }
 }
 
 /// A list of calls that begins with a load, and the table they all use.
@@ -132,8 +146,8 @@ pub struct Session {
 }
 
 impl Session {
-    /// Runs both engines, compares answer and all words after every call, and
-    /// gives the answers. The error says at which call they part.
+    /// Runs both engines, compares answer, length of the text and all words after
+    /// every call, and gives the answers. The error says at which call they part.
     pub fn compare(&self) -> Result<Vec<Answer>, String> {
         let mut by_table = TableEngine::new(self.table.clone());
         let mut by_ledger = LedgerEngine::new(self.table.len());
@@ -142,6 +156,10 @@ impl Session {
             let (kept, fresh) = (by_table.call(call), by_ledger.call(call));
             if kept != fresh {
                 return Err(format!("call {place}: table {kept:?}, ledger {fresh:?}"));
+            }
+            let (counted, put_out) = (by_table.length(), by_ledger.length());
+            if counted != put_out {
+                return Err(format!("call {place}: length {counted}, ledger {put_out}"));
             }
             let right = if self.table.len() == TABLE_WORDS {
                 by_table.table == by_ledger.ledger.words()

@@ -7,7 +7,7 @@ use reference::{c_call, calls, gate, gate_by_ledger, Decision, Ledger};
 const SESSIONS: u64 = 6_000;
 
 #[test]
-fn the_same_answers_and_words_after_every_call() {
+fn the_same_answers_lengths_and_words_after_every_call() {
     let mut calls = 0;
     for seed in 1..=SESSIONS {
         match session(seed).compare() {

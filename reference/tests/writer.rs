@@ -1,29 +1,12 @@
 //! The writer of document 02, E1: what it promises, over drawn lists of calls.
 
+mod states;
+
 use reference::file::FILE_LIMIT;
-use reference::generate::{session, Rng};
+use reference::generate::Rng;
 use reference::line::pieces;
-use reference::session::{Call, Engine, LedgerEngine, TableEngine};
 use reference::{Book, Ledger, Refusal, TABLE_WORDS};
-
-const SESSIONS: u64 = 2_500;
-
-/// Runs drawn lists of calls by both engines and looks at them at each write,
-/// of which one is the last call.
-fn each_state(mut look: impl FnMut(u64, &TableEngine, &Ledger)) {
-    for seed in 1..=SESSIONS {
-        let drawn = session(seed);
-        let mut by_table = TableEngine::new(drawn.table.clone());
-        let mut by_ledger = LedgerEngine::new(drawn.table.len());
-        for call in &drawn.calls {
-            if matches!(call, Call::Write(_)) {
-                look(seed, &by_table, &by_ledger.ledger);
-            }
-            by_table.call(call);
-            by_ledger.call(call);
-        }
-    }
-}
+use states::each_state;
 
 /// The file as it stands, if it is not too long.
 fn written(book: &Book) -> Option<Vec<u8>> {

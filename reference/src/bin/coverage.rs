@@ -29,7 +29,7 @@ fn main() -> ExitCode {
 
 /// Answers by number and kind of call.
 fn print_summary(coverage: &Coverage) {
-    println!("number     load     edit  request    write   C call");
+    println!("number     load     edit  request    write   length   C call");
     for number in (0..=18).chain([64, 65]) {
         let sums = KINDS.map(|kind| format!("{:8}", coverage.sum(kind, number)));
         println!("{number:6} {}", sums.join(" "));

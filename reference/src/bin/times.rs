@@ -13,10 +13,12 @@ const CALLS: usize = 2_000;
 const LEDGER_CALLS: usize = 50;
 const LOADS: u32 = 20;
 const WRITES: u32 = 20;
+const LENGTHS: u32 = 20;
 const ROUNDS: usize = 5;
 
-/// Time and number of calls for loads, edits, requests and writes in one round.
-type Round = [(Duration, u32); 4];
+/// Time and number of calls for loads, edits, requests, writes and lengths in one
+/// round.
+type Round = [(Duration, u32); 5];
 
 fn round<E: Engine>(sessions: &[Session], start: impl Fn() -> E) -> Round {
     let mut spent = Round::default();
@@ -29,6 +31,7 @@ fn round<E: Engine>(sessions: &[Session], start: impl Fn() -> E) -> Round {
                 Call::Edit(_) => (1, 1),
                 Call::Request(_) => (2, 1),
                 Call::Write(_) => (3, WRITES),
+                Call::Length => (4, LENGTHS),
             };
             let begin = Instant::now();
             for _ in 0..times {
@@ -51,7 +54,7 @@ fn make(engine: &mut impl Engine, call: &Call, buffer: &mut [u8]) {
 
 fn measure<E: Engine>(name: &str, sessions: &[Session], start: impl Fn() -> E) {
     let rounds: Vec<Round> = (0..ROUNDS).map(|_| round(sessions, &start)).collect();
-    for (kind, word) in ["load", "edit", "request", "write"].iter().enumerate() {
+    for (kind, word) in ["load", "edit", "request", "write", "length"].iter().enumerate() {
         let count = rounds[0][kind].1;
         if count == 0 {
             continue;
@@ -64,18 +67,18 @@ fn measure<E: Engine>(name: &str, sessions: &[Session], start: impl Fn() -> E) {
 
 const WRITE: Call = Call::Write(Buffer { length: FILE_LIMIT, byte: 0 });
 
-/// The valley file is small, so that one load or write of it is soon done.
+/// The valley file is small, so that one call about it is soon done.
 const VALLEYS: usize = 50;
 
-/// A full file: its load, a write, then edits and blocks.
+/// A full file: its load, a write, its length, then edits and blocks.
 fn full(seed: u64) -> Session {
     let mut session = generate::full_session(seed, CALLS);
-    session.calls.insert(1, WRITE);
+    session.calls.splice(1..1, [WRITE, Call::Length]);
     session
 }
 
 fn valleys() -> Vec<Session> {
-    let calls = vec![Call::Load(kit::valley_file().into_bytes()), WRITE];
+    let calls = vec![Call::Load(kit::valley_file().into_bytes()), WRITE, Call::Length];
     vec![Session { table: vec![0; TABLE_WORDS], calls }; VALLEYS]
 }
 

@@ -5,6 +5,7 @@ mod blocks;
 mod damage;
 mod edits;
 mod files;
+mod lengths;
 mod lines;
 mod plan;
 mod policies;
@@ -153,6 +154,8 @@ pub fn session(seed: u64) -> Session {
         spoil_call(rng, call);
     }
     let calls = writes::insert(rng, &table, calls);
+    // Drawn last, so that each seed keeps all its other calls.
+    let calls = lengths::insert(rng, calls);
     Session { table, calls }
 }
 
@@ -217,7 +220,7 @@ pub fn gate_input(seed: u64) -> Vec<u8> {
 /// A call as a line of the office program.
 fn gate_line(call: &Call) -> Vec<u8> {
     match call {
-        Call::Load(_) | Call::Write(_) => Vec::new(),
+        Call::Load(_) | Call::Write(_) | Call::Length => Vec::new(),
         Call::Edit(line) => line.clone(),
         Call::Request(block) => try_line(block),
     }

@@ -6,12 +6,16 @@
 mod blocks;
 mod edits;
 mod files;
+mod length;
+mod length_lines;
 mod library;
+mod list;
 mod mixed;
 mod numbers;
 mod office;
 mod policies;
 mod sets;
+mod told;
 mod valley;
 mod writer;
 
@@ -96,6 +100,7 @@ pub fn all() -> Vec<Vector> {
         valley::kit(),
         library::kit(),
         writer::kit(),
+        length::kit(),
         mixed::kit(),
     ];
     kits.into_iter().flat_map(|kit| kit.vectors).collect()

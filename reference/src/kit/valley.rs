@@ -39,6 +39,14 @@ pub fn valley() -> String {
     format!("{DECLARED}{RULES}")
 }
 
+/// The valley file as it is written: its ties stand in the right order.
+pub fn valley_text() -> String {
+    format!("{DECLARED}rule=pass,user.zone=object.zone AND env.hour<17\nrule=pass,user.staff\n")
+}
+
+/// The words that are not 0 after its load.
+pub const VALLEY_WORDS: &str = "4:5,8:f,12:10,16:f,20:10";
+
 const HOUR_16: &str = "try=010405000300000001000410000000\n";
 const HOUR_17: &str = "try=010405000300000001000411000000\n";
 const NO_ENTRY: &str = "try=01040500030000000000\n";

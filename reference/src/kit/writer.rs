@@ -1,9 +1,9 @@
 //! Call lists for the writer of document 02, E1: "The file as it stands now".
 //! The texts are typed, the long ones by a formula.
 
-use super::valley::{valley, DECLARED};
+use super::list::List;
+use super::valley::{valley, valley_text, VALLEY_WORDS};
 use super::Kit;
-use crate::calls::hex;
 
 pub fn kit() -> Kit {
     let mut kit = Kit::new("library");
@@ -19,80 +19,6 @@ pub fn kit() -> Kit {
     many_ties(&mut kit);
     long_texts(&mut kit);
     kit
-}
-
-/// A call list and what it prints, call by call.
-struct List {
-    calls: String,
-    answers: Vec<String>,
-    /// The words that are not 0 by now.
-    words: String,
-}
-
-impl List {
-    fn new() -> List {
-        List::on("1024", "")
-    }
-
-    fn on(table: &str, words: &str) -> List {
-        List { calls: format!("table={table}\n"), answers: Vec::new(), words: words.to_string() }
-    }
-
-    fn call(&mut self, call: String, answer: String) {
-        self.calls += &format!("{call}\n");
-        self.answers.push(format!("{answer} words={}", self.words));
-    }
-
-    /// An accepted file.
-    fn load(&mut self, file: &str, words: &str) {
-        self.words = words.to_string();
-        let lines = file.lines().count();
-        self.call(format!("load={}", hex(file.as_bytes())), format!("load=0,{lines}"));
-    }
-
-    fn refused_load(&mut self, file: &str, answer: &str) {
-        self.call(format!("load={}", hex(file.as_bytes())), answer.to_string());
-    }
-
-    /// An accepted edit, the count and the words after it.
-    fn edit(&mut self, line: &str, count: usize, words: &str) {
-        self.words = words.to_string();
-        self.call(format!("edit={}0a", hex(line.as_bytes())), format!("edit=0,{count}"));
-    }
-
-    /// Accepted edits that change no set.
-    fn edits(&mut self, lines: &[&str]) {
-        for line in lines {
-            self.edit(line, 0, &self.words.clone());
-        }
-    }
-
-    fn refused_edit(&mut self, line: &str, number: u8) {
-        self.call(format!("edit={}0a", hex(line.as_bytes())), format!("edit={number},0"));
-    }
-
-    fn request(&mut self, block: &str, answer: &str) {
-        self.call(format!("request={block}"), answer.to_string());
-    }
-
-    /// A buffer that the text fits into; behind it stands what stood there.
-    fn write(&mut self, length: usize, byte: u8, text: &str) {
-        let behind = vec![byte; length - text.len()];
-        let buffer = hex(text.as_bytes()) + &hex(&behind);
-        let answer = format!("write=0,{} buffer={buffer}", text.len());
-        self.call(format!("write={length},{byte:02x}"), answer);
-    }
-
-    /// A buffer that the text does not fit into, or one for a text that is too
-    /// long for any: it stays as it was.
-    fn unwritten(&mut self, length: usize, byte: u8) {
-        let answer = format!("write=18,0 buffer={}", hex(&vec![byte; length]));
-        self.call(format!("write={length},{byte:02x}"), answer);
-    }
-
-    fn done(self, kit: &mut Kit, name: &str) {
-        kit.case(name, self.calls, &self.answers.join(" "));
-    }
 }
 
 /// The text of the empty book.
@@ -131,13 +57,6 @@ fn empty(kit: &mut Kit) {
         list.write(9, 0xff, EMPTY);
         list.done(kit, name);
     }
-}
-
-const VALLEY_WORDS: &str = "4:5,8:f,12:10,16:f,20:10";
-
-/// The valley file as it is written: its ties stand in the right order.
-fn valley_text() -> String {
-    format!("{DECLARED}rule=pass,user.zone=object.zone AND env.hour<17\nrule=pass,user.staff\n")
 }
 
 fn buffers(kit: &mut Kit) {

@@ -140,6 +140,11 @@ impl Ledger {
         (Ok(text.len()), after)
     }
 
+    /// The length of the writer's text, found by putting it out.
+    pub fn length(&self) -> usize {
+        writing::file(&self.declared, &self.ties).len()
+    }
+
     fn effective_sets(&self) -> Vec<Pairs> {
         let holders = 0..self.declared.holders.len();
         holders.map(|holder| self.ties.effective(holder)).collect()
