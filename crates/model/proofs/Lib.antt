@@ -62,3 +62,5 @@ pub mod RoundTrip
 pub mod RoundTripTies
 pub mod WrittenBack
 pub mod Writer
+-- The length told beforehand: edits move it by their lines.
+pub mod Lengths

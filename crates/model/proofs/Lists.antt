@@ -292,5 +292,9 @@ pub each-append : {A B : Type 0} (f : A → List B) (xs ys : List A) → each f 
 each-append f [] ys = refl
 each-append {B = B} f (x ∷ xs) ys = ap (λ (l : List B). f x ++ l) (each-append f xs ys) ∙ sym (append-assoc (f x) (each f xs) (each f ys))
 
+pub each-each : {A B C : Type 0} (f : B → List C) (g : A → List B) (xs : List A) → each f (each g xs) ≡ each (λ x. each f (g x)) xs
+each-each f g [] = refl
+each-each {C = C} f g (x ∷ xs) = each-append f (g x) (each g xs) ∙ ap (λ (l : List C). each f (g x) ++ l) (each-each f g xs)
+
 pub each-below : {B : Type 0} (f : ℕ → List B) (n : ℕ) → each f (below (suc n)) ≡ each f (below n) ++ f n
 each-below {B} f n = each-append f (below n) (n ∷ []) ∙ ap (λ (l : List B). each f (below n) ++ l) (append-nil (f n))

@@ -212,7 +212,7 @@ module _ (D : Declarations) (well : WellDeclared D) (T : Ties) (fit : (t : Tie) 
 -- ---- lists without repeats
 
 module _ {A : Type 0} where
-  abbrev NoRepeat : List A → Type 0
+  abbrev pub NoRepeat : List A → Type 0
   NoRepeat [] = Unit {0}
   NoRepeat (x ∷ xs) = (x ∈ xs → ⊥) × NoRepeat xs
 
@@ -338,7 +338,7 @@ module _ {S : State} (standing : Standing S) where
   T = S .ties
 
   -- every tie that stands is listed
-  tie-listed : (t : Tie) → T t ≡ true → t ∈ tiesInOrder D
+  pub tie-listed : (t : Tie) → T t ≡ true → t ∈ tiesInOrder D
   tie-listed (Tie.parent c g) e =
       let f = standing .ties-fit (Tie.parent c g) e in
       Memᴰ·append-left _ (with-in Tie.parent (holderNumbersOf D) (holderNumbersOf D) c g (sort-number D c (f .lower-is)) (sort-number D g (f .upper-is)))
@@ -365,6 +365,31 @@ member-parts h g k j e = (cc, cc)
 
 value-parts : (h g k j : ℕ) → Tie.value h g ≡ Tie.value k j → (h ≡ k) × (g ≡ j)
 value-parts h g k j e = (cc, cc)
+
+numbers-once : (D : Declarations) → WellDeclared D → NoRepeat (holderNumbersOf D)
+unfolding holderNumbersOf
+numbers-once D well = rising-once (λ g. g .number) (D .holders) (well .holders .ordered)
+
+-- no tie is listed twice
+pub listed-once : (D : Declarations) → WellDeclared D → NoRepeat (tiesInOrder D)
+listed-once D well =
+    append-once (tiesWith Tie.parent hs hs) (tiesWith Tie.member hs hs ++ tiesWith Tie.value hs ps) (with-once Tie.parent parent-parts hs hs once once)
+    (append-once (tiesWith Tie.member hs hs) (tiesWith Tie.value hs ps) (with-once Tie.member member-parts hs hs once once) (with-once Tie.value value-parts hs ps once (below-once (length (D .pairs))))
+    (λ t m n. omega (arith, ranked Tie.member hs hs (λ h g. refl) m, ranked Tie.value hs ps (λ h g. refl) n)))
+    (λ t m n. ⊎-elim (λ k. omega (arith, ranked Tie.parent hs hs (λ h g. refl) m, ranked Tie.member hs hs (λ h g. refl) k)) (λ k. omega (arith, ranked Tie.parent hs hs (λ h g. refl) m, ranked Tie.value hs ps (λ h g. refl) k))
+    (List·Memᴰ·append-cases (tiesWith Tie.member hs hs) n))
+  where
+    hs : List ℕ
+    hs = holderNumbersOf D
+
+    ps : List ℕ
+    ps = below (length (D .pairs))
+
+    once : NoRepeat hs
+    once = numbers-once D well
+
+    ranked : (tie : ℕ → ℕ → Tie) (lower upper : List ℕ) {r : ℕ} → ((h g : ℕ) → tieRank (tie h g) ≡ r) → {t : Tie} → t ∈ tiesWith tie lower upper → tieRank t ≡ r
+    ranked tie lower upper so m = let (h, g, a, b, e) = in-with tie lower upper m in ap tieRank e ∙ so h g
 
 module _ (D : Declarations) (well : WellDeclared D) (T : Ties) (fit : (t : Tie) → T t ≡ true → TieFits D t) (acyclic : Acyclic T) where
   hs : List ℕ
@@ -399,8 +424,8 @@ module _ (D : Declarations) (well : WellDeclared D) (T : Ties) (fit : (t : Tie) 
       ∙ ap (λ (l : List Tie). P ++ l) (filter-append T (tiesWith Tie.member hs hs) (tiesWith Tie.value hs (below (length (D .pairs)))))
 
   once : NoRepeat hs
-  unfolding hs holderNumbersOf
-  once = rising-once (λ g. g .number) (D .holders) (well .holders .ordered)
+  unfolding hs
+  once = numbers-once D well
 
   three-go : Goes (record { declared = D; ties = noTies }) 7 (each f P ++ (each f M ++ each f W)) (record { declared = D; ties = addAll W (addAll M (addAll P noTies)) }) 9
   unfolding P M W hs f

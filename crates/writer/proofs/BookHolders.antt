@@ -16,7 +16,7 @@ use Rattle.model.specs.State.{State}
 use Rattle.model.specs.Standing.{Standing}
 use Rattle.model.specs.FileText.{holderLine, holdersInOrder, holderSorts, holderLines, lineText}
 use Rattle.model.proofs.WordTables.{none-is-some}
-use Rattle.model.proofs.Lists.{nth-in, lt-nth}
+use Rattle.model.proofs.Lists.{nth-in, lt-nth, each-each}
 use Rattle.model.proofs.Numbered.{numbers-listed}
 use Rattle.model.proofs.Standing.{numbers-length, holder-fits, holder-below, holder-number}
 use Rattle.model.proofs.RoundTrip.{holder-found, holder-at}
@@ -27,7 +27,7 @@ use Rattle.book.specs.Held.{Holds, sortCode, holderRow}
 use Rattle.output.specs.Laid.{wordText}
 use Rattle.writer.specs.Texts.{keyWords, listedText, nameText, nameOfHolder, lineEnd, holderLineText, holderCount, holderAt, sortText, holdersText}
 use Rattle.writer.proofs.Unpacked.{name-back}
-use Rattle.writer.proofs.Listing.{each-map, each-filter, each-each, each-place}
+use Rattle.writer.proofs.Listing.{each-map, each-filter, each-place}
 use Rattle.writer.proofs.SectionWords.{word-at}
 
 -- ---- lists

@@ -18,7 +18,7 @@ use Rattle.model.specs.State.{State}
 use Rattle.model.specs.Standing.{Standing}
 use Rattle.model.specs.FileText.{tiesWith, tiesInOrder, tieLine, tieLines, lineText}
 use Rattle.model.proofs.WordTables.{none-is-some}
-use Rattle.model.proofs.Lists.{nth-lt, lt-nth, each-append}
+use Rattle.model.proofs.Lists.{nth-lt, lt-nth, each-append, each-each}
 use Rattle.model.proofs.Standing.{sorted-fits, pairs-fit}
 use Rattle.bits.specs.Bits.{bit, member, holds}
 use Rattle.ties.specs.TieArrays.{tiedUp}
@@ -30,7 +30,7 @@ use Rattle.output.specs.Laid.{wordText}
 use Rattle.writer.specs.Texts.{listedText, nameText, rowOfPair, pairAtomText, lineEnd, inMask, hasUp, upLineText, upText, keyOfUps, holderUpsText, ownOf, valueLineText, valueText, valuesText, tiesText}
 use Rattle.writer.proofs.LaidTexts.{each-none, each-same}
 use Rattle.writer.proofs.TieTexts.{member-key, parent-key, ups-of-key, ups-of-other}
-use Rattle.writer.proofs.Listing.{each-ext, each-map, each-filter, each-each}
+use Rattle.writer.proofs.Listing.{each-ext, each-map, each-filter}
 use Rattle.writer.proofs.SectionWords.{section-word, word-at}
 use Rattle.writer.proofs.BookHolders.{holder-there, holder-numbers, holder-count, holder-name}
 

@@ -2,12 +2,11 @@
 use Prim.Native.Nat.{ℕ, zero, suc}
 use mathlib.Core.Path.{_≡_, refl, sym, ap, ap₂, _∙_}
 use mathlib.Core.Bool.{Bool, true, false}
-use mathlib.Core.List.{List, [], _∷_, _++_, append-assoc}
+use mathlib.Core.List.{List, [], _∷_, _++_}
 use mathlib.Core.Option.{some}
 use lib.ListN.{length}
 use Rattle.model.specs.Notation.{if_then_else_, map, each, filter, nth, below}
 use Rattle.model.specs.Bytes.{Bytes}
-use Rattle.model.proofs.Lists.{each-append}
 
 module _ {A B : Type 0} where
   -- the same for each element
@@ -30,11 +29,6 @@ module _ {A B C : Type 0} where
   pub each-map : (f : B → List C) (g : A → B) (xs : List A) → each f (map g xs) ≡ each (λ x. f (g x)) xs
   each-map f g [] = refl
   each-map f g (x ∷ xs) = ap (λ (l : List C). f (g x) ++ l) (each-map f g xs)
-
-  -- of lists laid one after another
-  pub each-each : (f : B → List C) (g : A → List B) (xs : List A) → each f (each g xs) ≡ each (λ x. each f (g x)) xs
-  each-each f g [] = refl
-  each-each f g (x ∷ xs) = each-append f (g x) (each g xs) ∙ ap (λ (l : List C). each f (g x) ++ l) (each-each f g xs)
 
 -- the numbers below suc n: 0, and one more than each below n
 below-front : (n : ℕ) → below (suc n) ≡ 0 ∷ map suc (below n)
