@@ -1,5 +1,5 @@
-/* The longest file that edits make, and its length told beforehand: loads a file with every table of holders and pairs full, puts every tie that can
-   stand by edits, then takes some away again. The length has to be the one before with just the bytes of each line that was put or taken, its sign not
+/* A file with all ties that can stand, and its length told beforehand: loads a file with every table full, puts every tie that can stand by edits,
+   then takes them all away again. The length has to be the one before with just the bytes of the lines that were put or taken, their signs not
    counted, and the writer has to refuse precisely when that length is over its buffer or over 32,768 bytes, leaving the buffer as it was. Prints the
    length; status 1 with the first difference. */
 #include "zhulmekov.h"

@@ -10,13 +10,14 @@
 
 #include <signal.h>
 #include <stdio.h>
+#include <stdlib.h>
 #include <string.h>
 
 enum { INPUT = 65536, FILE_BYTES = 32768 };
 
 static uint8_t input[INPUT + 1]; /* one more than a session may have, so that a longer one is refused and not cut */
 static uint64_t book[ZHUL_BOOK_WORDS], table[ZHUL_TABLE_WORDS];
-static uint8_t rules[ZHUL_RULES_BYTES], file[FILE_BYTES];
+static uint8_t rules[ZHUL_RULES_BYTES];
 static int status; /* 1 once something was told */
 
 static void tell(const char *what) {
@@ -34,7 +35,7 @@ static void tell_left_out(unsigned long line) {
     status = 1;
 }
 
-/* By how much says how many ties have to go. */
+/* Says by how much, so that who takes ties away knows when to stop. */
 static void tell_too_long(uint64_t length) {
     fprintf(stderr, "present: with these edits the file has %lu bytes, %lu more than 32,768: it is refused: 18\n", (unsigned long)length,
             (unsigned long)(length - FILE_BYTES));
@@ -80,11 +81,15 @@ static int play(size_t n) {
     return 1;
 }
 
+/* Reserves just as many bytes as the file has: a buffer of the length that is told is enough, unless it is over 32,768. */
 static void print_file(void) {
-    uint64_t answer = zhul_write(book, rules, file, FILE_BYTES);
-    size_t n = ZHUL_CARRIED(answer);
-    if (ZHUL_NUMBER(answer) != 0) tell_too_long(zhul_length(book, rules));
-    else if (fwrite(file, 1, n, stdout) != n || fflush(stdout) != 0) tell("standard output cannot be written");
+    uint64_t length = zhul_length(book, rules);
+    uint8_t *file = length <= FILE_BYTES ? malloc((size_t)length) : NULL;
+    if (length > FILE_BYTES) tell_too_long(length);
+    else if (file == NULL) tell("there is no memory for the file");
+    else if (fwrite(file, 1, ZHUL_CARRIED(zhul_write(book, rules, file, (size_t)length)), stdout) != length || fflush(stdout) != 0)
+        tell("standard output cannot be written");
+    free(file);
 }
 
 int main(int count, char **words) {

@@ -1,7 +1,8 @@
-/* Measures the stack that the calls take: each call runs on a thread whose stack was filled with a pattern, and the lowest byte that lost it tells how
-   deep the call went, counted from the frame that made the call. `stack SESSION.in...` takes the largest input and then each session, whose answers
-   have to be those of SESSION.out; the file that is written behind it has to load. Prints the most of each call; status 1 for a wrong answer, as a call
-   that was refused early would measure little. Last come a request on rules that no load leaves, and lengths and writes on such rules and on such books. */
+/* Measures the stack that the calls take: each call runs on a thread whose stack was filled with a pattern, and the lowest byte that lost it tells
+   how deep the call went, counted from the frame that made the call. `stack SESSION.in...` takes the largest input and then each session, whose
+   answers have to be those of SESSION.out; the file that is written behind it has to load. Prints the most of each call; status 1 for a wrong
+   answer, as a call that was refused early would measure little. Last come a request on rules that no load leaves, and lengths and writes on such
+   rules and on such books. */
 #define _GNU_SOURCE
 #include "zhulmekov.h"
 
@@ -179,7 +180,7 @@ static void stray(void) {
     printf("%s on rules that no load leaves %zu\n", names[DECIDE], job.depth);
 }
 
-/* A length and a write, whatever they answer. */
+/* A length and a write, which have to agree, whatever they are. */
 static void write_stray(void) {
     uint64_t told = measured(LENGTH, input, 0, input, 0), answer = measured(WRITE, input, 0, input, 0);
     if (answer != (told > FILE_LIMIT ? ZHUL_DOES_NOT_FIT : told << 32)) printf("%s: another length than was told\n", names[WRITE]), exit(1);

@@ -17,12 +17,14 @@
    answers 3 with line 1, as for every file without its first line, and makes the table all 0. On the empty book, which every refused load leaves, each
    edit is refused, each request gets 15 or 16, and the file that zhul_write puts out is the first line alone, 9 bytes, which zhul_length tells.
 
-   Stack, as hosts/stack measures it on x86-64 (KB of 1000 bytes, rounded up; measured, not proved): zhul_pass 277 KB, zhul_load 210 KB, zhul_edit
-   16 KB, zhul_decide 18 KB, zhul_write and zhul_length 1 KB. The first two are for a refused file with a rule line full of parentheses, as a policy is
-   read to its end before its depth is judged, some 0.8 KB for each parenthesis; for the largest files that are accepted it is 94 KB and 28 KB. The last
-   three are for a book and rules that calls left: on other bytes, which must not be lent, zhul_decide takes up to 617 KB, the other two still 1 KB.
+   Stack, as hosts/stack measures it on x86-64 (KB of 1000 bytes, rounded up; measured, not proved): zhul_pass 277 KB, zhul_load 210 KB, zhul_edit 16
+   KB, zhul_decide 18 KB, zhul_write and zhul_length 1 KB. The first two are for a refused file with a rule line full of parentheses, as a policy is
+   read to its end before its depth is judged, some 0.8 KB for each parenthesis; for the largest files that are accepted it is 94 KB and 28 KB. The
+   last three are for a book and rules that calls left: on other bytes, which must not be lent, zhul_decide takes up to 617 KB, the other two still 1
+   KB.
 
-   Of the C library the calls need memset and, for zhul_write, memcpy, and nothing else; a firmware without that library gives its own. */
+   Of the C library the calls need memset and, for zhul_write and zhul_length, memcpy, and nothing else; a firmware without that library gives its
+   own. */
 #ifndef ZHULMEKOV_H
 #define ZHULMEKOV_H
 
@@ -124,10 +126,11 @@ uint64_t zhul_decide(const uint8_t *block, size_t block_length, const uint64_t *
    holders. */
 uint64_t zhul_write(const uint64_t *book, const uint8_t *rules, uint8_t *buffer, size_t buffer_length);
 
-/* The length in bytes of the file that zhul_write would put out, told beforehand, from the same book and rules: a buffer of so many bytes is just
-   enough. Nothing is written and nothing is refused. zhul_write answers 18 precisely when this length is over its buffer's or over 32,768. Edits can
-   make a file longer than that, and its length is told all the same: megabytes are possible (hosts/longest.c: 3,556,503 bytes), and whatever book and
-   rules are lent, it is at most 15,782,188. Time: linear as that of a write, of which it takes some 0.4 (bench/README.md). */
+/* The length in bytes of the file that zhul_write would put out, told beforehand, from the same book and rules. Nothing is written and nothing is
+   refused. zhul_write answers 18 precisely when this length is over its buffer's or over 32,768: if it is at most 32,768, a buffer of so many bytes is
+   just enough. Edits can make a file longer than that, and its length is told all the same: megabytes are possible (hosts/longest.c: 3,556,503 bytes),
+   and whatever book and rules are lent, it is at most 15,782,188. Time: linear as that of a write; it takes some 0.36 of a write that is not refused
+   (bench/README.md). */
 uint64_t zhul_length(const uint64_t *book, const uint8_t *rules);
 
 #ifdef __cplusplus

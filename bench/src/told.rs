@@ -3,7 +3,7 @@
 use reference::{Decision, EditAnswer, LoadAnswer, WriteAnswer};
 
 /// A number of document 01, and what it carries: the line of a load (of an accepted one the lines read), the
-/// count of an edit, the rule of a permit, the length of a write or told beforehand.
+/// count of an edit, the rule of a permit, the length that a write answers or that is told beforehand.
 #[derive(Clone, Copy, Debug, PartialEq, Eq)]
 pub struct Told {
     pub number: u32,

@@ -1,6 +1,6 @@
 // The calls for hosts in C, each answering one number. A slice is a pointer and a length; nothing is allocated or kept.
 ghost use mathlib.Core.Path.{_≡_};
-ghost use Prim.Native.Nat.{_/_, _%_};
+ghost use Prim.Native.Nat.{_/_, _%_, _≤_};
 ghost use lib.ListN.{length};
 ghost use Rattle.model.specs.Host.{hostCall, hostTable};
 ghost use Rattle.engine.specs.Decisions.{numberAndValuesOf};
@@ -114,7 +114,7 @@ pub extern "C" fn zhul_write(
 // Tells the length that the file as it stands now has: no number beside it, as nothing is refused.
 #[no_mangle]
 pub extern "C" fn zhul_length(book: &[u64; BOOK_WORDS], rules: &[u8; RULE_BYTES]) -> u64
-    ensures { λ r. ⌜ LengthCall (now (book .entry)) (now (rules .entry)) r ⌝ }
+    ensures { λ r. ⌜ LengthCall (now (book .entry)) (now (rules .entry)) r × (r ≤ 15782188) ⌝ }
 {
     writer::length(book, rules) as u64
 }

@@ -43,5 +43,5 @@ pub mod Host
 pub mod Gate
 -- "Valley cases"
 pub mod Valley
--- Document 02, E1: "The file as it stands now"
+-- Document 02, E1: "The file as it stands now", and E14: "Length told beforehand"
 pub mod FileText

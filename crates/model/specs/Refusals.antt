@@ -245,6 +245,7 @@ requestRefusal S block = first (requestTests S block)
 
 -- ---- Writer
 
--- document 02, E1: "18, the writer's only one, when the text is longer than the buffer or than 32,768 bytes". Both by their lengths
+-- document 02, E1: "18, the writer's only one, when the text is longer than the buffer or than 32,768 bytes", and E14: "precisely when this length is over its
+-- buffer or over 32,768". Both by their lengths
 unfoldable pub doesNotFit : ℕ → ℕ → Bool
 doesNotFit text buffer = ltb buffer text || ltb fileBytes text

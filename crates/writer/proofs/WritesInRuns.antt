@@ -1,14 +1,14 @@
 -- The writer and the length told beforehand over lists of calls: for every list of loads, edits and requests that begins with a load, whatever was lent at
 -- first, the book that is then lent is written as the file of the ledger's state, what is written loads as that state, and the length told is that of this
 -- file. Assumes nothing.
-use Prim.Native.Nat.{ℕ, suc, _≤_}
+use Prim.Native.Nat.{ℕ, suc}
 use mathlib.Core.Path.{_≡_, refl, sym, ap, subst, _∙_}
 use mathlib.Core.Logic.{_⊎_, inl, inr, ⊎-elim, _↔_}
 use mathlib.Core.Bool.{Bool, true, false}
 use mathlib.Core.List.{List, [], _∷_, _++_, List·Memᴰ·head as here, List·Memᴰ·tail as there}
 use native.Mathlib.Omega.{arith}
 use lib.ListN.{length, take, drop}
-use Rattle.model.specs.Limits.{fileBytes, tableWords}
+use Rattle.model.specs.Limits.{tableWords}
 use Rattle.model.specs.Numbers as refusal
 use Rattle.model.specs.Bytes.{Bytes}
 use Rattle.model.specs.State.{State, empty}
