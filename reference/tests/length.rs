@@ -114,9 +114,11 @@ fn lines(head: &str, names: &[String]) -> String {
     names.iter().map(|name| format!("{head}{name}\n")).collect()
 }
 
-/// The most and longest ties: names and strings have 12 bytes, and each of the
-/// 255 holders can be given each of the 256 pairs.
-fn longest() -> Full {
+/// As many ties as can stand in any book, each with the longest line of its key:
+/// names and strings have 12 bytes, and each of the 255 holders can be given each of
+/// the 256 pairs. The text can still be longer by its other lines: there could be more
+/// attributes, operations and rules, and objects in place of users.
+fn all_ties() -> Full {
     let groups: Vec<String> = (0..64).map(|number| format!("lift_group{number:02}")).collect();
     let users: Vec<String> = (0..191).map(|number| format!("visitor_{number:04}")).collect();
     let atoms: Vec<String> = (0..256).map(|number| format!("\"value_{number:06}\"")).collect();
@@ -136,14 +138,14 @@ fn longest() -> Full {
 }
 
 #[test]
-fn each_edit_up_to_the_longest_text_and_back_moves_the_length_by_its_line() {
-    let Full { declared, values, links } = longest();
+fn each_edit_up_to_all_ties_that_can_stand_and_back_moves_the_length_by_its_line() {
+    let Full { declared, values, links } = all_ties();
     assert_eq!((values.len(), links.len()), (255 * 256, 2_016 + 191 * 64));
     let mut table = vec![0; TABLE_WORDS];
     let (mut book, loaded) = Book::load(declared.as_bytes(), &mut table);
     assert!(loaded.is_ok(), "{loaded:?}");
-    let shortest = 9 + 27 + 256 * 38 + 64 * 20 + 191 * 18;
-    let mut length = shortest;
+    let without_ties = 9 + 27 + 256 * 38 + 64 * 20 + 191 * 18;
+    let mut length = without_ties;
     assert_eq!(book.length(), length);
     let mut edit = |book: &mut Book, sign: char, line: &str| {
         let edit = format!("{sign}{line}");
@@ -154,16 +156,16 @@ fn each_edit_up_to_the_longest_text_and_back_moves_the_length_by_its_line() {
     for line in values.iter().chain(&links) {
         edit(&mut book, '+', line);
     }
-    let longest = shortest + 65_280 * 47 + 14_240 * 33;
-    assert_eq!(book.length(), longest);
-    assert_eq!(book.text().len(), longest);
-    for room in [32_768, longest - 1, longest, longest + 1] {
+    let with_all = without_ties + 65_280 * 47 + 14_240 * 33;
+    assert_eq!(book.length(), with_all);
+    assert_eq!(book.text().len(), with_all);
+    for room in [32_768, with_all - 1, with_all, with_all + 1] {
         assert_eq!(book.write(&mut vec![0; room]), Err(Refusal::DoesNotFit));
     }
     for line in links.iter().chain(&values) {
         edit(&mut book, '-', line);
     }
-    assert_eq!(book.length(), shortest);
+    assert_eq!(book.length(), without_ties);
 }
 
 /// Both sorts and admin, names of 2 to 12 bytes, short and long atoms of each type.

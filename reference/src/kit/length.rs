@@ -1,6 +1,7 @@
 //! Call lists for document 02, E14: "Length told beforehand".
 
-use super::files::nine_deep;
+use super::files::{file_of, nine_deep};
+use super::length_limit;
 use super::length_lines::{self, HOLDERS};
 use super::list::List;
 use super::told::{file, Counted, Told, FIRST_LINE};
@@ -20,8 +21,7 @@ pub fn kit() -> Kit {
     last_numbers(&mut kit);
     last_groups(&mut kit);
     equal_states(&mut kit);
-    fitting_text(&mut kit);
-    longer_texts(&mut kit);
+    length_limit::add(&mut kit);
     kit
 }
 
@@ -49,6 +49,7 @@ fn refused_loads(kit: &mut Kit) {
     let deep = format!("rights=1\nop=o\nrule=o,{}\n", nine_deep());
     let mut told = Told::new();
     for (file, answer) in [
+        (file_of(32_769).as_str(), "load=2,0"),
         ("", "load=3,1"),
         ("rights=1", "load=3,1"),
         ("rights=1\n\n", "load=4,2"),
@@ -281,100 +282,4 @@ fn equal_states(kit: &mut Kit) {
     told.add(("value=day,zone,1", 17), 3, VALLEY_WORDS);
     told.load(&valley_text(), VALLEY_BYTES, VALLEY_WORDS);
     told.done(kit, "length-of-two-files-of-one-state");
-}
-
-/// 64 groups with names of 12 bytes and an operation with such a name, another
-/// operation whose name fills the text up, and parent ties: 9 bytes for the first
-/// line, 16 and 4 for the operations, 64 lines of 20 bytes for the groups, the
-/// filler, and 33 bytes for each tie. No set has anything in it.
-struct Groups {
-    filler: usize,
-    ties: usize,
-}
-
-impl Groups {
-    fn length(&self) -> usize {
-        9 + 16 + 4 + 64 * 20 + self.filler + 33 * self.ties
-    }
-
-    /// Line by line as the ties are written: 0 of group 0, 1 of group 1, 2 of group 2.
-    fn tie_lines() -> Vec<String> {
-        let of_child = |child: usize| {
-            (0..child).map(move |parent| format!("parent=lift_group{child:02},lift_group{parent:02}"))
-        };
-        (0..64).flat_map(of_child).collect()
-    }
-
-    fn text(&self) -> String {
-        let filler = "f".repeat(self.filler);
-        let groups: String = (0..64).map(|group| format!("ugroup=lift_group{group:02}\n")).collect();
-        let lines = Groups::tie_lines();
-        let ties: String = lines[..self.ties].iter().map(|line| format!("{line}\n")).collect();
-        format!("rights=1\nop=twelve_bytes\nop={filler}\n{groups}{ties}")
-    }
-
-    /// Loads the text and asks for its length.
-    fn load(&self, told: &mut Told) {
-        told.load(&self.text(), self.length(), "");
-    }
-
-    /// Adds the next ties by edits up to this number of them.
-    fn add_to(&mut self, told: &mut Told, ties: usize) {
-        for line in &Groups::tie_lines()[self.ties..ties] {
-            told.list.edit(&format!("+{line}"), 0, "");
-        }
-        told.length += 33 * (ties - self.ties);
-        self.ties = ties;
-    }
-}
-
-fn fitting_text(kit: &mut Kit) {
-    kit.says("Document 02, E14: \"The writer refuses by 18 precisely when this length is over its buffer or over 32,768.\" At 32,768 it is not.");
-    let mut told = Told::new();
-    let mut groups = Groups { filler: 10, ties: 952 };
-    groups.load(&mut told);
-    groups.add_to(&mut told, 953);
-    told.list.length(32_768);
-    told.list.unwritten(32_767, 0x77);
-    told.add(("parent=lift_group63,lift_group62", 33), 0, "");
-    told.list.length(32_801);
-    told.list.unwritten(100, 0x77);
-    told.take(("parent=lift_group63,lift_group62", 33), 0, "");
-    told.list.write(32_768, 0x77, &groups.text());
-    told.ask();
-    told.done(kit, "length-32768-bytes");
-}
-
-fn longer_texts(kit: &mut Kit) {
-    kit.says("Document 02, E14: \"also when it exceeds 32,768\", which edits alone can bring about; the writer then refuses a buffer of any length.");
-    let mut told = Told::new();
-    let mut groups = Groups { filler: 11, ties: 952 };
-    groups.load(&mut told);
-    groups.add_to(&mut told, 953);
-    told.list.length(32_769);
-    told.list.unwritten(32_769, 0x77);
-    told.list.unwritten(33_000, 0x77);
-    told.ask();
-    told.done(kit, "length-32769-bytes");
-    let mut told = Told::new();
-    let mut groups = Groups { filler: 9, ties: 0 };
-    groups.load(&mut told);
-    for (ties, length) in [
-        (1, 1_351),
-        (953, 32_767),
-        (954, 32_800),
-        (1_945, 65_503),
-        (1_946, 65_536),
-        (1_947, 65_569),
-        (2_016, 67_846),
-    ] {
-        groups.add_to(&mut told, ties);
-        told.list.length(length);
-        told.list.unwritten(100, 0x77);
-        told.ask();
-    }
-    for line in Groups::tie_lines().iter().rev().step_by(400) {
-        told.take((line, 33), 0, "");
-    }
-    told.done(kit, "length-over-65536-bytes");
 }

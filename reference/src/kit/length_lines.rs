@@ -303,7 +303,7 @@ fn strings(kit: &mut Kit) {
 }
 
 fn rule_lengths(kit: &mut Kit) {
-    kit.says("Rules of the longest and the most lines; a repeat is counted again.");
+    kit.says("Rule lines of 255 bytes, as long as a line can be, and 32 rules, as many as there can be; a repeat is counted again.");
     // Eight terms of 29 bytes, joined by five OR and two AND: 232, 10 and 6 bytes.
     let term = "\"twelve bytes\"=\"twelve bytes\"";
     let tight = [[term; 3].join("OR"), [term; 2].join("OR"), [term; 3].join("OR")].join("AND");

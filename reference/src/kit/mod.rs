@@ -7,6 +7,7 @@ mod blocks;
 mod edits;
 mod files;
 mod length;
+mod length_limit;
 mod length_lines;
 mod library;
 mod list;

@@ -11,14 +11,18 @@ pub type Counted = (&'static str, usize);
 /// The bytes of the first line, which are all that the empty book has.
 pub const FIRST_LINE: usize = 9;
 
-/// The first line and these.
-pub fn file(lines: &[Counted]) -> String {
-    let lines: String = lines.iter().map(|(line, _)| format!("{line}\n")).collect();
-    format!("rights=1\n{lines}")
+pub fn lines(counted: &[Counted]) -> String {
+    counted.iter().map(|(line, _)| format!("{line}\n")).collect()
 }
 
-pub fn bytes(lines: &[Counted]) -> usize {
-    FIRST_LINE + lines.iter().map(|(_, bytes)| bytes).sum::<usize>()
+/// The first line and these.
+pub fn file(counted: &[Counted]) -> String {
+    format!("rights=1\n{}", lines(counted))
+}
+
+/// The bytes of that file, by the numbers beside its lines.
+pub fn bytes(counted: &[Counted]) -> usize {
+    FIRST_LINE + counted.iter().map(|(_, bytes)| bytes).sum::<usize>()
 }
 
 /// A list, and how long the text is by now, by typed numbers.
