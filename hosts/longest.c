@@ -17,8 +17,8 @@ static uint8_t rules[ZHUL_RULES_BYTES], buffer[BUFFER];
 static char file[FILE_BYTES + 1];
 static uint64_t expected; /* the length by the lines alone */
 
-static void fail(const char *what, uint64_t given) {
-    printf("longest: %s: expected %" PRIu64 ", given %" PRIu64 "\n", what, expected, given);
+static void fail(const char *what, uint64_t wanted, uint64_t given) {
+    printf("longest: %s: expected %" PRIu64 ", given %" PRIu64 "\n", what, wanted, given);
     exit(1);
 }
 
@@ -27,23 +27,23 @@ static void put(const char *format, ...) {
     va_start(list, format);
     expected += (uint64_t)vsnprintf(file + expected, sizeof file - expected, format, list);
     va_end(list);
-    if (expected > FILE_BYTES) fail("the file to load", FILE_BYTES);
+    if (expected > FILE_BYTES) fail("the length of the file to load, at most", FILE_BYTES, expected);
 }
 
 static void told(void) {
     uint64_t length = zhul_length(book, rules);
-    if (length != expected) fail("the length told", length);
+    if (length != expected) fail("the length told", expected, length);
 }
 
 /* The writer, lent so many bytes, answers by the length alone; a refusal keeps every byte, and so do those behind what is lent or written. */
 static void writes(size_t lent) {
-    uint64_t fits = expected <= lent && expected <= FILE_BYTES;
-    size_t from = fits ? (size_t)expected : 0;
+    int fits = expected <= lent && expected <= FILE_BYTES;
+    uint64_t wanted = fits ? expected << 32 : ZHUL_DOES_NOT_FIT;
     memset(buffer, PATTERN, sizeof buffer);
     uint64_t answer = zhul_write(book, rules, buffer, lent);
-    if (answer != (fits ? expected << 32 : ZHUL_DOES_NOT_FIT)) fail("the writer's answer", answer);
-    for (size_t i = from; i < sizeof buffer; i++)
-        if (buffer[i] != PATTERN) fail("a byte that the writer has to keep", i);
+    if (answer != wanted) fail("the writer's answer", wanted, answer);
+    for (size_t i = fits ? (size_t)expected : 0; i < sizeof buffer; i++)
+        if (buffer[i] != PATTERN) fail("a byte that the writer has to keep", PATTERN, buffer[i]);
 }
 
 /* One edit that is accepted. Near the limit of a file each is followed by the length and by writes. */
@@ -54,7 +54,7 @@ static void edit(const char *format, ...) {
     int n = vsnprintf(line, sizeof line, format, list);
     va_end(list);
     uint64_t answer = zhul_edit((const uint8_t *)line, (size_t)n, book, table, ZHUL_TABLE_WORDS);
-    if (ZHUL_NUMBER(answer) != 0) fail(line, answer);
+    if (ZHUL_NUMBER(answer) != 0) fail(line, 0, ZHUL_NUMBER(answer));
     expected = line[0] == '+' ? expected + (uint64_t)n - 1 : expected - ((uint64_t)n - 1);
     if (expected > BUFFER) return;
     told();
@@ -73,10 +73,11 @@ static void load(void) {
     for (int u = 0; u < USERS; u++) put("user=u%011d\n", u);
     for (int r = 0; r < RULES; r++) put("rule=o%011d,user.a%011d={\"%012d\",\"%012d\"}AND NOT user.a%011d\n", r % OPERATIONS, r, r, r + 1, r);
     uint64_t answer = zhul_load((const uint8_t *)file, (size_t)expected, book, rules, table, ZHUL_TABLE_WORDS);
-    if (ZHUL_NUMBER(answer) != 0) fail("the load", answer);
+    if (ZHUL_NUMBER(answer) != 0) fail("the load", 0, ZHUL_NUMBER(answer));
     told();
     writes(BUFFER);
-    if (memcmp(buffer, file, (size_t)expected) != 0) fail("the file written is the one loaded", 0);
+    for (size_t i = 0; i < expected; i++)
+        if (buffer[i] != (uint8_t)file[i]) fail("a byte of the file that was loaded and is written", (uint8_t)file[i], buffer[i]);
 }
 
 /* Puts or takes every tie of a group: its parents have lower numbers, so that no circle is closed. */

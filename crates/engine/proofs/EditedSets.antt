@@ -1,24 +1,23 @@
 -- What an edit that gives the ledger's outcome does to the sets of a table: it changes the words of no holder that is neither the edited one nor below it,
 -- where it is refused those of none, and its count is that of the holders whose words changed. Assumes nothing.
 use Prim.Native.Nat.{ℕ}
-use mathlib.Core.Path.{_≡_, refl, sym, ap, subst, _∙_}
+use mathlib.Core.Path.{_≡_, refl, sym, ap, _∙_}
 use mathlib.Core.Bool.{Bool, true, false, not}
 use mathlib.Core.List.{List}
 use native.Mathlib.Omega.{arith}
-use lib.ListN.{length, replicate}
+use lib.ListN.{replicate}
 use lib.Dec.{eqb}
 use Rattle.model.specs.Notation.{if_then_else_, countOf, below}
 use Rattle.model.specs.Limits.{holderNumbers, setWords}
-use Rattle.model.specs.Numbers as refusal
 use Rattle.model.specs.Bytes.{Bytes}
 use Rattle.model.specs.Declarations.{Declarations, isHolder}
 use Rattle.model.specs.Ties.{Ties}
 use Rattle.model.specs.Table.{effectiveSet, storedSet, table, setIn}
 use Rattle.model.specs.State.{State}
-use Rattle.model.specs.Refusals.{wrongTable, editRefusal}
+use Rattle.model.specs.Refusals.{editRefusal}
 use Rattle.model.specs.Edits as model
 use Rattle.model.specs.Ledger as ledger
-use Rattle.model.specs.Ledger.{Call, Answer, Step, step, withTable, withoutTable, tableAfter, outcome}
+use Rattle.model.specs.Ledger.{Call, outcome}
 use Rattle.model.proofs.WordTables.{same-refl}
 use Rattle.model.proofs.Lists.{count-below}
 use Rattle.model.proofs.Ledger.{edit-standing, edit-elsewhere, refused-edit}
@@ -28,25 +27,7 @@ use Rattle.model.proofs.Changes.{setChanged, changes-exact}
 use Rattle.model.specs.Standing.{Standing}
 use Rattle.engine.specs.Calls.{Gives, Together}
 use Rattle.engine.specs.EditSteps.{SetsElsewhere}
-
--- the answer and the words after an edit, on a table of another length and on one of 1,024 words
-module _ (S : State) (words : List ℕ) (line : Bytes) (kept : tableAfter words S ≡ words) where
-  abbrev tableFor : Bool → State → List ℕ
-  tableFor b T = if b then words else table (T .declared) (T .ties)
-
-  abbrev stepFor : Bool → Step
-  stepFor b = if b then withoutTable S (Call.edit line) else withTable S (Call.edit line)
-
-  by-table : (P : Answer → List ℕ → List ℕ → Type 0) → P (ledger.edited refusal.wrongTable 0) words words
-      → P (ledger.edited (model.edit S line .number) (model.edit S line .changed)) (table (S .declared) (S .ties))
-      (table (model.edit S line .state .declared) (model.edit S line .state .ties))
-      → P (outcome S words (Call.edit line) .answer) words (outcome S words (Call.edit line) .words)
-  unfolding step tableAfter
-  by-table P wrong right = go (wrongTable (length words)) kept
-    where
-      go : (b : Bool) → tableFor b S ≡ words → P (stepFor b .answer) words (tableFor b (stepFor b .state))
-      go true k = wrong
-      go false k = subst (λ (w : List ℕ). P (stepFor false .answer) w (tableFor false (stepFor false .state))) k right
+use Rattle.engine.proofs.Outcomes.{edit-by-table}
 
 stored-same : (D E : Declarations) (T U : Ties) (k : ℕ) → E ≡ D → ((p : ℕ) → effectiveSet D U k p ≡ effectiveSet D T k p) → storedSet E U k ≡ storedSet D T k
 unfolding storedSet
@@ -78,7 +59,7 @@ module _ (line : Bytes) {S : State} {book words : List ℕ} {code : Bytes} {numb
   unfolding effectiveSet
   sets-elsewhere k h far =
       ap (λ (w : List ℕ). setIn w k) (sym (given .table))
-      ∙ by-table S words line (together .kept) (λ a w u. setIn u k ≡ setIn w k) refl
+      ∙ edit-by-table S words line (together .kept) (λ a w u T. setIn u k ≡ setIn w k) refl
       (set-in-table (model.edit S line .state .declared) (model.edit S line .state .ties) k h
       ∙ stored-same (S .declared) (model.edit S line .state .declared) (S .ties) (model.edit S line .state .ties) k (edit-declared S line) (λ p. edit-elsewhere S line k p far)
       ∙ sym (set-in-table (S .declared) (S .ties) k h))
@@ -87,7 +68,7 @@ module _ (line : Bytes) {S : State} {book words : List ℕ} {code : Bytes} {numb
   pub refused-sets : (number ≡ 0 → ⊥) → words′ ≡ words
   refused-sets refused =
       sym (given .table)
-      ∙ by-table S words line (together .kept) (λ a w u. a ≡ ledger.edited number changed → u ≡ w) (λ e. refl)
+      ∙ edit-by-table S words line (together .kept) (λ a w u T. a ≡ ledger.edited number changed → u ≡ w) (λ e. refl)
       (λ e.
       let n : model.edit S line .number ≡ number = cc in
       ap (λ (T : State). table (T .declared) (T .ties)) (refused-edit S line (λ z. refused (sym n ∙ z)) .0))
@@ -96,7 +77,7 @@ module _ (line : Bytes) {S : State} {book words : List ℕ} {code : Bytes} {numb
   -- the count is that of the holders whose four words differ
   pub sets-counted : changed ≡ countOf (setChanged words words′) (below holderNumbers)
   sets-counted =
-      by-table S words line (together .kept) (λ a w u. a ≡ ledger.edited number changed → changed ≡ countOf (setChanged w u) (below holderNumbers))
+      edit-by-table S words line (together .kept) (λ a w u T. a ≡ ledger.edited number changed → changed ≡ countOf (setChanged w u) (below holderNumbers))
       (λ e. let z : changed ≡ 0 = cc in z ∙ sym (none-changed words))
       (λ e. let n : changed ≡ model.edit S line .changed = cc in n ∙ count-exact (together .standing) line)
       (given .answered)

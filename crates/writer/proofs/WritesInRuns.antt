@@ -3,8 +3,7 @@
 -- file. Assumes nothing.
 use Prim.Native.Nat.{ℕ, suc}
 use mathlib.Core.Path.{_≡_, refl, sym, ap, subst, _∙_}
-use mathlib.Core.Logic.{_⊎_, inl, inr, ⊎-elim, _↔_}
-use mathlib.Core.Bool.{Bool, true, false}
+use mathlib.Core.Logic.{_⊎_, _↔_}
 use mathlib.Core.List.{List, [], _∷_, _++_, List·Memᴰ·head as here, List·Memᴰ·tail as there}
 use native.Mathlib.Omega.{arith}
 use lib.ListN.{length, take, drop}
@@ -12,7 +11,6 @@ use Rattle.model.specs.Limits.{tableWords}
 use Rattle.model.specs.Numbers as refusal
 use Rattle.model.specs.Bytes.{Bytes}
 use Rattle.model.specs.State.{State, empty}
-use Rattle.model.specs.Refusals.{wrongTable}
 use Rattle.model.specs.Edits.{edit}
 use Rattle.model.specs.Ledger.{Call, Answer, Outcome, outcome, ledgerFrom, ledger}
 use Rattle.model.specs.FileText.{FileWritten, fileLines, fileText, writeFile, writtenLength}
@@ -25,7 +23,7 @@ use Rattle.model.proofs.Writer.{writtenBytes, TooLong, Fits}
 use Rattle.book.specs.Held.{Holds}
 use Rattle.engine.specs.Calls.{Gives}
 use Rattle.engine.specs.Runs.{Memory, Does, Leads, endState}
-use Rattle.engine.proofs.Outcomes.{outcome-by}
+use Rattle.engine.proofs.Outcomes.{edit-by-table}
 use Rattle.engine.proofs.Runs.{does-gives, leads-together, leads-where-the-ledger-ends}
 use Rattle.writer.specs.WriteCalls.{written, WriteCall, LengthCall}
 
@@ -141,41 +139,32 @@ module _ {first : Memory} {calls : List Call} {S : State} {lent : Memory} (run :
 
 -- ---- an edit between two lengths
 
--- the number that an edit is answered
-abbrev editNumber : Answer → ℕ
-editNumber (Answer.loaded number line) = 0
-editNumber (Answer.edited number count) = number
-editNumber (Answer.decided d) = 0
-
 module _ {first : Memory} {calls : List Call} {S : State} {before after : Memory} {line : Bytes} {number changed : ℕ}
     (run : Leads first calls S before) (does : Does (Call.edit line) before (Answer.edited number changed) after)
     {told told′ : ℕ} (tells : LengthCall (before .book) (before .code) told) (tells′ : LengthCall (after .book) (after .code) told′) where
   abbrev next : Outcome
   next = outcome S (before .words) (Call.edit line)
 
-  -- the ledger's edit, or 1
-  edited-next : ((edit S line .number ≡ number) × (next .state ≡ edit S line .state)) ⊎ ((refusal.wrongTable ≡ number) × (next .state ≡ S))
-  edited-next = go (wrongTable (length (before .words))) refl
-    where
-      answered : editNumber (next .answer) ≡ number
-      answered = ap editNumber (does-gives (leads-together run) does .answered)
-
-      go : (b : Bool) → wrongTable (length (before .words)) ≡ b → ((edit S line .number ≡ number) × (next .state ≡ edit S line .state)) ⊎ ((refusal.wrongTable ≡ number) × (next .state ≡ S))
-      go true e = let o = outcome-by S (before .words) (Call.edit line) e in inr (sym (ap (λ (x : Outcome). editNumber (x .answer)) o) ∙ answered, ap (λ (x : Outcome). x .state) o)
-      go false e = let o = outcome-by S (before .words) (Call.edit line) e in inl (sym (ap (λ (x : Outcome). editNumber (x .answer)) o) ∙ answered, ap (λ (x : Outcome). x .state) o)
+  answered : next .answer ≡ Answer.edited number changed
+  answered = does-gives (leads-together run) does .answered
 
   told-next : told′ ≡ writtenLength (next .state)
   told-next = tells-state (Leads.from-there run does) tells′
 
   -- an accepted edit makes the file longer or shorter by just its line
   pub edit-in-run : number ≡ 0 → Moves line told told′
-  edit-in-run e = ⊎-elim
-      (λ (n, s). subst (λ (k : ℕ). Moves line k told′) (sym (tells-state run tells)) (subst (λ (k : ℕ). Moves line (writtenLength S) k) (sym (told-next ∙ ap (λ (T : State). writtenLength T) s))
-      (edit-moves (leads-together run .standing) line (n ∙ e))))
-      (λ (n, s). absurd (omega (arith, n, e)))
-      edited-next
+  edit-in-run accepted =
+      subst (λ (k : ℕ). Moves line k told′) (sym (tells-state run tells)) (subst (λ (k : ℕ). Moves line (writtenLength S) k) (sym told-next)
+      (edit-by-table S (before .words) line (leads-together run .kept) (λ a w u T. a ≡ Answer.edited number changed → Moves line (writtenLength S) (writtenLength T))
+      (λ e. let n : refusal.wrongTable ≡ number = cc in absurd (omega (arith, n, accepted)))
+      (λ e. let n : edit S line .number ≡ number = cc in edit-moves (leads-together run .standing) line (n ∙ accepted))
+      answered))
 
   -- and a refused one leaves it as it was
   pub refused-edit-in-run : (number ≡ 0 → ⊥) → told′ ≡ told
   refused-edit-in-run refused =
-      told-next ∙ ap (λ (T : State). writtenLength T) (⊎-elim (λ (n, s). s ∙ refused-edit S line (λ e. refused (sym n ∙ e)) .0) (λ (n, s). s) edited-next) ∙ sym (tells-state run tells)
+      told-next
+      ∙ edit-by-table S (before .words) line (leads-together run .kept) (λ a w u T. a ≡ Answer.edited number changed → writtenLength T ≡ writtenLength S) (λ e. refl)
+      (λ e. let n : edit S line .number ≡ number = cc in ap (λ (T : State). writtenLength T) (refused-edit S line (λ z. refused (sym n ∙ z)) .0))
+      answered
+      ∙ sym (tells-state run tells)
