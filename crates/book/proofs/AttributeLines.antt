@@ -10,7 +10,7 @@ use lib.Dec.{eqb, leb}
 use lib.ListN.{length, getD, set, length-set}
 use borrow.Author.Tests.{le-leb, lt-leb}
 use Rattle.model.specs.Notation.{isNone, nth}
-use Rattle.model.specs.Limits.{attributeLimit, pairLimit, holderNumbers}
+use Rattle.model.specs.Limits.{attributeLimit, pairLimit}
 use Rattle.model.specs.Numbers as refusal
 use Rattle.model.specs.Bytes.{Bytes}
 use Rattle.model.specs.Names.{isName}
@@ -31,7 +31,7 @@ use Rattle.index.specs.Index.{Row, Indexed, putRow}
 use Rattle.index.proofs.Relinking.{put-0, put-1, put-2, put-3, put-other}
 use Rattle.index.proofs.Listed.{indexed-same}
 use Rattle.book.specs.Sections as section
-use Rattle.book.specs.Sections.{Section, sectionWords}
+use Rattle.book.specs.Sections.{Section, sectionWords, bookHolders}
 use Rattle.book.specs.Held.{CountsOf, OperationRows, SortRows, RuleRows, Holds, pairRow, holderRow}
 use Rattle.book.specs.Declaring.{attributePlace, blockText, attributePut, AttributeStep}
 use Rattle.book.proofs.Writes.{apart, word-beside, word-inside, section-long, section-word, word-at}
@@ -181,6 +181,7 @@ attribute-held book code S s n t k held well at few =
     let high = packedOf n .high in
     let beside = put-beside book k (sourceCode s) (typeCode t) low high few in
     record {
+      edition = held .edition;
       long = put-long book k (sourceCode s) (typeCode t) low high few ∙ held .long;
       code-long = held .code-long;
       counts =
@@ -193,7 +194,7 @@ attribute-held book code S s n t k held well at few =
       pairs =
           subst (λ (w : List ℕ). Indexed w pairLimit (pairRow E)) (sym (beside section.pairs refl refl))
           (indexed-same (pairRow D) (pairRow E) (same-pair-rows D a well) (held .pairs));
-      holders = subst (λ (w : List ℕ). Indexed w holderNumbers (holderRow E)) (sym (beside section.holders refl refl)) (held .holders);
+      holders = subst (λ (w : List ℕ). Indexed w bookHolders (holderRow E)) (sym (beside section.holders refl refl)) (held .holders);
       sorts = subst (λ (w : List ℕ). SortRows w E) (sym (beside section.sorts refl refl)) (sorts-kept D E refl (sectionWords section.sorts book) (held .sorts));
       groups = rw (beside section.slots refl refl, beside section.seats refl refl) (groups-kept D E refl _ _ (held .groups));
       ties = rw (beside section.ups refl refl, beside section.own refl refl, beside section.slots refl refl) (held .ties);

@@ -7,6 +7,7 @@ use native.Mathlib.Decide.{ℕ-discrete, decLt}
 use native.Mathlib.Omega.{arith}
 use lib.ListN.{length, getD, set, List·getD-eq-default}
 use lib.Seq.{getD-set-same, getD-set-other}
+use Rattle.model.specs.Limits.{Edition}
 use Rattle.model.specs.Bytes.{Bytes, bytes}
 use Rattle.model.specs.Declarations.{Declarations, Sort, holderNumbersOf, groups, sortOf}
 use Rattle.model.specs.Ties.{noTies}
@@ -46,7 +47,7 @@ zero-all words i h f k = go (decLt k i)
 -- ---- a book of zeros holds no declarations, not even holder 0
 
 abbrev nobody : Declarations
-nobody = record { attributes = []; operations = []; pairs = []; holders = []; rules = [] }
+nobody = record { edition = Edition.first; attributes = []; operations = []; pairs = []; holders = []; rules = [] }
 
 module _ (book : List ℕ) (long : length book ≡ bookWords) (zeros : (i : ℕ) → getD book i 0 ≡ 0) where
   zero-part : (s : Section) → s .start + s .size ≤ length book → (i : ℕ) → getD (sectionWords s book) i 0 ≡ 0
@@ -61,6 +62,7 @@ module _ (book : List ℕ) (long : length book ≡ bookWords) (zeros : (i : ℕ)
   zeros-held code code-long =
       let word = zero-part in
       record {
+        edition = refl;
         long = long;
         code-long = code-long;
         counts =

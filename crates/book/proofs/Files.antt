@@ -10,11 +10,11 @@ use lib.ListN.{length, take, drop, length-append, length-drop, take-append-drop}
 use lib.Seq.{take-at, drop-drop, take-all, length-take-le}
 use borrow.Author.Tests.{eqb-true, eq-eqb, ne-eqb, lt-ltb, le-ltb, not-true, not-false}
 use Rattle.model.specs.Notation.{if_then_else_, _>>=_, isNone}
-use Rattle.model.specs.Limits.{fileBytes}
+use Rattle.model.specs.Limits.{Edition, fileBytes}
 use Rattle.model.specs.Numbers as refusal
 use Rattle.model.specs.Bytes.{Bytes, newline, cut, begun, linesOf, behind, same}
 use Rattle.model.specs.Keys.{Key}
-use Rattle.model.specs.Lines.{Line, readLine}
+use Rattle.model.specs.Lines.{firstLine, namedEdition, Line, readLine}
 use Rattle.model.specs.State.{State, empty}
 use Rattle.model.specs.Refusals.{tooLong, wrongFirstLine, lineRefusal}
 use Rattle.model.specs.Load.{Loaded, refusedAt, stepped, keyOf, readOn, otherLines, load}
@@ -22,7 +22,6 @@ use Rattle.model.specs.Standing.{Standing}
 use Rattle.model.proofs.WordTables.{none-is-some, same-eq}
 use Rattle.model.proofs.Options.{is-there, bind-some, fields}
 use Rattle.model.proofs.Cuts.{lacks, behind-parts, behind-joined, cut-joined, cut-parts}
-use Rattle.model.proofs.Loads.{firstLine}
 use Rattle.model.proofs.Ledger.{accepted-line}
 use Rattle.model.proofs.Standing.{empty-standing, after-standing}
 use Rattle.codes.specs.Codes.{coded, keyCode}
@@ -34,26 +33,26 @@ use Rattle.book.specs.LineSteps.{LineRead, FirstLine, LoadedAs, OthersRe
 -- ---- the first line
 
 pub first-wrong : (file : Bytes) → length file < 9 → false ≡ not (wrongFirstLine file)
-unfolding wrongFirstLine
-first-wrong file short = go (behind firstLine file) refl
+unfolding wrongFirstLine namedEdition
+first-wrong file short = go (behind (firstLine Edition.first) file) refl
   where
-    go : (o : Option Bytes) → behind firstLine file ≡ o → false ≡ not (isNone o)
+    go : (o : Option Bytes) → behind (firstLine Edition.first) file ≡ o → false ≡ not (isNone o)
     go none e = refl
-    go (some r) e = absurd (omega (arith, ap length (behind-parts firstLine file e)))
+    go (some r) e = absurd (omega (arith, ap length (behind-parts (firstLine Edition.first) file e)))
 
-pub first-compared : (file : Bytes) → 9 ≤ length file → same (take 9 file) firstLine ≡ not (wrongFirstLine file)
-unfolding wrongFirstLine
-first-compared file long = go (same (take 9 file) firstLine) refl
+pub first-compared : (file : Bytes) → 9 ≤ length file → same (take 9 file) (firstLine Edition.first) ≡ not (wrongFirstLine file)
+unfolding wrongFirstLine namedEdition
+first-compared file long = go (same (take 9 file) (firstLine Edition.first)) refl
   where
-    go : (b : Bool) → same (take 9 file) firstLine ≡ b → b ≡ not (isNone (behind firstLine file))
+    go : (b : Bool) → same (take 9 file) (firstLine Edition.first) ≡ b → b ≡ not (isNone (behind (firstLine Edition.first) file))
     go true e =
-        let whole : file ≡ firstLine ++ drop 9 file = sym (take-append-drop 9 file) ∙ ap (λ (l : Bytes). l ++ drop 9 file) (same-eq (take 9 file) firstLine e) in
-        sym (ap (λ (s : Bytes). not (isNone (behind firstLine s))) whole ∙ ap (λ (o : Option Bytes). not (isNone o)) (behind-joined firstLine (drop 9 file)))
-    go false e = other (behind firstLine file) refl
+        let whole : file ≡ firstLine Edition.first ++ drop 9 file = sym (take-append-drop 9 file) ∙ ap (λ (l : Bytes). l ++ drop 9 file) (same-eq (take 9 file) (firstLine Edition.first) e) in
+        sym (ap (λ (s : Bytes). not (isNone (behind (firstLine Edition.first) s))) whole ∙ ap (λ (o : Option Bytes). not (isNone o)) (behind-joined (firstLine Edition.first) (drop 9 file)))
+    go false e = other (behind (firstLine Edition.first) file) refl
       where
-        other : (o : Option Bytes) → behind firstLine file ≡ o → false ≡ not (isNone o)
+        other : (o : Option Bytes) → behind (firstLine Edition.first) file ≡ o → false ≡ not (isNone o)
         other none f = refl
-        other (some r) f = sym e ∙ ap (λ (s : Bytes). same (take 9 s) firstLine) (behind-parts firstLine file f)
+        other (some r) f = sym e ∙ ap (λ (s : Bytes). same (take 9 s) (firstLine Edition.first)) (behind-parts (firstLine Edition.first) file f)
 
 -- what the test of the first line says
 module _ (file : Bytes) (b : Bool) (test : b ≡ not (wrongFirstLine file)) where
@@ -64,17 +63,17 @@ module _ (file : Bytes) (b : Bool) (test : b ≡ not (wrongFirstLine file)) wher
   first-passes e = not-true (wrongFirstLine file) (sym test ∙ not-false b e)
 
 pub first-long : (file : Bytes) → wrongFirstLine file ≡ false → 9 ≤ length file
-unfolding wrongFirstLine
+unfolding wrongFirstLine namedEdition
 first-long file e =
-    let (r, p) = is-there (behind firstLine file) e in
-    omega (arith, ap length (behind-parts firstLine file p))
+    let (r, p) = is-there (behind (firstLine Edition.first) file) e in
+    omega (arith, ap length (behind-parts (firstLine Edition.first) file p))
 
 -- behind it stand the other lines
 pub other-lines : (file : Bytes) → wrongFirstLine file ≡ false → otherLines (linesOf file) ≡ linesOf (drop 9 file)
-unfolding wrongFirstLine
+unfolding wrongFirstLine namedEdition
 other-lines file e =
-    let (r, p) = is-there (behind firstLine file) e in
-    subst (λ (s : Bytes). otherLines (linesOf s) ≡ linesOf (drop 9 s)) (sym (behind-parts firstLine file p)) refl
+    let (r, p) = is-there (behind (firstLine Edition.first) file) e in
+    subst (λ (s : Bytes). otherLines (linesOf s) ≡ linesOf (drop 9 s)) (sym (behind-parts (firstLine Edition.first) file p)) refl
 
 -- ---- the length of a line
 
@@ -165,10 +164,10 @@ pub record Onward (answer : Loaded) (book : List ℕ) (code : Bytes) (previous n
   pub standing : Standing state
   pub held : Holds book code state
   pub key-is : previous ≡ coded keyCode key
-  pub goes-on : answer ≡ readOn state key n (linesOf rest)
+  pub goes-on : answer ≡ readOn Edition.first state key n (linesOf rest)
 
-pub onward-starts : (book : List ℕ) (code rest : Bytes) → Holds book code empty → Onward (readOn empty none 1 (linesOf rest)) book code 0 1 rest
-onward-starts book code rest held = record { state = empty; key = none; standing = empty-standing; held = held; key-is = refl; goes-on = refl }
+pub onward-starts : (book : List ℕ) (code rest : Bytes) → Holds book code (empty Edition.first) → Onward (readOn Edition.first (empty Edition.first) none 1 (linesOf rest)) book code 0 1 rest
+onward-starts book code rest held = record { state = empty Edition.first; key = none; standing = empty-standing Edition.first; held = held; key-is = refl; goes-on = refl }
 
 -- the state behind an accepted line stands
 stands-on : (S : State) (p : Option Key) (line : Bytes) → Standing S → lineRefusal S p line ≡ 0 → (o : Option Line) → readLine line ≡ o → Standing (stepped S o)
@@ -179,7 +178,7 @@ module _ {answer : Loaded} {book : List ℕ} {code : Bytes} {previous n : ℕ} {
   pub onward-ends : rest ≡ [] → LoadedAs answer book code 0 n
   unfolding readOn
   onward-ends e =
-      let last : answer ≡ record { number = 0; line = n; state = on .state } = on .goes-on ∙ ap (λ (s : Bytes). readOn (on .state) (on .key) n (linesOf s)) e in
+      let last : answer ≡ record { number = 0; line = n; state = on .state } = on .goes-on ∙ ap (λ (s : Bytes). readOn Edition.first (on .state) (on .key) n (linesOf s)) e in
       record {
         number-is = ap (λ (a : Loaded). a .number) (sym last);
         line-is = ap (λ (a : Loaded). a .line) (sym last);
@@ -192,13 +191,13 @@ module _ {answer : Loaded} {book : List ℕ} {code : Bytes} {previous n : ℕ} {
         × (number ≡ 0 → Holds book′ code′ (stepped (on .state) (readLine (take r rest))) × (key ≡ coded keyCode (keyOf (take r rest))))
     told = read (on .state) (on .standing) (on .held) (on .key) (on .key-is)
 
-    begins-with : answer ≡ readOn (on .state) (on .key) n (take r rest ∷ linesOf (drop r rest))
-    begins-with = on .goes-on ∙ ap (readOn (on .state) (on .key) n) (first .lines some-left .1)
+    begins-with : answer ≡ readOn Edition.first (on .state) (on .key) n (take r rest ∷ linesOf (drop r rest))
+    begins-with = on .goes-on ∙ ap (readOn Edition.first (on .state) (on .key) n) (first .lines some-left .1)
 
     pub onward-refused : (number ≡ 0 → ⊥) → (line : ℕ) → line ≡ n + 1 → LoadedAs answer book′ code′ number line
     unfolding readOn
     onward-refused other line at =
-        let refused : answer ≡ refusedAt number (suc n) = begins-with ∙ rw (sym (told .0), ne-eqb number 0 other) in
+        let refused : answer ≡ refusedAt Edition.first number (suc n) = begins-with ∙ rw (sym (told .0), ne-eqb number 0 other) in
         record {
           number-is = ap (λ (a : Loaded). a .number) (sym refused);
           line-is = omega (arith, at, ap (λ (a : Loaded). a .line) refused);
@@ -218,7 +217,7 @@ module _ {answer : Loaded} {book : List ℕ} {code : Bytes} {previous n : ℕ} {
           key-is = told .1 e .1;
           goes-on =
               begins-with ∙ (rw (eq-eqb (lineRefusal (on .state) (on .key) (take r rest)) 0 zero-is))
-              ∙ ap (λ (m : ℕ). readOn (stepped (on .state) (readLine (take r rest))) (keyOf (take r rest)) m (linesOf (drop r rest))) (sym z);
+              ∙ ap (λ (m : ℕ). readOn Edition.first (stepped (on .state) (readLine (take r rest))) (keyOf (take r rest)) m (linesOf (drop r rest))) (sym z);
         }
 
 -- the same at a place of the bytes, with the parts that the code lends
@@ -256,21 +255,21 @@ module _ (answer : Loaded) (book : List ℕ) (code : Bytes) (previous n at : ℕ
 -- ---- the whole file
 
 pub file-long : (file : Bytes) (book : List ℕ) (code : Bytes) → fileBytes < length file → LoadedAs (load file) book code 2 0
-unfolding load tooLong
+unfolding load tooLong namedEdition
 file-long file book code l =
-    let e : load file ≡ refusedAt refusal.tooLong 0 = rw (lt-ltb fileBytes (length file) l) in
+    let e : load file ≡ refusedAt Edition.first refusal.tooLong 0 = rw (lt-ltb fileBytes (length file) l) in
     record { number-is = ap (λ (a : Loaded). a .number) (sym e); line-is = ap (λ (a : Loaded). a .line) (sym e); holds = λ z. absurd (omega arith) }
 
 pub file-begun-wrong : (file : Bytes) (book : List ℕ) (code : Bytes) → length file ≤ fileBytes → wrongFirstLine file ≡ true → LoadedAs (load file) book code 3 1
-unfolding load tooLong
+unfolding load tooLong namedEdition
 file-begun-wrong file book code l w =
-    let e : load file ≡ refusedAt refusal.wrongFirstLine 1 = rw (le-ltb fileBytes (length file) l, w) in
+    let e : load file ≡ refusedAt Edition.first refusal.wrongFirstLine 1 = rw (le-ltb fileBytes (length file) l, w) in
     record { number-is = ap (λ (a : Loaded). a .number) (sym e); line-is = ap (λ (a : Loaded). a .line) (sym e); holds = λ z. absurd (omega arith) }
 
-pub file-read : (file : Bytes) (book book′ : List ℕ) (code code′ : Bytes) (number line : ℕ) → length file ≤ fileBytes → wrongFirstLine file ≡ false → Holds book code empty
+pub file-read : (file : Bytes) (book book′ : List ℕ) (code code′ : Bytes) (number line : ℕ) → length file ≤ fileBytes → wrongFirstLine file ≡ false → Holds book code (empty Edition.first)
     → OthersRead book code (take (length file - 9) (drop 9 file)) book′ code′ number line → LoadedAs (load file) book′ code′ number line
-unfolding load tooLong
+unfolding load tooLong namedEdition
 file-read file book book′ code code′ number line l w held others =
-    let e : load file ≡ readOn empty none 1 (linesOf (take (length file - 9) (drop 9 file))) =
-    rw (le-ltb fileBytes (length file) l, w) (ap (readOn empty none 1) (other-lines file w ∙ ap linesOf (sym (tail-part 9 file)))) in
+    let e : load file ≡ readOn Edition.first (empty Edition.first) none 1 (linesOf (take (length file - 9) (drop 9 file))) =
+    rw (le-ltb fileBytes (length file) l, w) (ap (readOn Edition.first (empty Edition.first) none 1) (other-lines file w ∙ ap linesOf (sym (tail-part 9 file)))) in
     subst (λ (a : Loaded). LoadedAs a book′ code′ number line) (sym e) (others held)

@@ -12,7 +12,7 @@ use lib.Dec.{eqb, ltb}
 use lib.ListN.{length, getD}
 use borrow.Author.Tests.{lt-ltb, le-ltb, eqb-true, eq-eqb, ne-eqb}
 use Rattle.model.specs.Notation.{_>>=_, nth, find, onlyIf}
-use Rattle.model.specs.Limits.{operationLimit, pairLimit, holderNumbers}
+use Rattle.model.specs.Limits.{operationLimit, pairLimit}
 use Rattle.model.specs.Bytes.{Bytes, same}
 use Rattle.model.specs.Names.{isName}
 use Rattle.model.specs.Atoms.{sameAtom}
@@ -34,6 +34,7 @@ use Rattle.rows.proofs.FirstPlaces.{place-none, place-first}
 use Rattle.rows.proofs.RowsOfAttributes.{number-injective}
 use Rattle.index.specs.Index.{Row, RowFound, FindsRow, rowsOf}
 use Rattle.index.proofs.Listed.{place-found, indexed-same}
+use Rattle.book.specs.Sections.{bookHolders}
 use Rattle.book.specs.Held.{OperationRows, pairRow, holderRow}
 use Rattle.book.specs.Finding.{HolderFound, OperationFound, PairFound}
 
@@ -62,14 +63,14 @@ module _ (section : List ℕ) (low high r : ℕ) (finds : FindsRow section (1, l
   unfolding holderNumber
   holder-found D well ix n name words = go (eq-or-lt-of-le (found .within))
     where
-      found : RowFound (holderRow D) holderNumbers (1, low, high, 0) r
-      found = finds .exact holderNumbers (holderRow D) ix
+      found : RowFound (holderRow D) bookHolders (1, low, high, 0) r
+      found = finds .exact bookHolders (holderRow D) ix
 
       here : (k : ℕ) (h : Holder) → holderOf D k ≡ some h → same (h .name) n ≡ true → holderRow D k ≡ some (1, low, high, 0)
       here k h e f = rw e (ap (λ (p : Packed). some (1, p .low, p .high, 0)) (ap packedOf (same-eq (h .name) n f) ∙ words))
 
       -- the holder that is found by its name
-      by-name : (o : Option Holder) → find (λ h. same (h .name) n) (D .holders) ≡ o → (r ≡ holderNumbers) ⊎ (r < holderNumbers) → r ≡ numberOr holderNumbers (o >>= λ h. some (h .number))
+      by-name : (o : Option Holder) → find (λ h. same (h .name) n) (D .holders) ≡ o → (r ≡ bookHolders) ⊎ (r < bookHolders) → r ≡ numberOr bookHolders (o >>= λ h. some (h .number))
       by-name none e (inl z) = z
       by-name none e (inr l) =
           let (h, f, g) = bind-some (holderOf D r) (λ h. some (1, packedOf (h .name) .low, packedOf (h .name) .high, 0)) (found .here l) in
@@ -82,7 +83,7 @@ module _ (section : List ℕ) (low high r : ℕ) (finds : FindsRow section (1, l
           let there = number-found (λ h. h .number) (D .holders) (well .holders .ordered) m in
           at h there f z
         where
-          at : (h : Holder) → holderOf D (h .number) ≡ some h → same (h .name) n ≡ true → (r ≡ holderNumbers) ⊎ (r < holderNumbers) → r ≡ h .number
+          at : (h : Holder) → holderOf D (h .number) ≡ some h → same (h .name) n ≡ true → (r ≡ bookHolders) ⊎ (r < bookHolders) → r ≡ h .number
           at h e f (inl z) = absurd (found .nowhere z (h .number) (here (h .number) h e f))
           at h e f (inr l) =
               let (g, u, v) = bind-some (holderOf D r) (λ h. some (1, packedOf (h .name) .low, packedOf (h .name) .high, 0)) (found .here l) in
@@ -90,7 +91,7 @@ module _ (section : List ℕ) (low high r : ℕ) (finds : FindsRow section (1, l
               let s = packed-name (g .name) n (well .holders .named r g u) name (ap (λ (w : Row). w .1) w ∙ sym (ap (λ (p : Packed). p .low) words)) (ap (λ (w : Row). w .2) w ∙ sym (ap (λ (p : Packed). p .high) words)) in
               well .holders .unique r (h .number) g h u e (rw (same-eq (g .name) n s, same-eq (h .name) n f) (same-refl n))
 
-      go : (r ≡ holderNumbers) ⊎ (r < holderNumbers) → r ≡ numberOr holderNumbers (find (λ h. same (h .name) n) (D .holders) >>= λ h. some (h .number))
+      go : (r ≡ bookHolders) ⊎ (r < bookHolders) → r ≡ numberOr bookHolders (find (λ h. same (h .name) n) (D .holders) >>= λ h. some (h .number))
       go z = by-name (find (λ h. same (h .name) n) (D .holders)) refl z
 
 -- ---- pairs

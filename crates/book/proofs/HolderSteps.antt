@@ -18,14 +18,15 @@ use Rattle.model.specs.Lines.{holder}
 use Rattle.model.specs.State.{State, after}
 use Rattle.model.specs.Standing.{Standing}
 use Rattle.model.proofs.Declared.{next-free}
-use Rattle.model.proofs.Standing.{numbers-length, holder-fits, named-holder}
+use Rattle.model.proofs.Standing.{numbers-length, named-holder}
 use Rattle.text.specs.declared.Packed.{Packed}
 use Rattle.text.specs.Packing.{packedOf}
 use Rattle.book.specs.Sections as section
-use Rattle.book.specs.Sections.{sectionWords}
+use Rattle.book.specs.Sections.{sectionWords, bookHolders}
 use Rattle.book.specs.Held.{Holds, sortCode}
 use Rattle.book.specs.Finding.{HolderFound}
 use Rattle.book.specs.Declaring.{HolderPut, groupPut, HolderStep}
+use Rattle.book.proofs.HeldNumbers.{holder-in-book}
 use Rattle.book.proofs.Writes.{section-word}
 use Rattle.book.proofs.Holders.{holder-held, group-held}
 use Rattle.book.proofs.DeclarationTests.{test-repeated, test-full, accepted, number-there, number-nowhere}
@@ -39,17 +40,17 @@ group-code Sort.user e = refl
 group-code Sort.object e = refl
 
 module _ (book : List ℕ) (key low high k : ℕ) (found : HolderFound (sectionWords section.holders book) low high k) where
-  pub holder-repeated : (k ≡ holderNumbers → ⊥) → HolderStep book key low high book refusal.repeated
+  pub holder-repeated : (k ≡ bookHolders → ⊥) → HolderStep book key low high book refusal.repeated
   holder-repeated other code s n sort name from words S standing held =
       let e = found (S .declared) (standing .declarations) (held .holders) n name words in
-      (test-repeated S (holder s n) refl refl refl refl (number-there holderNumbers (holderNumber (S .declared) n) k e other), λ z. absurd (omega arith))
+      (test-repeated S (holder s n) refl refl refl refl (number-there bookHolders (holderNumber (S .declared) n) k e other), λ z. absurd (omega arith))
 
-  module _ (free : k ≡ holderNumbers) (m : ℕ) (count : m ≡ getD book 3 0) where
+  module _ (free : k ≡ bookHolders) (m : ℕ) (count : m ≡ getD book 3 0) where
     new : (n : Bytes) → isName n ≡ true → packedOf n ≡ record { low = low; high = high } → (code : Bytes) (S : State) → Standing S → Holds book code S
         → not (isNone (holderNumber (S .declared) n)) ≡ false
     new n name words code S standing held =
         ap (λ (o : Option ℕ). not (isNone o))
-        (number-nowhere holderNumbers (holderNumber (S .declared) n) k (λ j f. holder-fits standing j (rw (named-holder (standing .declarations) n j f .1) refl))
+        (number-nowhere bookHolders (holderNumber (S .declared) n) k (λ j f. holder-in-book standing held j (rw (named-holder (standing .declarations) n j f .1) refl))
         (found (S .declared) (standing .declarations) (held .holders) n name words) free)
 
     counted : (code : Bytes) (S : State) → Holds book code S → m ≡ length (holderNumbersOf (S .declared))
@@ -58,21 +59,21 @@ module _ (book : List ℕ) (key low high k : ℕ) (found : HolderFound (sectionW
     numbered : (code : Bytes) (S : State) → Holds book code S → m ≡ length (S .declared .holders)
     numbered code S held = counted code S held ∙ numbers-length (S .declared)
 
-    pub holder-full : holderNumbers ≤ m → HolderStep book key low high book refusal.full
+    pub holder-full : bookHolders ≤ m → HolderStep book key low high book refusal.full
     holder-full over code s n sort name from words S standing held =
         let at = counted code S held in (
           test-full S (holder s n) refl refl refl refl (new n name words code S standing held)
-              (ap (λ (t : Bool). t || (isGroup s && leb groupLimit (groups (S .declared)))) (le-leb holderNumbers (length (holderNumbersOf (S .declared))) (omega arith))),
+              (ap (λ (t : Bool). t || (isGroup s && leb groupLimit (groups (S .declared)))) (le-leb (holderNumbers (S .declared .edition)) (length (holderNumbersOf (S .declared))) (omega (arith, ap holderNumbers (held .edition))))),
           λ z. absurd (omega arith),
         )
 
-    module _ (few : m < holderNumbers) where
+    module _ (few : m < bookHolders) where
       -- room for holders leaves the groups to be looked at
       room : (code : Bytes) (s : Sort) (S : State) → Holds book code S → (t : Bool) → (isGroup s && leb groupLimit (groups (S .declared))) ≡ t
-          → (leb holderNumbers (length (holderNumbersOf (S .declared))) || (isGroup s && leb groupLimit (groups (S .declared)))) ≡ t
+          → (leb (holderNumbers (S .declared .edition)) (length (holderNumbersOf (S .declared))) || (isGroup s && leb groupLimit (groups (S .declared)))) ≡ t
       room code s S held t e =
           let at = counted code S held in
-          ap₂ (λ (x y : Bool). x || y) (lt-leb holderNumbers (length (holderNumbersOf (S .declared))) (omega arith)) e
+          ap₂ (λ (x y : Bool). x || y) (lt-leb (holderNumbers (S .declared .edition)) (length (holderNumbersOf (S .declared))) (omega (arith, ap holderNumbers (held .edition)))) e
 
       -- what was put, in the terms of the line
       told : (s : Sort) (n : Bytes) → key ≡ sortCode s → packedOf n ≡ record { low = low; high = high } → {next : List ℕ} → HolderPut book m key low high next

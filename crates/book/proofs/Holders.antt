@@ -11,7 +11,7 @@ use lib.Seq.{getD-set-same, getD-set-other}
 use lib.Dec.{ltb}
 use borrow.Author.Tests.{eq-eqb, ne-eqb}
 use Rattle.model.specs.Notation.{if_then_else_, _>>=_}
-use Rattle.model.specs.Limits.{pairLimit, holderNumbers, groupLimit}
+use Rattle.model.specs.Limits.{pairLimit, groupLimit}
 use Rattle.model.specs.Bytes.{Bytes}
 use Rattle.model.specs.Declarations.{Declarations, Holder, Sort, attributeNumber, operationNumber, holderOf, holderNumbersOf, isGroup, groups, sortOf}
 use Rattle.model.specs.Ties.{Ties}
@@ -27,7 +27,7 @@ use Rattle.index.proofs.Listed.{indexed-same}
 use Rattle.ties.specs.TieArrays.{inUse, KeepsTies}
 use Rattle.ties.proofs.Editing.{slot-given}
 use Rattle.book.specs.Sections as section
-use Rattle.book.specs.Sections.{Section, sectionWords, bookWords}
+use Rattle.book.specs.Sections.{Section, sectionWords, bookWords, bookHolders}
 use Rattle.book.specs.Held.{CountsOf, OperationRows, SortRows, GroupSlots, RuleRows, Holds, pairRow, holderRow, sortCode}
 use Rattle.book.specs.Declaring.{withSection, holderPut, HolderPut, groupPut}
 use Rattle.book.proofs.Writes.{apart, word-beside, word-inside, section-beside, section-inside, section-long, section-same-length, word-at}
@@ -38,7 +38,7 @@ use Rattle.book.proofs.Kept.{NamesKnown, rules-kept, attributes-kept}
 abbrev rowOfName : ℕ → ℕ → Row
 rowOfName low high = (1, low, high, 0)
 
-module _ (book : List ℕ) (n sort : ℕ) (rows : List ℕ) (long : length book ≡ bookWords) (few : n < holderNumbers) (rows-long : length rows ≡ section.holders .size) where
+module _ (book : List ℕ) (n sort : ℕ) (rows : List ℕ) (long : length book ≡ bookWords) (few : n < bookHolders) (rows-long : length rows ≡ section.holders .size) where
   abbrev h1 : List ℕ
   h1 = withSection section.holders book rows
 
@@ -80,7 +80,7 @@ module _ (book : List ℕ) (n sort : ℕ) (rows : List ℕ) (long : length book 
   holder-long =
       length-set h2 3 (n + 1) ∙ length-set h1 (section.sorts .start + n) sort ∙ section-same-length section.holders book rows (omega arith) rows-long
 
-module _ (book : List ℕ) (n sort low high : ℕ) (long : length book ≡ bookWords) (few : n < holderNumbers) where
+module _ (book : List ℕ) (n sort low high : ℕ) (long : length book ≡ bookWords) (few : n < bookHolders) where
   put-long : {next : List ℕ} (put : HolderPut book n sort low high next) → length (put .rows) ≡ section.holders .size
   put-long put = put .row .long ∙ section-long section.holders book (omega arith)
 
@@ -99,7 +99,7 @@ module _ (book : List ℕ) (n sort low high : ℕ) (long : length book ≡ bookW
         ∙ section-same-length section.holders book t (omega arith) (adds .long ∙ section-long section.holders book (omega arith))
         ∙ long
 
-module _ (book : List ℕ) (n g : ℕ) (long : length book ≡ bookWords) (few : n < holderNumbers) (low : g < groupLimit) where
+module _ (book : List ℕ) (n g : ℕ) (long : length book ≡ bookWords) (few : n < bookHolders) (low : g < groupLimit) where
   abbrev slots : List ℕ
   slots = set (sectionWords section.slots book) g n
 
@@ -191,11 +191,11 @@ module _ (D : Declarations) (h : Holder) (free : holderOf D (h .number) ≡ none
   groups-one e = rw e at groups-more
 
   -- its row in the index, and its sort
-  rows-more : (s t : List ℕ) (n : ℕ) → n ≡ h .number → Added s t n (rowOfName (packedOf (h .name) .low) (packedOf (h .name) .high)) → Indexed s holderNumbers (holderRow D)
-      → Indexed t holderNumbers (holderRow E)
+  rows-more : (s t : List ℕ) (n : ℕ) → n ≡ h .number → Added s t n (rowOfName (packedOf (h .name) .low) (packedOf (h .name) .high)) → Indexed s bookHolders (holderRow D)
+      → Indexed t bookHolders (holderRow E)
   rows-more s t n at adds ix =
       indexed-same (withRow (holderRow D) n w) (holderRow E) same
-      (adds .index holderNumbers (holderRow D) ix (λ z. omega arith) (ap (λ (o : Option Holder). o >>= λ x. some (rowOfName (packedOf (x .name) .low) (packedOf (x .name) .high))) (ap (holderOf D) at ∙ free)))
+      (adds .index bookHolders (holderRow D) ix (λ z. omega arith) (ap (λ (o : Option Holder). o >>= λ x. some (rowOfName (packedOf (x .name) .low) (packedOf (x .name) .high))) (ap (holderOf D) at ∙ free)))
     where
       w : Row
       w = rowOfName (packedOf (h .name) .low) (packedOf (h .name) .high)
@@ -205,7 +205,7 @@ module _ (D : Declarations) (h : Holder) (free : holderOf D (h .number) ≡ none
           holder-with D h free k (λ o. withRow (holderRow D) n w k ≡ (o >>= λ x. some (rowOfName (packedOf (x .name) .low) (packedOf (x .name) .high))))
           (λ e. rw (eq-eqb k n (sym (at ∙ e))) refl) (λ e. rw (ne-eqb k n (λ z. e (sym (z ∙ at)))) refl)
 
-  sorts-more : (words : List ℕ) (n : ℕ) → length words ≡ holderNumbers → n ≡ h .number → n < holderNumbers → SortRows words D
+  sorts-more : (words : List ℕ) (n : ℕ) → length words ≡ bookHolders → n ≡ h .number → n < bookHolders → SortRows words D
       → SortRows (set words n (sortCode (h .sort))) E
   sorts-more words n long at few rows k l = go (ℕ-discrete k n)
     where
@@ -235,8 +235,8 @@ module _ (D : Declarations) (h : Holder) (free : holderOf D (h .number) ≡ none
           (q, a, omega (arith, groups-plain no-group), c)
 
   -- a group: it has the next slot
-  module _ (slots seats : List ℕ) (n q : ℕ) (is-group : isGroup (h .sort) ≡ true) (at : n ≡ h .number) (next : q ≡ groups D) (few : n < holderNumbers)
-      (low : q < groupLimit) (long : length slots ≡ groupLimit) (long′ : length seats ≡ holderNumbers) (g : GroupSlots slots seats D) where
+  module _ (slots seats : List ℕ) (n q : ℕ) (is-group : isGroup (h .sort) ≡ true) (at : n ≡ h .number) (next : q ≡ groups D) (few : n < bookHolders)
+      (low : q < groupLimit) (long : length slots ≡ groupLimit) (long′ : length seats ≡ bookHolders) (g : GroupSlots slots seats D) where
     slots-group : GroupSlots (set slots q n) (set seats n (q + 1)) E
     slots-group = record {
       seated = λ k s e i. sits k s e i (ℕ-discrete k n);
@@ -261,7 +261,7 @@ module _ (D : Declarations) (h : Holder) (free : holderOf D (h .number) ≡ none
               getD-set-other slots q r n 0 (λ y. omega arith) ∙ c,
             )
 
-        stands : (k : ℕ) → k < holderNumbers → ((s : Sort) → sortOf E k ≡ some s → isGroup s ≡ false) → Dec (k ≡ n) → getD (set seats n (q + 1)) k 0 ≡ 0
+        stands : (k : ℕ) → k < bookHolders → ((s : Sort) → sortOf E k ≡ some s → isGroup s ≡ false) → Dec (k ≡ n) → getD (set seats n (q + 1)) k 0 ≡ 0
         stands k l f (yes z) = absurd (true≢false (sym is-group ∙ f (h .sort) (ap (sortOf E) (z ∙ at) ∙ sort-new)))
         stands k l f (no z) =
             getD-set-other seats n k (q + 1) 0 z ∙ g .unseated k l (λ s e. f s (sort-old k (λ y. z (y ∙ sym at)) ∙ e))
@@ -327,19 +327,20 @@ record Grown (book next : List ℕ) (D : Declarations) (T : Ties) (h : Holder) (
   same : (s : Section) → apart s section.holders ≡ true → apart s section.sorts ≡ true → apart s section.counts ≡ true → apart s section.slots ≡ true
       → apart s section.seats ≡ true → sectionWords s next ≡ sectionWords s book
   counted : CountsOf (sectionWords section.counts next) (withHolder h D)
-  row : Indexed (sectionWords section.holders next) holderNumbers (holderRow (withHolder h D))
+  row : Indexed (sectionWords section.holders next) bookHolders (holderRow (withHolder h D))
   sort : sectionWords section.sorts next ≡ set (sectionWords section.sorts book) n (sortCode (h .sort))
   slotted : GroupSlots (sectionWords section.slots next) (sectionWords section.seats next) (withHolder h D)
   tied : KeepsTies (sectionWords section.ups next) (sectionWords section.own next) (sectionWords section.slots next) T
 
 grown-held : (book next : List ℕ) (code : Bytes) (D : Declarations) (T : Ties) (h : Holder) (n : ℕ) → Holds book code (record { declared = D; ties = T }) → NamesKnown D
-    → holderOf D (h .number) ≡ none → n ≡ h .number → n < holderNumbers → Grown book next D T h n → Holds next code (record { declared = withHolder h D; ties = T })
+    → holderOf D (h .number) ≡ none → n ≡ h .number → n < bookHolders → Grown book next D T h n → Holds next code (record { declared = withHolder h D; ties = T })
 unfolding attributeNumber operationNumber isPairOf
 grown-held book next code D T h n held known free at few grown =
     let E = withHolder h D in
     let long = held .long in
     let same = grown .same in
     record {
+      edition = held .edition;
       long = grown .size ∙ held .long;
       code-long = held .code-long;
       counts = grown .counted;
@@ -359,7 +360,7 @@ grown-held book next code D T h n held known free at few grown =
     }
 
 module _ (book : List ℕ) (code : Bytes) (D : Declarations) (T : Ties) (h : Holder) (n : ℕ) (held : Holds book code (record { declared = D; ties = T }))
-    (known : NamesKnown D) (free : holderOf D (h .number) ≡ none) (at : n ≡ h .number) (next-number : n ≡ length (D .holders)) (few : n < holderNumbers)
+    (known : NamesKnown D) (free : holderOf D (h .number) ≡ none) (at : n ≡ h .number) (next-number : n ≡ length (D .holders)) (few : n < bookHolders)
     (put : List ℕ) (wrote : HolderPut book n (sortCode (h .sort)) (packedOf (h .name) .low) (packedOf (h .name) .high) put) where
   long : length book ≡ bookWords
   long = held .long
@@ -385,7 +386,7 @@ module _ (book : List ℕ) (code : Bytes) (D : Declarations) (T : Ties) (h : Hol
   rows-are : sectionWords section.holders put ≡ wrote .rows
   rows-are = ap (sectionWords section.holders) (wrote .written) ∙ holder-row book n (sortCode (h .sort)) (wrote .rows) long few rows-long
 
-  indexed : Indexed (wrote .rows) holderNumbers (holderRow (withHolder h D))
+  indexed : Indexed (wrote .rows) bookHolders (holderRow (withHolder h D))
   indexed = rows-more D h free (sectionWords section.holders book) (wrote .rows) n at (wrote .row) (held .holders)
 
   -- one that is no group
@@ -397,7 +398,7 @@ module _ (book : List ℕ) (code : Bytes) (D : Declarations) (T : Ties) (h : Hol
         counted =
             subst (λ (w : List ℕ). CountsOf w (withHolder h D)) (sym counts-are)
             (counts-plain D h free (sectionWords section.counts book) n (omega (arith, long, section-long section.counts book (omega (arith, long)))) next-number no-group (held .counts));
-        row = subst (λ (w : List ℕ). Indexed w holderNumbers (holderRow (withHolder h D))) (sym rows-are) indexed;
+        row = subst (λ (w : List ℕ). Indexed w bookHolders (holderRow (withHolder h D))) (sym rows-are) indexed;
         sort = sorts-are;
         slotted =
             rw (beside section.slots refl refl refl, beside section.seats refl refl refl)
@@ -426,7 +427,7 @@ module _ (book : List ℕ) (code : Bytes) (D : Declarations) (T : Ties) (h : Hol
             subst (λ (w : List ℕ). CountsOf w (withHolder h D))
             (sym (group-count put n g long′ few low ∙ ap (λ (l : List ℕ). set l 4 (g + 1)) counts-are))
             (counts-group D h free (sectionWords section.counts book) n g (omega (arith, long, section-long section.counts book (omega (arith, long)))) next-number next is-group (held .counts));
-        row = subst (λ (w : List ℕ). Indexed w holderNumbers (holderRow (withHolder h D))) (sym (beside′ section.holders refl refl refl ∙ rows-are)) indexed;
+        row = subst (λ (w : List ℕ). Indexed w bookHolders (holderRow (withHolder h D))) (sym (beside′ section.holders refl refl refl ∙ rows-are)) indexed;
         sort = beside′ section.sorts refl refl refl ∙ sorts-are;
         slotted =
             rw (slots-are, seats-are)

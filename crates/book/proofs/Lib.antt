@@ -1,5 +1,6 @@
 -- Laws about the sections of a book, about what is found in them, about what they hold when a line declares more, about its ties, and about lines and files.
 pub mod Sections
+pub mod HeldNumbers
 pub mod Finding
 pub mod Writes
 pub mod Kept

@@ -143,6 +143,7 @@ operation-held book code S n k held known at few =
     let long = held .long in
     let beside = put-beside book k low high few in
     record {
+      edition = held .edition;
       long = put-long book k low high few ∙ held .long;
       code-long = held .code-long;
       counts =

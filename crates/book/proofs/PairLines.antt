@@ -11,7 +11,7 @@ use lib.ListN.{length, getD, set, length-set}
 use lib.Seq.{getD-set-other}
 use borrow.Author.Tests.{eq-eqb, ne-eqb, eqb-true}
 use Rattle.model.specs.Notation.{if_then_else_, _>>=_, _is_, nth}
-use Rattle.model.specs.Limits.{attributeLimit, pairLimit, holderNumbers, wordBits}
+use Rattle.model.specs.Limits.{attributeLimit, pairLimit, wordBits}
 use Rattle.model.specs.Bytes.{Bytes}
 use Rattle.model.specs.Declarations.{Declarations, Pair, attributeNumber, operationNumber, holderNumbersOf, groups}
 use Rattle.model.specs.Ties.{Ties}
@@ -26,7 +26,7 @@ use Rattle.rows.specs.Rows.{AttributeRows, isPairOf, masked}
 use Rattle.index.specs.Index.{Row, Indexed, Added, withRow}
 use Rattle.index.proofs.Listed.{indexed-same}
 use Rattle.book.specs.Sections as section
-use Rattle.book.specs.Sections.{Section, sectionWords, bookWords}
+use Rattle.book.specs.Sections.{Section, sectionWords, bookWords, bookHolders}
 use Rattle.book.specs.Held.{CountsOf, OperationRows, SortRows, RuleRows, Holds, pairRow, holderRow}
 use Rattle.book.specs.Declaring.{withSection, maskPlace, pairPut, PairPut}
 use Rattle.book.proofs.Writes.{apart, word-beside, word-inside, section-beside, section-inside, section-long, section-same-length, section-word, word-at}
@@ -245,6 +245,7 @@ pair-held book next code D T q n k held known number at few low put =
     let word : getD (sectionWords section.attributes book) (8 * k + 4 + n / 64) 0 ≡ getD book (maskPlace k n) 0 =
     section-word section.attributes book (8 * k + 4 + n / 64) (omega arith) in
     record {
+      edition = held .edition;
       long = ap length e ∙ put-long book n k mask (put .rows) long few low (rows-long long put) ∙ held .long;
       code-long = held .code-long;
       counts =
@@ -258,7 +259,7 @@ pair-held book next code D T q n k held known number at few low put =
       pairs =
           subst (λ (w : List ℕ). Indexed w pairLimit (pairRow E)) (sym (ap (sectionWords section.pairs) e ∙ put-row book n k mask (put .rows) long few low (rows-long long put)))
           (rows-more D q k n number at (sectionWords section.pairs book) (put .rows) (put .row) (held .pairs));
-      holders = subst (λ (w : List ℕ). Indexed w holderNumbers (holderRow E)) (sym (beside section.holders refl refl refl)) (held .holders);
+      holders = subst (λ (w : List ℕ). Indexed w bookHolders (holderRow E)) (sym (beside section.holders refl refl refl)) (held .holders);
       sorts = subst (λ (w : List ℕ). SortRows w E) (sym (beside section.sorts refl refl refl)) (sorts-kept D E refl (sectionWords section.sorts book) (held .sorts));
       groups = rw (beside section.slots refl refl refl, beside section.seats refl refl refl) (groups-kept D E refl _ _ (held .groups));
       ties = rw (beside section.ups refl refl refl, beside section.own refl refl refl, beside section.slots refl refl refl) (held .ties);

@@ -237,6 +237,7 @@ rule-held book code code′ S o ts k operation held size at few known kept here 
     let long = held .long in
     let beside = put-beside book k operation few in
     record {
+      edition = held .edition;
       long = put-long book k operation few ∙ held .long;
       code-long = size;
       counts =

@@ -10,7 +10,7 @@ use lib.ListN.{length, getD, drop}
 use lib.Seq.{getD-take, getD-drop}
 use borrow.Author.Tests.{ne-eqb}
 use borrow.Rule.Slice.PartMut.{putMid}
-use Rattle.model.specs.Limits.{pairLimit, holderNumbers, groupLimit}
+use Rattle.model.specs.Limits.{pairLimit, groupLimit}
 use Rattle.model.specs.Bytes.{Bytes}
 use Rattle.model.specs.Keys.{Key}
 use Rattle.model.specs.Ties.{Tie, Ties, added, removed}
@@ -23,7 +23,7 @@ use Rattle.bits.proofs.Sets.{holds-member}
 use Rattle.ties.specs.TieArrays.{inUse, tiedUp}
 use Rattle.ties.specs.TieEdits.{LeadsUp, AddedUp, TakenUp, AddedValue, TakenValue}
 use Rattle.book.specs.Sections as section
-use Rattle.book.specs.Sections.{Section, sectionWords, bookWords}
+use Rattle.book.specs.Sections.{Section, sectionWords, bookWords, bookHolders}
 use Rattle.book.specs.Held.{Holds}
 use Rattle.book.specs.TieSteps.{tieBy, SlotFound, TiesEdited, UpPut, UpTaken, ValuePut, ValueTaken, UpStands, ValueStands}
 use Rattle.book.proofs.TieSections.{part-size, unedited, ups-edited, own-edited}
@@ -63,17 +63,17 @@ word-at s book i l = getD-take (s .size) (drop (s .start) book) i 0 l ∙ getD-d
 
 module _ (book : List ℕ) (long : length book ≡ bookWords) (h g q : ℕ) (found : SlotFound book g q) where
   pub in-use-here : (S : State) (code : Bytes) → Standing S → Holds book code S → (t : Tie) → LeadsUp t h g → TieFits (S .declared) t
-      → (q < groupLimit) × (inUse holderNumbers (sectionWords section.slots book) q ≡ true) × (getD (sectionWords section.slots book) q 0 ≡ g)
-  in-use-here S code standing held t leads f = let u = up-fits standing t h g leads f in found S code standing held (u .sort) (u .sort-is) (u .group)
+      → (q < groupLimit) × (inUse bookHolders (sectionWords section.slots book) q ≡ true) × (getD (sectionWords section.slots book) q 0 ≡ g)
+  in-use-here S code standing held t leads f = let u = up-fits standing held t h g leads f in found S code standing held (u .sort) (u .sort-is) (u .group)
 
-  alive : inUse holderNumbers (sectionWords section.slots book) q ≡ true → inUse (length (sectionWords section.ups book)) (sectionWords section.slots book) q ≡ true
+  alive : inUse bookHolders (sectionWords section.slots book) q ≡ true → inUse (length (sectionWords section.ups book)) (sectionWords section.slots book) q ≡ true
   alive live = ap (λ (n : ℕ). inUse n (sectionWords section.slots book) q) (part-size section.ups book long (omega arith)) ∙ live
 
-  pub up-stands : (r : Bool) → h < holderNumbers → r ≡ bit (getD book (section.ups .start + h) 0) q → UpStands h g book r
+  pub up-stands : (r : Bool) → h < bookHolders → r ≡ bit (getD book (section.ups .start + h) 0) q → UpStands h g book r
   unfolding tiedUp
   up-stands r few e t leads S code standing held f =
       let u = in-use-here S code standing held t leads f in
-      e ∙ ap (λ (w : ℕ). bit w q) (sym (word-at section.ups book h few)) ∙ slot-bit standing held h g q few (u .0) (u .1) (u .2) ∙ one-kind standing t h g leads f
+      e ∙ ap (λ (w : ℕ). bit w q) (sym (word-at section.ups book h few)) ∙ slot-bit standing held h g q few (u .0) (u .1) (u .2) ∙ one-kind standing held t h g leads f
 
   module _ (ys : List ℕ) (size : length ys ≡ section.ups .size) where
     pub up-put : AddedUp (sectionWords section.ups book) h q ys → UpPut h g book (putMid (section.ups .start) (section.ups .size) book ys)
@@ -93,13 +93,13 @@ module _ (book : List ℕ) (long : length book ≡ bookWords) (h g q : ℕ) (fou
 
 -- nor from a number that no holder has
 pub no-lower : (book : List ℕ) → length book ≡ bookWords → (h g : ℕ) {may : State → Type 0} {change : Ties → Ties} (t : Tie) → LeadsUp t h g
-    → ((S : State) → Standing S → may S → TieFits (S .declared) t) → holderNumbers ≤ h → TiesEdited may change book book
-no-lower book long h g t leads fits far = unedited book long (λ S code standing held m. omega (arith, up-fits standing t h g leads (fits S standing m) .few))
+    → ((S : State) → Standing S → may S → TieFits (S .declared) t) → bookHolders ≤ h → TiesEdited may change book book
+no-lower book long h g t leads fits far = unedited book long (λ S code standing held m. omega (arith, up-fits standing held t h g leads (fits S standing m) .few))
 
 -- ---- a pair
 
 module _ (book : List ℕ) (long : length book ≡ bookWords) (h p : ℕ) where
-  pub value-stands : (r : Bool) → h < holderNumbers → p < pairLimit → r ≡ member (sectionWords section.own book) (pairLimit * h + p) → ValueStands h p book r
+  pub value-stands : (r : Bool) → h < bookHolders → p < pairLimit → r ≡ member (sectionWords section.own book) (pairLimit * h + p) → ValueStands h p book r
   value-stands r few low e S code standing held f =
       let long = part-size section.ups book (held .long) (omega arith) in
       e ∙ holds-member (sectionWords section.own book) h p low ∙ held .ties .pairs h p (omega arith) low
@@ -116,6 +116,6 @@ module _ (book : List ℕ) (long : length book ≡ bookWords) (h p : ℕ) where
         (λ S code standing held on. made .keeps (sectionWords section.ups book) (sectionWords section.slots book) (S .ties) (held .ties))
 
   -- no holder or no pair has the number
-  pub no-value : {may : State → Type 0} {change : Ties → Ties} → ((S : State) → Standing S → may S → TieFits (S .declared) (Tie.value h p)) → (h < holderNumbers → p < pairLimit → ⊥)
+  pub no-value : {may : State → Type 0} {change : Ties → Ties} → ((S : State) → Standing S → may S → TieFits (S .declared) (Tie.value h p)) → (h < bookHolders → p < pairLimit → ⊥)
       → TiesEdited may change book book
-  no-value fits far = unedited book long (λ S code standing held m. let f = value-fits standing h p (fits S standing m) in far (f .0) (f .1))
+  no-value fits far = unedited book long (λ S code standing held m. let f = value-fits standing held h p (fits S standing m) in far (f .0) (f .1))

@@ -9,7 +9,7 @@ use native.Mathlib.Omega.{arith}
 use lib.ListN.{length, getD}
 use borrow.Author.Tests.{lt-ltb}
 use Rattle.model.specs.Notation.{nth}
-use Rattle.model.specs.Limits.{pairLimit, holderNumbers, groupLimit}
+use Rattle.model.specs.Limits.{pairLimit, groupLimit}
 use Rattle.model.specs.Bytes.{Bytes}
 use Rattle.model.specs.Declarations.{Sort, sortOf, isGroup, parentSort, groupSort}
 use Rattle.model.specs.Ties.{Tie, up}
@@ -18,13 +18,13 @@ use Rattle.model.specs.Standing.{TieFits, Standing}
 use Rattle.model.proofs.WordTables.{none-is-some}
 use Rattle.model.proofs.Options.{bind-some, both}
 use Rattle.model.proofs.Lists.{nth-lt, same-truth}
-use Rattle.model.proofs.Standing.{sorted-fits}
 use Rattle.ties.specs.TieArrays.{inUse, tiedUp, Distinct}
 use Rattle.ties.specs.TieEdits.{LeadsUp}
 use Rattle.ties.proofs.Keeps.{up-slot, slot-up}
 use Rattle.book.specs.Sections as section
-use Rattle.book.specs.Sections.{sectionWords}
+use Rattle.book.specs.Sections.{sectionWords, bookHolders}
 use Rattle.book.specs.Held.{Holds}
+use Rattle.book.proofs.HeldNumbers.{sorted-in-book}
 use Rattle.book.proofs.TieSections.{part-size}
 
 parent-group : (s u : Sort) → parentSort s ≡ some u → isGroup u ≡ true
@@ -53,15 +53,10 @@ pub off : (b : Bool) → (b ≡ true → ⊥) → b ≡ false
 off true n = absurd (n refl)
 off false n = refl
 
-module _ {S : State} (standing : Standing S) where
-  pub sorted-few : (k : ℕ) {s : Sort} → sortOf (S .declared) k ≡ some s → k < holderNumbers
-  unfolding sortOf
-  sorted-few k e =
-      sorted-fits standing k e
-
+module _ {S : State} {book : List ℕ} {code : Bytes} (standing : Standing S) (held : Holds book code S) where
   -- the numbers of a tie up, and that its upper one is a group's
   pub record UpFits (h g : ℕ) : Type 0 where
-    pub few : h < holderNumbers
+    pub few : h < bookHolders
     pub sort : Sort
     pub sort-is : sortOf (S .declared) g ≡ some sort
     pub group : isGroup sort ≡ true
@@ -69,13 +64,13 @@ module _ {S : State} (standing : Standing S) where
   pub up-fits : (t : Tie) (h g : ℕ) → LeadsUp t h g → TieFits (S .declared) t → UpFits h g
   up-fits t h g (inl e) f =
       let s = subst (TieFits (S .declared)) e f in
-      record { few = sorted-few h (s .lower-is); sort = s .upper-sort; sort-is = s .upper-is; group = parent-group (s .lower-sort) (s .upper-sort) (s .one-above) }
+      record { few = sorted-in-book standing held h (s .lower-is); sort = s .upper-sort; sort-is = s .upper-is; group = parent-group (s .lower-sort) (s .upper-sort) (s .one-above) }
   up-fits t h g (inr e) f =
       let s = subst (TieFits (S .declared)) e f in
-      record { few = sorted-few h (s .lower-is); sort = s .upper-sort; sort-is = s .upper-is; group = member-group (s .lower-sort) (s .upper-sort) (s .one-above) }
+      record { few = sorted-in-book standing held h (s .lower-is); sort = s .upper-sort; sort-is = s .upper-is; group = member-group (s .lower-sort) (s .upper-sort) (s .one-above) }
 
-  pub value-fits : (h p : ℕ) → TieFits (S .declared) (Tie.value h p) → (h < holderNumbers) × (p < pairLimit)
-  value-fits h p f = (sorted-few h (f .sort-is), omega (arith, nth-lt (S .declared .pairs) p (f .pair-is), standing .declarations .pairs .few))
+  pub value-fits : (h p : ℕ) → TieFits (S .declared) (Tie.value h p) → (h < bookHolders) × (p < pairLimit)
+  value-fits h p f = (sorted-in-book standing held h (f .sort-is), omega (arith, nth-lt (S .declared .pairs) p (f .pair-is), standing .declarations .pairs .few))
 
   -- admin is no group
   group-no-admin : (g : ℕ) (s : Sort) → sortOf (S .declared) g ≡ some s → isGroup s ≡ true → 0 < g
@@ -85,38 +80,37 @@ module _ {S : State} (standing : Standing S) where
       absurd (true≢false (sym i ∙ ap isGroup (Option·some-injective _ _ (sym e ∙ first))))
   group-no-admin (suc g) s e i = omega arith
 
-  module _ {book : List ℕ} {code : Bytes} (held : Holds book code S) where
-    -- the slot of a group, by its seat
-    pub seat-slot : (g : ℕ) (s : Sort) → sortOf (S .declared) g ≡ some s → isGroup s ≡ true
-        → (q : ℕ) × (getD (sectionWords section.seats book) g 0 ≡ suc q) × (q < groupLimit) × (inUse holderNumbers (sectionWords section.slots book) q ≡ true)
-        × (getD (sectionWords section.slots book) q 0 ≡ g)
-    unfolding inUse
-    seat-slot g s e i =
-        let r = held .groups .seated g s e i in
-        let low = group-no-admin g s e i in
-        let few = sorted-few g e in
-        let slot = getD (sectionWords section.slots book) (r .0) 0 in (
-          r .0,
-          r .1,
-          omega (arith, r .2, standing .declarations .holders .few-groups),
-          both (lt-ltb 0 slot (omega (arith, r .3))) (lt-ltb slot holderNumbers (omega (arith, r .3))),
-          r .3,
-        )
+  -- the slot of a group, by its seat
+  pub seat-slot : (g : ℕ) (s : Sort) → sortOf (S .declared) g ≡ some s → isGroup s ≡ true
+      → (q : ℕ) × (getD (sectionWords section.seats book) g 0 ≡ suc q) × (q < groupLimit) × (inUse bookHolders (sectionWords section.slots book) q ≡ true)
+      × (getD (sectionWords section.slots book) q 0 ≡ g)
+  unfolding inUse
+  seat-slot g s e i =
+      let r = held .groups .seated g s e i in
+      let low = group-no-admin g s e i in
+      let few = sorted-in-book standing held g e in
+      let slot = getD (sectionWords section.slots book) (r .0) 0 in (
+        r .0,
+        r .1,
+        omega (arith, r .2, standing .declarations .holders .few-groups),
+        both (lt-ltb 0 slot (omega (arith, r .3))) (lt-ltb slot bookHolders (omega (arith, r .3))),
+        r .3,
+      )
 
-    -- a tie up to the group of slot q is bit q of the holder's word
-    pub slot-bit : (h g q : ℕ) → h < holderNumbers → q < groupLimit → inUse holderNumbers (sectionWords section.slots book) q ≡ true → getD (sectionWords section.slots book) q 0 ≡ g
-        → tiedUp (sectionWords section.ups book) h q ≡ up (S .ties) h g
-    unfolding Distinct
-    slot-bit h g q few low live is =
-        let long = part-size section.ups book (held .long) (omega arith) in
-        let within : h < length (sectionWords section.ups book) = omega arith in
-        same-truth (tiedUp (sectionWords section.ups book) h q) (up (S .ties) h g)
-        (λ on. ap (up (S .ties) h) (sym is) ∙ slot-up (held .ties) h q within low on)
-        (λ on.
-        let r = up-slot (held .ties) h g within on in
-        let alive : inUse (length (sectionWords section.ups book)) (sectionWords section.slots book) q ≡ true = ap (λ (n : ℕ). inUse n (sectionWords section.slots book) q) long ∙ live in
-        let same : r .0 ≡ q = held .ties .distinct q (r .0) low (r .1) alive (r .3 ∙ sym is) in
-        ap (tiedUp (sectionWords section.ups book) h) (sym same) ∙ r .2)
+  -- a tie up to the group of slot q is bit q of the holder's word
+  pub slot-bit : (h g q : ℕ) → h < bookHolders → q < groupLimit → inUse bookHolders (sectionWords section.slots book) q ≡ true → getD (sectionWords section.slots book) q 0 ≡ g
+      → tiedUp (sectionWords section.ups book) h q ≡ up (S .ties) h g
+  unfolding Distinct
+  slot-bit h g q few low live is =
+      let long = part-size section.ups book (held .long) (omega arith) in
+      let within : h < length (sectionWords section.ups book) = omega arith in
+      same-truth (tiedUp (sectionWords section.ups book) h q) (up (S .ties) h g)
+      (λ on. ap (up (S .ties) h) (sym is) ∙ slot-up (held .ties) h q within low on)
+      (λ on.
+      let r = up-slot (held .ties) h g within on in
+      let alive : inUse (length (sectionWords section.ups book)) (sectionWords section.slots book) q ≡ true = ap (λ (n : ℕ). inUse n (sectionWords section.slots book) q) long ∙ live in
+      let same : r .0 ≡ q = held .ties .distinct q (r .0) low (r .1) alive (r .3 ∙ sym is) in
+      ap (tiedUp (sectionWords section.ups book) h) (sym same) ∙ r .2)
 
   -- a tie up that fits stands where some tie leads up so: the other kind does not fit
   pub one-kind : (t : Tie) (h g : ℕ) → LeadsUp t h g → TieFits (S .declared) t → up (S .ties) h g ≡ S .ties t

@@ -7,7 +7,7 @@ use mathlib.Core.Option.{Option, none, some, Option·some-injective}
 use native.Mathlib.Omega.{arith}
 use lib.ListN.{getD}
 use Rattle.model.specs.Notation.{_>>=_, _is_, isNone, nth}
-use Rattle.model.specs.Limits.{attributeLimit, pairLimit, holderNumbers}
+use Rattle.model.specs.Limits.{attributeLimit, pairLimit}
 use Rattle.model.specs.Numbers as refusal
 use Rattle.model.specs.Bytes.{Bytes, same}
 use Rattle.model.specs.Names.{isName}
@@ -23,19 +23,19 @@ use Rattle.model.proofs.WordTables.{none-is-some}
 use Rattle.model.proofs.Options.{parts, no-result}
 use Rattle.model.proofs.Lists.{nth-lt, place-nth}
 use Rattle.model.proofs.Declared.{named-eq, same-atom-eq, pair-declared}
-use Rattle.model.proofs.Standing.{holder-fits, named-holder}
+use Rattle.model.proofs.Standing.{named-holder}
 use Rattle.codes.specs.Codes.{coded, sourceCode, typeCode}
 use Rattle.codes.proofs.Codes.{type-injective}
 use Rattle.text.specs.declared.Packed.{Packed}
 use Rattle.text.specs.Packing.{packedOf}
 use Rattle.rows.specs.Rows.{numberOr, Numbered}
 use Rattle.book.specs.Sections as section
-use Rattle.book.specs.Sections.{sectionWords}
+use Rattle.book.specs.Sections.{sectionWords, bookHolders}
 use Rattle.book.specs.Held.{sortCode, Holds}
 use Rattle.book.specs.Finding.{HolderFound}
 use Rattle.book.specs.TieSteps.{tieBy, aboveFor, TwoNamed}
 use Rattle.book.proofs.TieSorts.{sort-fits, sort-differs}
-use Rattle.book.proofs.TieFitting.{sorted-few}
+use Rattle.book.proofs.HeldNumbers.{holder-in-book, sorted-in-book}
 use Rattle.book.proofs.TieEditing.{word-at}
 
 -- ---- a number that was found
@@ -67,12 +67,13 @@ accepted-0 none w t y x = none-is-some y
 accepted-0 (some u) true t y x = absurd (true≢false x)
 accepted-0 (some u) false t y x = (refl, λ z. y)
 
-module _ {S : State} (standing : Standing S) where
-  -- the numbers that names have are few
-  pub holder-few : (n : Bytes) (k : ℕ) → holderNumber (S .declared) n ≡ some k → k < holderNumbers
-  holder-few n k e =
-      let r = named-holder (standing .declarations) n k e in holder-fits standing k (rw (r .1) refl)
+-- the numbers that names have are few
+holder-few : {S : State} {book : List ℕ} {code : Bytes} → Standing S → Holds book code S → (n : Bytes) (k : ℕ) → holderNumber (S .declared) n ≡ some k → k < bookHolders
+holder-few standing held n k e =
+    let r = named-holder (standing .declarations) n k e in
+    holder-in-book standing held k (rw (r .1) refl)
 
+module _ {S : State} (standing : Standing S) where
   pub attribute-few : (s : Source) (n : Bytes) (k : ℕ) → attributeNumber (S .declared) s n ≡ some k → k < attributeLimit
   unfolding attributeNumber
   attribute-few s n k e =
@@ -89,14 +90,14 @@ module _ {S : State} (standing : Standing S) where
 module _ {S : State} {book : List ℕ} {code : Bytes} (standing : Standing S) (held : Holds book code S) (n : Bytes) (named : isName n ≡ true) (p : Packed)
     (packed : packedOf n ≡ p) (r : ℕ) where
   module _ (found : HolderFound (sectionWords section.holders book) (p .low) (p .high) r) where
-    number-is : r ≡ numberOr holderNumbers (holderNumber (S .declared) n)
+    number-is : r ≡ numberOr bookHolders (holderNumber (S .declared) n)
     number-is = found (S .declared) (standing .declarations) (held .holders) n named packed
 
-    pub holder-there : r < holderNumbers → holderNumber (S .declared) n ≡ some r
-    holder-there few = number-there holderNumbers r (holderNumber (S .declared) n) number-is few
+    pub holder-there : r < bookHolders → holderNumber (S .declared) n ≡ some r
+    holder-there few = number-there bookHolders r (holderNumber (S .declared) n) number-is few
 
-    pub holder-absent : holderNumbers ≤ r → holderNumber (S .declared) n ≡ none
-    holder-absent far = number-gone holderNumbers r (holderNumber (S .declared) n) (holder-few standing n) number-is far
+    pub holder-absent : bookHolders ≤ r → holderNumber (S .declared) n ≡ none
+    holder-absent far = number-gone bookHolders r (holderNumber (S .declared) n) (holder-few standing held n) number-is far
 
   module _ (s : Source) (source : ℕ) (coded-as : source ≡ sourceCode s) (found : Numbered (sectionWords section.attributes book) source (p .low) (p .high) r) where
     attribute-is : r ≡ numberOr attributeLimit (attributeNumber (S .declared) s n)
@@ -117,7 +118,7 @@ holder-sort well n k e = let r = named-holder well n k e in (r .0 .sort, rw (r .
 pub sort-word : {S : State} {book : List ℕ} {code : Bytes} → Standing S → Holds book code S → (k : ℕ) (s : Sort) → sortOf (S .declared) k ≡ some s
     → getD book (section.sorts .start + k) 0 ≡ sortCode s
 sort-word {S} {book} standing held k s e =
-    let few = sorted-few standing k e in sym (word-at section.sorts book k few) ∙ held .sorts k few ∙ ap (coded sortCode) e
+    let few = sorted-in-book standing held k e in sym (word-at section.sorts book k few) ∙ held .sorts k few ∙ ap (coded sortCode) e
 
 -- ---- parent and member lines
 

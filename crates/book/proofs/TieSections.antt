@@ -6,7 +6,7 @@ use native.Mathlib.Omega.{arith}
 use lib.ListN.{length, take, drop, length-drop}
 use lib.Seq.{drop-drop, length-take-le}
 use borrow.Rule.Slice.PartMut.{putMid, take-put, drop-put, same-len-mid}
-use Rattle.model.specs.Limits.{pairLimit, holderNumbers}
+use Rattle.model.specs.Limits.{pairLimit}
 use Rattle.model.specs.Bytes.{Bytes}
 use Rattle.model.specs.Ties.{Ties}
 use Rattle.model.specs.State.{State}
@@ -15,7 +15,7 @@ use Rattle.rows.specs.Rows.{AttributeRows}
 use Rattle.index.specs.Index.{Indexed}
 use Rattle.ties.specs.TieArrays.{KeepsTies}
 use Rattle.book.specs.Sections as section
-use Rattle.book.specs.Sections.{Section, sectionWords, bookWords}
+use Rattle.book.specs.Sections.{Section, sectionWords, bookWords, bookHolders}
 use Rattle.book.specs.Held.{CountsOf, OperationRows, pairRow, holderRow, SortRows, GroupSlots, RuleRows, Holds}
 use Rattle.book.specs.TieSteps.{TiesEdited}
 use Rattle.book.proofs.Sections.{front, mid-inside, mid-before}
@@ -32,13 +32,14 @@ module _ {book : List ℕ} {code : Bytes} {S : State} (held : Holds book code S)
 
   pub with-ties : (T : Ties) → KeepsTies (sectionWords section.ups book′) (sectionWords section.own book′) (sectionWords section.slots book) T → Holds book′ code (record { declared = S .declared; ties = T })
   with-ties T kept = record {
+    edition = held .edition;
     long = long;
     code-long = held .code-long;
     counts = subst (λ (w : List ℕ). CountsOf w (S .declared)) (sym (section-before section.counts (omega arith))) (held .counts);
     attributes = subst (λ (w : List ℕ). AttributeRows w (S .declared)) (sym (section-before section.attributes (omega arith))) (held .attributes);
     operations = subst (λ (w : List ℕ). OperationRows w (S .declared .operations)) (sym (section-before section.operations (omega arith))) (held .operations);
     pairs = subst (λ (w : List ℕ). Indexed w pairLimit (pairRow (S .declared))) (sym (section-before section.pairs (omega arith))) (held .pairs);
-    holders = subst (λ (w : List ℕ). Indexed w holderNumbers (holderRow (S .declared))) (sym (section-before section.holders (omega arith))) (held .holders);
+    holders = subst (λ (w : List ℕ). Indexed w bookHolders (holderRow (S .declared))) (sym (section-before section.holders (omega arith))) (held .holders);
     sorts = subst (λ (w : List ℕ). SortRows w (S .declared)) (sym (section-before section.sorts (omega arith))) (held .sorts);
     groups = subst (λ (w : List ℕ). GroupSlots w (sectionWords section.seats book′) (S .declared)) (sym slots-same)
         (subst (λ (w : List ℕ). GroupSlots (sectionWords section.slots book) w (S .declared)) (sym (section-before section.seats (omega arith))) (held .groups));

@@ -5,7 +5,7 @@ use mathlib.Core.Bool.{Bool, true, false, _&&_, _||_}
 use mathlib.Core.List.{List, _++_}
 use lib.Dec.{eqb, leb}
 use lib.ListN.{length, getD, take, drop, set}
-use Rattle.model.specs.Limits.{wordBits}
+use Rattle.model.specs.Limits.{Edition, wordBits}
 use Rattle.model.specs.Bytes.{Bytes}
 use Rattle.model.specs.Names.{isName}
 use Rattle.model.specs.Attributes.{Source, AtomType}
@@ -101,4 +101,4 @@ HolderStep book key low high book′ r =
 
 -- the book of the empty state, whatever the rules' bytes are
 abbrev pub Emptied : List ℕ → Type 0
-Emptied book = (code : Bytes) → length code ≡ ruleBytes → Holds book code empty
+Emptied book = (code : Bytes) → length code ≡ ruleBytes → Holds book code (empty Edition.first)

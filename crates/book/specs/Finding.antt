@@ -8,7 +8,7 @@ use mathlib.Core.Option.{some}
 use lib.Dec.{eqb}
 use lib.ListN.{getD}
 use Rattle.model.specs.Notation.{nth}
-use Rattle.model.specs.Limits.{operationLimit, pairLimit, holderNumbers}
+use Rattle.model.specs.Limits.{operationLimit, pairLimit}
 use Rattle.model.specs.Bytes.{Bytes}
 use Rattle.model.specs.Names.{isName}
 use Rattle.model.specs.Attributes.{Source}
@@ -20,13 +20,14 @@ use Rattle.text.specs.Packing.{packedOf}
 use Rattle.text.specs.Values.{atomWords}
 use Rattle.rows.specs.Rows.{numberOr}
 use Rattle.index.specs.Index.{Indexed}
+use Rattle.book.specs.Sections.{bookHolders}
 use Rattle.book.specs.Held.{OperationRows, pairRow, holderRow}
 
 -- r is the number of the holder of a name; the number of holders' numbers where there is none
 abbrev pub HolderFound : List ℕ → ℕ → ℕ → ℕ → Type 0
 HolderFound section low high r =
-    (D : Declarations) → WellDeclared D → Indexed section holderNumbers (holderRow D) → (n : Bytes) → isName n ≡ true
-    → packedOf n ≡ record { low = low; high = high } → r ≡ numberOr holderNumbers (holderNumber D n)
+    (D : Declarations) → WellDeclared D → Indexed section bookHolders (holderRow D) → (n : Bytes) → isName n ≡ true
+    → packedOf n ≡ record { low = low; high = high } → r ≡ numberOr bookHolders (holderNumber D n)
 
 -- the number of the operation of a name
 abbrev pub OperationFound : List ℕ → ℕ → ℕ → ℕ → Type 0

@@ -6,7 +6,7 @@ use mathlib.Core.List.{List}
 use mathlib.Core.Option.{Option, some}
 use lib.ListN.{length, getD, take, drop}
 use Rattle.model.specs.Notation.{_>>=_, nth}
-use Rattle.model.specs.Limits.{operationLimit, pairLimit, holderNumbers, groupLimit}
+use Rattle.model.specs.Limits.{Edition, operationLimit, pairLimit, groupLimit}
 use Rattle.model.specs.Bytes.{Bytes}
 use Rattle.model.specs.Declarations.{Declarations, Rule, Sort, attributeNumber, operationNumber, holderOf, sortOf, holderNumbersOf, isGroup, groups}
 use Rattle.model.specs.State.{State}
@@ -18,7 +18,7 @@ use Rattle.tokens.specs.RuleCode.{Coded}
 use Rattle.index.specs.Index.{Row, Indexed}
 use Rattle.ties.specs.TieArrays.{KeepsTies}
 use Rattle.book.specs.Sections as section
-use Rattle.book.specs.Sections.{sectionWords, bookWords, codeBytes, ruleBytes}
+use Rattle.book.specs.Sections.{sectionWords, bookWords, bookHolders, codeBytes, ruleBytes}
 
 -- how many there are of each
 pub record CountsOf (words : List ℕ) (D : Declarations) : Type 0 where
@@ -55,13 +55,13 @@ sortCode Sort.user = 6
 sortCode Sort.object = 7
 
 abbrev pub SortRows : List ℕ → Declarations → Type 0
-SortRows words D = (k : ℕ) → k < holderNumbers → getD words k 0 ≡ coded sortCode (sortOf D k)
+SortRows words D = (k : ℕ) → k < bookHolders → getD words k 0 ≡ coded sortCode (sortOf D k)
 
 -- each group has a slot: slots are taken in the order of the groups, and a group's seat is 1 + its slot
 pub record GroupSlots (slots seats : List ℕ) (D : Declarations) : Type 0 where
   pub seated : (k : ℕ) (s : Sort) → sortOf D k ≡ some s → isGroup s ≡ true
       → (q : ℕ) × (getD seats k 0 ≡ suc q) × (q < groups D) × (getD slots q 0 ≡ k)
-  pub unseated : (k : ℕ) → k < holderNumbers → ((s : Sort) → sortOf D k ≡ some s → isGroup s ≡ false) → getD seats k 0 ≡ 0
+  pub unseated : (k : ℕ) → k < bookHolders → ((s : Sort) → sortOf D k ≡ some s → isGroup s ≡ false) → getD seats k 0 ≡ 0
   pub taken : (q : ℕ) → q < groups D → (s : Sort) × (sortOf D (getD slots q 0) ≡ some s) × (isGroup s ≡ true)
   pub free : (q : ℕ) → groups D ≤ q → q < groupLimit → getD slots q 0 ≡ 0
 
@@ -75,15 +75,16 @@ pub record RuleHeld (words : List ℕ) (code : Bytes) (D : Declarations) (i : �
 abbrev pub RuleRows : List ℕ → Bytes → Declarations → Type 0
 RuleRows words code D = (i : ℕ) (r : Rule) → nth (D .rules) i ≡ some r → RuleHeld words code D i r
 
--- "The book, a value, holds the declarations and the ties"
+-- "The book, a value, holds the declarations and the ties": those of a state of the first edition
 pub record Holds (book : List ℕ) (code : Bytes) (S : State) : Type 0 where
+  pub edition : S .declared .edition ≡ Edition.first
   pub long : length book ≡ bookWords
   pub code-long : length code ≡ ruleBytes
   pub counts : CountsOf (sectionWords section.counts book) (S .declared)
   pub attributes : AttributeRows (sectionWords section.attributes book) (S .declared)
   pub operations : OperationRows (sectionWords section.operations book) (S .declared .operations)
   pub pairs : Indexed (sectionWords section.pairs book) pairLimit (pairRow (S .declared))
-  pub holders : Indexed (sectionWords section.holders book) holderNumbers (holderRow (S .declared))
+  pub holders : Indexed (sectionWords section.holders book) bookHolders (holderRow (S .declared))
   pub sorts : SortRows (sectionWords section.sorts book) (S .declared)
   pub groups : GroupSlots (sectionWords section.slots book) (sectionWords section.seats book) (S .declared)
   pub ties : KeepsTies (sectionWords section.ups book) (sectionWords section.own book) (sectionWords section.slots book) (S .ties)

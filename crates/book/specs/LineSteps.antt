@@ -7,7 +7,7 @@ use mathlib.Core.Option.{Option, none, some}
 use lib.Dec.{eqb, leb}
 use lib.ListN.{length, take, drop, set}
 use Rattle.model.specs.Numbers as refusal
-use Rattle.model.specs.Limits.{operationLimit, ruleLimit}
+use Rattle.model.specs.Limits.{Edition, operationLimit, ruleLimit}
 use Rattle.model.specs.Bytes.{Bytes, newline, linesOf}
 use Rattle.model.specs.Tokens.{Token, tokensOf}
 use Rattle.model.specs.Keys.{Key}
@@ -121,6 +121,7 @@ pub record LoadedAs (answer : Loaded) (book : List ℕ) (code : Bytes) (number l
   pub line-is : line ≡ answer .line
   pub holds : number ≡ 0 → Holds book code (answer .state)
 
--- the lines behind the first, from the empty state on
+-- the lines behind the first, from the empty state on; the first edition is the only one that is read
 abbrev pub OthersRead : List ℕ → Bytes → Bytes → List ℕ → Bytes → ℕ → ℕ → Type 0
-OthersRead book code rest book′ code′ number line = Holds book code empty → LoadedAs (readOn empty none 1 (linesOf rest)) book′ code′ number line
+OthersRead book code rest book′ code′ number line =
+    Holds book code (empty Edition.first) → LoadedAs (readOn Edition.first (empty Edition.first) none 1 (linesOf rest)) book′ code′ number line

@@ -2,7 +2,7 @@
 use Prim.Native.Nat.{ℕ, _*_}
 use mathlib.Core.List.{List}
 use lib.ListN.{take, drop}
-use Rattle.model.specs.Limits.{ruleLimit}
+use Rattle.model.specs.Limits.{Edition, holderNumbers, ruleLimit}
 
 pub record Section : Type 0 where
   pub start : ℕ
@@ -11,6 +11,10 @@ pub record Section : Type 0 where
 -- the words of a section
 abbrev pub sectionWords : Section → List ℕ → List ℕ
 sectionWords s book = take (s .size) (drop (s .start) book)
+
+-- a book has room for the holders of the first edition
+abbrev pub bookHolders : ℕ
+bookHolders = holderNumbers Edition.first
 
 -- how many attributes, operations, pairs, holders, groups and rules there are
 abbrev pub counts : Section

@@ -8,7 +8,7 @@ use lib.Dec.{eqb}
 use lib.ListN.{length, getD, take, drop}
 use Rattle.model.specs.Numbers as refusal
 use Rattle.model.specs.Notation.{if_then_else_}
-use Rattle.model.specs.Limits.{pairLimit, holderNumbers, groupLimit}
+use Rattle.model.specs.Limits.{pairLimit, groupLimit}
 use Rattle.model.specs.Bytes.{Bytes}
 use Rattle.model.specs.Names.{isName}
 use Rattle.model.specs.Attributes.{Source}
@@ -29,7 +29,7 @@ use Rattle.rows.specs.Rows.{numberOr}
 use Rattle.ties.specs.TieArrays.{inUse}
 use Rattle.ties.specs.TieEdits.{LeadsUp}
 use Rattle.book.specs.Sections as section
-use Rattle.book.specs.Sections.{sectionWords, bookWords}
+use Rattle.book.specs.Sections.{sectionWords, bookWords, bookHolders}
 use Rattle.book.specs.Held.{sortCode, Holds}
 
 -- the tie of a key, by the number of the edited holder and that of the group or of the pair
@@ -96,7 +96,7 @@ SlotTold seat r = (q : ℕ) → seat ≡ suc q → q < groupLimit → r ≡ q
 abbrev pub SlotFound : List ℕ → ℕ → ℕ → Type 0
 SlotFound book g r =
     (S : State) (code : Bytes) → Standing S → Holds book code S → (s : Sort) → sortOf (S .declared) g ≡ some s → isGroup s ≡ true
-    → (r < groupLimit) × (inUse holderNumbers (sectionWords section.slots book) r ≡ true) × (getD (sectionWords section.slots book) r 0 ≡ g)
+    → (r < groupLimit) × (inUse bookHolders (sectionWords section.slots book) r ≡ true) × (getD (sectionWords section.slots book) r 0 ≡ g)
 
 -- a book keeps its words but those of ties; for the standing states that may be changed so, it then holds their declarations and the ties changed
 pub record TiesEdited (may : State → Type 0) (change : Ties → Ties) (book book′ : List ℕ) : Type 0 where

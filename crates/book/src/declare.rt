@@ -2,8 +2,8 @@
 ghost use mathlib.Core.Path.{_≡_};
 ghost use Prim.Native.Nat.{ℕ, _<_};
 ghost use lib.ListN.{length, getD};
-ghost use Rattle.model.specs.Limits.{attributeLimit, operationLimit, pairLimit, holderNumbers, groupLimit};
-ghost use Rattle.book.specs.Sections.{bookWords};
+ghost use Rattle.model.specs.Limits.{attributeLimit, operationLimit, pairLimit, groupLimit};
+ghost use Rattle.book.specs.Sections.{bookWords, bookHolders};
 ghost use Rattle.book.specs.Declaring.{blockText, attributePut, operationPut, PairPut, HolderPut, groupPut, AttributeStep, OperationStep, PairStep, HolderStep, Keeps, Emptied};
 use crate::ATTRIBUTE_COUNT;
 use crate::ATTRIBUTES_AT;
@@ -171,7 +171,7 @@ pub fn pair(book: &mut [u64], source: u8, low: u64, high: u64, value: Value) -> 
 
 // Writes holder n, and counts it.
 fn put_holder(book: &mut [u64], n: usize, sort: u8, low: u64, high: u64)
-    requires { ⌜ (length (now book) ≡ bookWords) × (n < holderNumbers) ⌝ }
+    requires { ⌜ (length (now book) ≡ bookWords) × (n < bookHolders) ⌝ }
     ensures { λ _. ⌜ HolderPut (now (book .entry)) n sort low high (now (book .exit)) ⌝ }
 {
     index::add(&mut book[HOLDERS_AT..SORTS_AT], n, 1, low, high, 0);
@@ -181,7 +181,7 @@ fn put_holder(book: &mut [u64], n: usize, sort: u8, low: u64, high: u64)
 
 // Gives the group of holder number n slot g, and counts it.
 fn put_group(book: &mut [u64], n: usize, g: usize)
-    requires { ⌜ (length (now book) ≡ bookWords) × (n < holderNumbers) × (g < groupLimit) ⌝ }
+    requires { ⌜ (length (now book) ≡ bookWords) × (n < bookHolders) × (g < groupLimit) ⌝ }
     ensures { λ _. ⌜ now (book .exit) ≡ groupPut (now (book .entry)) n g ⌝ }
 {
     ties::give_slot(&mut book[SLOTS_AT..UPS_AT], g, n);

@@ -2,8 +2,9 @@
 ghost use mathlib.Core.Path.{_≡_};
 ghost use Prim.Native.Nat.{_*_, _<_, _≤_};
 ghost use lib.ListN.{length};
-ghost use Rattle.model.specs.Limits.{attributeLimit, operationLimit, pairLimit, holderNumbers};
+ghost use Rattle.model.specs.Limits.{attributeLimit, operationLimit, pairLimit};
 ghost use Rattle.book.specs.Sections as section;
+ghost use Rattle.book.specs.Sections.{bookHolders};
 ghost use Rattle.book.specs.Finding.{HolderFound, OperationFound, PairFound};
 use text::Words;
 
@@ -17,7 +18,7 @@ pub const HOLDERS: usize = 256;
 // The number of the holder of a name; the number of holders' numbers where there is none.
 pub fn holder_number(holders: &[u64], low: u64, high: u64) -> usize
     requires { ⌜ length (now holders) ≡ section.holders .size ⌝ }
-    ensures { λ r. ⌜ (r ≤ holderNumbers) × HolderFound (now (holders .entry)) low high r ⌝ }
+    ensures { λ r. ⌜ (r ≤ bookHolders) × HolderFound (now (holders .entry)) low high r ⌝ }
 {
     index::find(holders, 1, low, high, 0)
 }

@@ -2,6 +2,7 @@
 use mathlib.Core.Path.{_≡_, refl}
 use mathlib.Core.Option.{some}
 use Rattle.model.specs.Notation.{_>>=_}
+use Rattle.model.specs.Limits.{Edition}
 use Rattle.model.specs.Numbers as refusal
 use Rattle.model.specs.Bytes.{bytes}
 use Rattle.model.specs.Tokens.{tokensOf, spelled}
@@ -17,16 +18,20 @@ unfolding computing
 spaces = refl
 
 -- the empty state has its first line
-pub empty-text : fileText empty ≡ bytes "rights=1\n"
+pub empty-text : fileText (empty Edition.first) ≡ bytes "rights=1\n"
 unfolding computing
 empty-text = refl
 
+pub empty-second-text : fileText (empty Edition.second) ≡ bytes "rights=2\n"
+unfolding computing
+empty-second-text = refl
+
 -- "18 and 0 if refused", and "0 and its length"; "Bytes of the buffer behind the text keep their content"
-pub one-byte-short : writeFile empty (bytes "........") ≡ record { number = refusal.doesNotFit; textLength = 0; buffer = bytes "........" }
+pub one-byte-short : writeFile (empty Edition.first) (bytes "........") ≡ record { number = refusal.doesNotFit; textLength = 0; buffer = bytes "........" }
 unfolding computing
 one-byte-short = refl
 
-pub one-byte-more : writeFile empty (bytes "..........") ≡ record { number = 0; textLength = 9; buffer = bytes "rights=1\n." }
+pub one-byte-more : writeFile (empty Edition.first) (bytes "..........") ≡ record { number = 0; textLength = 9; buffer = bytes "rights=1\n." }
 unfolding computing
 one-byte-more = refl
 
@@ -37,7 +42,7 @@ unfolding computing
 valley-text = refl
 
 -- "the exact byte length that the writer of E1 would put out"
-pub empty-length : writtenLength empty ≡ 9
+pub empty-length : writtenLength (empty Edition.first) ≡ 9
 unfolding computing
 empty-length = refl
 

@@ -7,7 +7,7 @@ use mathlib.Core.Option.{Option, none, some}
 use lib.ListN.{length, getD, take, drop}
 use lib.Seq.{getD-take, getD-drop}
 use Rattle.model.specs.Notation.{_>>=_, nth}
-use Rattle.model.specs.Limits.{pairLimit}
+use Rattle.model.specs.Limits.{holderNumbers, pairLimit}
 use Rattle.model.specs.Bytes.{Bytes}
 use Rattle.model.specs.Declarations.{Declarations, Pair, attributeNumber}
 use Rattle.model.specs.State.{State}
@@ -87,13 +87,13 @@ module _ {S : State} (standing : Standing S) where
   unfolding holds bit odd pairIn bitOf
   pair-bit t k p = refl
 
-  set-of : (t : List ℕ) → t ≡ words → (k : ℕ) → k < 256 → SetOf S t k
+  set-of : (t : List ℕ) → t ≡ words → (k : ℕ) → k < holderNumbers (S .declared .edition) → SetOf S t k
   set-of t e k h = record {
     within = let l = table-length (S .declared) (S .ties) in let m = ap length e in omega arith;
     pairs = λ p l. pair-bit t k p ∙ ap (λ (u : List ℕ). pairIn u k p) e ∙ standing-layout standing k p h l;
   }
 
-  pub sets-of : (t : List ℕ) → t ≡ words → (b : Block) → b .user < 256 → b .object < 256 → SetsOf S b t
+  pub sets-of : (t : List ℕ) → t ≡ words → (b : Block) → b .user < holderNumbers (S .declared .edition) → b .object < holderNumbers (S .declared .edition) → SetsOf S b t
   sets-of t e b u o = record { user-set = set-of t e (b .user) u; object-set = set-of t e (b .object) o; admin-set = set-of t e 0 (omega arith) }
 
 -- ---- what is lent
@@ -121,6 +121,6 @@ module _ {S : State} {book : List ℕ} {code : Bytes} (standing : Standing S) (h
         attribute-rows = holds .attributes;
         pair-rows = pair-rows book (S .declared) well (holds .pairs);
         rule-rows = holds .rules;
-        sets = sets-of standing t e b (omega (arith, head .user, bytes 1)) (omega (arith, head .object, bytes 2));
+        sets = sets-of standing t e b (omega (arith, head .user, bytes 1, ap holderNumbers (holds .edition))) (omega (arith, head .object, bytes 2, ap holderNumbers (holds .edition)));
         entries-of = entries-behind block b read bytes;
       }

@@ -7,7 +7,7 @@ use mathlib.Core.Option.{Option, some}
 use lib.ListN.{length}
 use borrow.Author.Tests.{eq-eqb, ne-eqb}
 use Rattle.model.specs.Notation.{if_then_else_}
-use Rattle.model.specs.Limits.{tableWords}
+use Rattle.model.specs.Limits.{Edition, tableWords}
 use Rattle.model.specs.Numbers as refusal
 use Rattle.model.specs.Bytes.{Bytes}
 use Rattle.model.specs.Ties.{Tie}
@@ -18,10 +18,10 @@ use Rattle.model.specs.Edits as model
 use Rattle.model.specs.Edits.{editedTie, adds, editedTies, changes, accepting, refusing}
 use Rattle.model.specs.Ledger.{Call, Answer, edited, tableAfter, Outcome, outcome}
 use Rattle.model.specs.Standing.{Standing}
+use Rattle.model.proofs.Outcomes.{outcome-by}
 use Rattle.book.specs.Held.{Holds}
 use Rattle.engine.specs.Calls.{Gives, Together, Edits}
 use Rattle.engine.specs.EditSteps.{LineTie, TieJudged, Applied, Untouched, SetsElsewhere, EditCall}
-use Rattle.engine.proofs.Outcomes.{outcome-by}
 use Rattle.engine.proofs.EditedSets.{sets-elsewhere}
 use Rattle.engine.proofs.EditRefusals.{SignedLine, tie-fitting, tie-refusal, edited-tie, adds-is}
 
@@ -30,13 +30,13 @@ module _ (S : State) (words : List ℕ) (line : Bytes) where
   abbrev after : model.Edited → Outcome
   after r = record { answer = edited (r .number) (r .changed); words = table (r .state .declared) (r .state .ties); state = r .state }
 
-  on-table : length words ≡ tableWords → {r : model.Edited} → model.edit S line ≡ r → outcome S words (Call.edit line) ≡ after r
+  on-table : length words ≡ tableWords (S .declared .edition) → {r : model.Edited} → model.edit S line ≡ r → outcome S words (Call.edit line) ≡ after r
   unfolding wrongTable
-  on-table size e = outcome-by S words (Call.edit line) (ap not (eq-eqb (length words) tableWords size)) ∙ ap after e
+  on-table size e = outcome-by S words (Call.edit line) (ap not (eq-eqb (length words) (tableWords (S .declared .edition)) size)) ∙ ap after e
 
-  kept-table : length words ≡ tableWords → tableAfter words S ≡ words → words ≡ table (S .declared) (S .ties)
+  kept-table : length words ≡ tableWords (S .declared .edition) → tableAfter words S ≡ words → words ≡ table (S .declared) (S .ties)
   unfolding tableAfter wrongTable
-  kept-table size e = sym e ∙ ap (λ (b : Bool). if not b then words else table (S .declared) (S .ties)) (eq-eqb (length words) tableWords size)
+  kept-table size e = sym e ∙ ap (λ (b : Bool). if not b then words else table (S .declared) (S .ties)) (eq-eqb (length words) (tableWords (S .declared .edition)) size)
 
   refuses : (editRefusal S line ≡ 0 → ⊥) → model.edit S line ≡ refusing S line
   unfolding model.edit
@@ -67,7 +67,7 @@ module _ (line : Bytes) (book words : List ℕ) (number count : ℕ) where
   untouched z = record { uncounted = z; same-table = refl; same-book = refl }
 
   -- "1: table not 1,024 words, any call. Table untouched; … an edit keeps its own" book
-  pub without-table : (length words ≡ tableWords → ⊥) → number ≡ refusal.wrongTable → count ≡ 0 → EditCall line book words number count words book
+  pub without-table : (length words ≡ tableWords Edition.first → ⊥) → number ≡ refusal.wrongTable → count ≡ 0 → EditCall line book words number count words book
   unfolding wrongTable
   without-table wrong one none′ = record {
     edits = given;
@@ -81,11 +81,11 @@ module _ (line : Bytes) (book words : List ℕ) (number count : ℕ) where
       given : Edits line book words number count words book
       given S code together =
           subst (λ (o : Outcome). Gives o (edited number count) words book code)
-          (sym (outcome-by S words (Call.edit line) (ap not (ne-eqb (length words) tableWords wrong))))
+          (sym (outcome-by S words (Call.edit line) (ap not (ne-eqb (length words) (tableWords (S .declared .edition)) (λ e. wrong (e ∙ ap tableWords (together .holds .edition)))))))
           (record { answered = ap₂ edited (sym one) (sym none′); table = refl; holds = together .holds })
 
   -- "a refused edit changes nothing"
-  pub refused-call : length words ≡ tableWords → (number ≡ 0 → ⊥) → count ≡ 0
+  pub refused-call : length words ≡ tableWords Edition.first → (number ≡ 0 → ⊥) → count ≡ 0
       → ((S : State) (code : Bytes) → Standing S → Holds book code S → editRefusal S line ≡ number) → EditCall line book words number count words book
   refused-call size z none′ judged = record {
     edits = given;
@@ -99,13 +99,14 @@ module _ (line : Bytes) (book words : List ℕ) (number count : ℕ) where
       given : Edits line book words number count words book
       given S code together =
           let n = judged S code (together .standing) (together .holds) in
+          let right = size ∙ ap tableWords (sym (together .holds .edition)) in
           let is-refused = refuses S words line (λ e. z (sym n ∙ e)) in
-          subst (λ (o : Outcome). Gives o (edited number count) words book code) (sym (on-table S words line size is-refused))
-          (record { answered = ap₂ edited n (sym none′); table = sym (kept-table S words line size (together .kept)); holds = together .holds })
+          subst (λ (o : Outcome). Gives o (edited number count) words book code) (sym (on-table S words line right is-refused))
+          (record { answered = ap₂ edited n (sym none′); table = sym (kept-table S words line right (together .kept)); holds = together .holds })
 
 -- "The answer is 0 and the number of holders whose stored set changed"
 pub accepted-call : (edit : Bytes) (book words words′ book′ : List ℕ) (count : ℕ)
-    → length words ≡ tableWords → length words′ ≡ length words → length book′ ≡ length book
+    → length words ≡ tableWords Edition.first → length words′ ≡ length words → length book′ ≡ length book
     → (plus : Bool) (line : Bytes) → SignedLine edit plus line → (n : ℕ) (t : Tie) → LineTie book line n t → n ≡ 0 → (r : ℕ) → TieJudged book plus t r → r ≡ 0
     → Applied plus t book book′ words words′ count → EditCall edit book words 0 count words′ book′
 accepted-call edit book words words′ book′ count size long book-long′ plus line signed n t told z r judged y applied = record {
@@ -119,11 +120,12 @@ accepted-call edit book words words′ book′ count size long book-long′ plus
   where
     given : Edits edit book words 0 count words′ book′
     given S code together =
+        let right = size ∙ ap tableWords (sym (together .holds .edition)) in
         let read = told S code (together .standing) (together .holds) in
         let fits = tie-fitting S edit plus line signed n t read z in
         let passed = sym y ∙ judged S code (together .standing) (together .holds) fits in
         let zero′ = tie-refusal S edit plus line signed n t read z ∙ sym passed in
         let is-accepted = accepts S words edit zero′ (adds-is S edit plus line signed) (edited-tie S edit plus line signed n t read z) in
-        let done = applied S code (together .standing) (together .holds) (kept-table S words edit size (together .kept)) fits passed in
-        subst (λ (o : Outcome). Gives o (Answer.edited 0 count) words′ book′ code) (sym (on-table S words edit size is-accepted))
+        let done = applied S code (together .standing) (together .holds) (kept-table S words edit right (together .kept)) fits passed in
+        subst (λ (o : Outcome). Gives o (Answer.edited 0 count) words′ book′ code) (sym (on-table S words edit right is-accepted))
         (record { answered = ap (Answer.edited 0) (sym (done .counted)); table = sym (done .table-is); holds = done .holds })

@@ -1,6 +1,6 @@
 -- A tie more or less, and the table refreshed: the book holds the changed state, and the table is that state's. Assumes nothing.
 use Prim.Native.Nat.{ℕ}
-use mathlib.Core.Path.{_≡_, refl, sym, ap, subst}
+use mathlib.Core.Path.{_≡_, refl, sym, ap, subst, _∙_}
 use mathlib.Core.Bool.{Bool, true, false, _&&_, _||_, not}
 use mathlib.Core.List.{List}
 use mathlib.Core.Option.{some}
@@ -8,6 +8,7 @@ use native.Mathlib.Omega.{arith}
 use lib.Dec.{eqb}
 use borrow.Author.Tests.{not-false}
 use Rattle.model.specs.Notation.{if_then_else_}
+use Rattle.model.specs.Limits.{holderNumbers}
 use Rattle.model.specs.Ties.{Tie, Ties, editedHolder}
 use Rattle.model.specs.State.{State}
 use Rattle.model.specs.Edits.{editedTies}
@@ -62,5 +63,5 @@ module _ (plus : Bool) (t : Tie) (book book′ words words′ : List ℕ) (e cou
         differ = subst (λ (x : ℕ). DifferAt x (S .ties) U) holder (edited-differs plus t (S .ties));
         kept = held′ .ties;
       } in
-      let r = kept .whole (S .declared) (S .ties) U edit (part-size section.ups book′ (changed .long) (omega arith)) was in
+      let r = kept .whole (S .declared) (S .ties) U edit (part-size section.ups book′ (changed .long) (omega arith) ∙ ap holderNumbers (sym (held .edition))) was in
       record { holds = held′; table-is = r .0; counted = r .1 }

@@ -1,14 +1,14 @@
 -- What an edit that gives the ledger's outcome does to the sets of a table: it changes the words of no holder that is neither the edited one nor below it,
 -- where it is refused those of none, and its count is that of the holders whose words changed. Assumes nothing.
-use Prim.Native.Nat.{ℕ}
-use mathlib.Core.Path.{_≡_, refl, sym, ap, _∙_}
+use Prim.Native.Nat.{ℕ, _<_}
+use mathlib.Core.Path.{_≡_, refl, sym, ap, subst, _∙_}
 use mathlib.Core.Bool.{Bool, true, false, not}
 use mathlib.Core.List.{List}
 use native.Mathlib.Omega.{arith}
 use lib.ListN.{replicate}
 use lib.Dec.{eqb}
 use Rattle.model.specs.Notation.{if_then_else_, countOf, below}
-use Rattle.model.specs.Limits.{holderNumbers, setWords}
+use Rattle.model.specs.Limits.{Edition, holderNumbers, setWords}
 use Rattle.model.specs.Bytes.{Bytes}
 use Rattle.model.specs.Declarations.{Declarations, isHolder}
 use Rattle.model.specs.Ties.{Ties}
@@ -22,12 +22,13 @@ use Rattle.model.proofs.WordTables.{same-refl}
 use Rattle.model.proofs.Lists.{count-below}
 use Rattle.model.proofs.Ledger.{edit-standing, edit-elsewhere, refused-edit}
 use Rattle.model.proofs.Accepted.{edit-declared}
+use Rattle.model.proofs.Editions.{edit-edition}
+use Rattle.model.proofs.Outcomes.{edit-by-table}
 use Rattle.model.proofs.TableLayout.{words-same, set-in-table}
 use Rattle.model.proofs.Changes.{setChanged, changes-exact}
 use Rattle.model.specs.Standing.{Standing}
 use Rattle.engine.specs.Calls.{Gives, Together}
 use Rattle.engine.specs.EditSteps.{SetsElsewhere}
-use Rattle.engine.proofs.Outcomes.{edit-by-table}
 
 stored-same : (D E : Declarations) (T U : Ties) (k : ℕ) → E ≡ D → ((p : ℕ) → effectiveSet D U k p ≡ effectiveSet D T k p) → storedSet E U k ≡ storedSet D T k
 unfolding storedSet
@@ -35,22 +36,22 @@ stored-same D E T U k e same =
     ap (λ (F : Declarations). storedSet F U k) e ∙ ap (λ (w : List ℕ). if isHolder D k then w else replicate setWords 0) (words-same (effectiveSet D U k) (effectiveSet D T k) (λ p l. same p))
 
 -- no set of a table differs from itself
-none-changed : (w : List ℕ) → countOf (setChanged w w) (below holderNumbers) ≡ 0
+none-changed : (n : ℕ) (w : List ℕ) → countOf (setChanged w w) (below n) ≡ 0
 unfolding setChanged
-none-changed w = count-below (setChanged w w) 0 holderNumbers (omega arith) (λ k h l. ap not (same-refl (setIn w k)))
+none-changed n w = count-below (setChanged w w) 0 n (omega arith) (λ k h l. ap not (same-refl (setIn w k)))
 
 -- the count of an edit, accepted or refused
 count-exact : {S : State} → Standing S → (line : Bytes)
     → model.edit S line .changed
-    ≡ countOf (setChanged (table (S .declared) (S .ties)) (table (model.edit S line .state .declared) (model.edit S line .state .ties))) (below holderNumbers)
+    ≡ countOf (setChanged (table (S .declared) (S .ties)) (table (model.edit S line .state .declared) (model.edit S line .state .ties))) (below (holderNumbers (S .declared .edition)))
 unfolding model.edit
 count-exact {S} standing line = go (eqb (editRefusal S line) 0) (edit-standing S line standing)
   where
     go : (b : Bool) → Standing ((if b then model.accepting S line else model.refusing S line) .state)
         → (if b then model.accepting S line else model.refusing S line) .changed
-        ≡ countOf (setChanged (table (S .declared) (S .ties)) (table ((if b then model.accepting S line else model.refusing S line) .state .declared) ((if b then model.accepting S line else model.refusing S line) .state .ties))) (below holderNumbers)
+        ≡ countOf (setChanged (table (S .declared) (S .ties)) (table ((if b then model.accepting S line else model.refusing S line) .state .declared) ((if b then model.accepting S line else model.refusing S line) .state .ties))) (below (holderNumbers (S .declared .edition)))
     go true after = changes-exact (S .declared) (S .ties) (model.accepting S line .state .ties) standing after
-    go false after = sym (none-changed (table (S .declared) (S .ties)))
+    go false after = sym (none-changed (holderNumbers (S .declared .edition)) (table (S .declared) (S .ties)))
 
 module _ (line : Bytes) {S : State} {book words : List ℕ} {code : Bytes} {number changed : ℕ} {words′ book′ : List ℕ} {code′ : Bytes}
     (together : Together S book code words) (given : Gives (outcome S words (Call.edit line)) (ledger.edited number changed) words′ book′ code′) where
@@ -60,7 +61,7 @@ module _ (line : Bytes) {S : State} {book words : List ℕ} {code : Bytes} {numb
   sets-elsewhere k h far =
       ap (λ (w : List ℕ). setIn w k) (sym (given .table))
       ∙ edit-by-table S words line (together .kept) (λ a w u T. setIn u k ≡ setIn w k) refl
-      (set-in-table (model.edit S line .state .declared) (model.edit S line .state .ties) k h
+      (set-in-table (model.edit S line .state .declared) (model.edit S line .state .ties) k (subst (λ (e : Edition). k < holderNumbers e) (sym (edit-edition S line)) h)
       ∙ stored-same (S .declared) (model.edit S line .state .declared) (S .ties) (model.edit S line .state .ties) k (edit-declared S line) (λ p. edit-elsewhere S line k p far)
       ∙ sym (set-in-table (S .declared) (S .ties) k h))
 
@@ -75,10 +76,10 @@ module _ (line : Bytes) {S : State} {book words : List ℕ} {code : Bytes} {numb
       (given .answered)
 
   -- the count is that of the holders whose four words differ
-  pub sets-counted : changed ≡ countOf (setChanged words words′) (below holderNumbers)
+  pub sets-counted : changed ≡ countOf (setChanged words words′) (below (holderNumbers (S .declared .edition)))
   sets-counted =
-      edit-by-table S words line (together .kept) (λ a w u T. a ≡ ledger.edited number changed → changed ≡ countOf (setChanged w u) (below holderNumbers))
-      (λ e. let z : changed ≡ 0 = cc in z ∙ sym (none-changed words))
+      edit-by-table S words line (together .kept) (λ a w u T. a ≡ ledger.edited number changed → changed ≡ countOf (setChanged w u) (below (holderNumbers (S .declared .edition))))
+      (λ e. let z : changed ≡ 0 = cc in z ∙ sym (none-changed (holderNumbers (S .declared .edition)) words))
       (λ e. let n : changed ≡ model.edit S line .changed = cc in n ∙ count-exact (together .standing) line)
       (given .answered)
-      ∙ ap (λ (u : List ℕ). countOf (setChanged words u) (below holderNumbers)) (given .table)
+      ∙ ap (λ (u : List ℕ). countOf (setChanged words u) (below (holderNumbers (S .declared .edition)))) (given .table)

@@ -34,5 +34,5 @@ module _ {first : Memory} {calls : List Call} {S : State} {before after : Memory
   refused-stays refused = refused-sets line together given refused
 
   -- the count is that of the holders whose four words differ
-  pub count-in-run : changed ≡ countOf (setChanged (before .words) (after .words)) (below holderNumbers)
+  pub count-in-run : changed ≡ countOf (setChanged (before .words) (after .words)) (below (holderNumbers (S .declared .edition)))
   count-in-run = sets-counted line together given

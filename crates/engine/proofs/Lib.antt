@@ -6,7 +6,6 @@ pub mod RuleValues
 pub mod Books
 pub mod RequestAnswers
 -- A call's outcome.
-pub mod Outcomes
 -- Laws about edits.
 pub mod EditLines
 pub mod EditTies

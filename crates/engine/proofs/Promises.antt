@@ -6,7 +6,7 @@ use mathlib.Core.List.{List}
 use lib.ListN.{length}
 use borrow.Author.Tests.{eq-eqb}
 use Rattle.model.specs.Notation.{if_then_else_}
-use Rattle.model.specs.Limits.{tableWords}
+use Rattle.model.specs.Limits.{Edition, tableWords}
 use Rattle.model.specs.Bytes.{Bytes}
 use Rattle.model.specs.Table.{table}
 use Rattle.model.specs.Refusals.{wrongTable}
@@ -18,19 +18,19 @@ use Rattle.engine.specs.EditSteps.{EditCall}
 use Rattle.engine.specs.Runs.{Memory, Does, loads, edits, decides, AnswersRequest}
 use Rattle.model.specs.Ledger.{loaded, edited, decided}
 
--- a table that is not refused has 1,024 words, and one that is has not
-right-length : (n : ℕ) → wrongTable n ≡ true → n ≡ tableWords → ⊥
+-- a table that is refused has not the words of the edition
+right-length : (d : Edition) (n : ℕ) → wrongTable d n ≡ true → n ≡ tableWords d → ⊥
 unfolding wrongTable
-right-length n e long = true≢false (sym e ∙ ap (λ (b : Bool). if b then false else true) (eq-eqb n tableWords long))
+right-length d n e long = true≢false (sym e ∙ ap (λ (b : Bool). if b then false else true) (eq-eqb n (tableWords d) long))
 
 -- `decide`
 pub request-answered : {block code : Bytes} {book words : List ℕ} {r : Decision} → Decides block book code words r → AnswersRequest block book code words (decisionOf r)
 unfolding step tableAfter
-request-answered {block} {code} {book} {words} {r} promise S together = go (wrongTable (length words)) refl (together .kept)
+request-answered {block} {code} {book} {words} {r} promise S together = go (wrongTable (S .declared .edition) (length words)) refl (together .kept)
   where
-    go : (b : Bool) → wrongTable (length words) ≡ b → (if b then words else table (S .declared) (S .ties)) ≡ words
+    go : (b : Bool) → wrongTable (S .declared .edition) (length words) ≡ b → (if b then words else table (S .declared) (S .ties)) ≡ words
         → (if b then withoutTable S (Call.request block) else withTable S (Call.request block)) .answer ≡ decided (decisionOf r)
-    go true e k = ap decided (sym (promise .other-table (right-length (length words) e)))
+    go true e k = ap decided (sym (promise .other-table (λ long. right-length (S .declared .edition) (length words) e (long ∙ ap tableWords (sym (together .holds .edition))))))
     go false e k = ap decided (sym (promise .decision S (together .standing) (together .holds) (sym k)))
 
 -- `load`: its contract is what a run asks

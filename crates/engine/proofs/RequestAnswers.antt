@@ -8,7 +8,7 @@ use mathlib.Core.Option.{Option, none, some}
 use lib.Dec.{eqb}
 use lib.ListN.{length, getD, take, drop, replicate}
 use Rattle.model.specs.Notation.{if_then_else_, _is_, isNone}
-use Rattle.model.specs.Limits.{tableWords}
+use Rattle.model.specs.Limits.{Edition, tableWords}
 use Rattle.model.specs.Numbers as refusal
 use Rattle.model.specs.Bytes.{Bytes}
 use Rattle.model.specs.State.{State}
@@ -150,10 +150,10 @@ module _ {S : State} {book : List ℕ} {code : Bytes} (standing : Standing S) (h
       → decisionOf d ≡ model.decide S block
   answers e t f d g = g S b (request-of standing holds block b read bytes t f) ∙ right S block b read (sym e ∙ told-so)
 
-pub stands-long : (S : State) {t : List ℕ} → t ≡ table (S .declared) (S .ties) → length t ≡ 1024
-stands-long S e = ap length e ∙ table-length (S .declared) (S .ties)
+pub stands-long : {S : State} {book : List ℕ} {code : Bytes} → Holds book code S → {t : List ℕ} → t ≡ table (S .declared) (S .ties) → length t ≡ tableWords Edition.first
+stands-long {S} holds e = ap length e ∙ table-length (S .declared) (S .ties) ∙ ap tableWords (holds .edition)
 
 -- ---- the promise: where the decision is the model's, so are its number and values
-pub promised : {block : Bytes} {book : List ℕ} {code : Bytes} {words : List ℕ} {r : Decision} → ((length words ≡ tableWords → ⊥) → decisionOf r ≡ model.refused refusal.wrongTable)
+pub promised : {block : Bytes} {book : List ℕ} {code : Bytes} {words : List ℕ} {r : Decision} → ((length words ≡ tableWords Edition.first → ⊥) → decisionOf r ≡ model.refused refusal.wrongTable)
     → ((S : State) → Standing S → Holds book code S → words ≡ table (S .declared) (S .ties) → decisionOf r ≡ model.decide S block) → Decides block book code words r
 promised other decision = record { other-table = other; decision = decision; numbers = λ S standing holds e. ap model.numberAndValues (decision S standing holds e) }

@@ -6,7 +6,9 @@ use mathlib.Core.Bool.{Bool, true, false}
 use mathlib.Core.List.{List, [], _∷_, _++_}
 use lib.ListN.{length}
 use Rattle.model.specs.Notation.{if_then_else_, map}
+use Rattle.model.specs.Limits.{Edition}
 use Rattle.model.specs.Bytes.{Bytes}
+use Rattle.model.specs.Lines.{namedEdition}
 use Rattle.model.specs.Table.{table}
 use Rattle.model.specs.State.{State, empty}
 use Rattle.model.specs.Refusals.{wrongTable}
@@ -19,23 +21,23 @@ use Rattle.engine.specs.Calls.{Gives, Together}
 use Rattle.engine.specs.Runs.{Memory, Does, loads, edits, decides, CallSeen, AfterCall, compared, seen, posted, Run, end, next, endState, endWords, Leads, from-load, from-there}
 
 -- a load reads no state
-load-anew : (S : State) (words : List ℕ) (file : Bytes) → outcome S words (Call.load file) ≡ outcome empty words (Call.load file)
+load-anew : (S : State) (words : List ℕ) (file : Bytes) → outcome S words (Call.load file) ≡ outcome (empty Edition.first) words (Call.load file)
 unfolding step
-load-anew S words file = go (wrongTable (length words))
+load-anew S words file = go (wrongTable (namedEdition file) (length words))
   where
     from : Bool → State → Outcome
     from b T =
         let s = if b then withoutTable T (Call.load file) else withTable T (Call.load file) in
         record { answer = s .answer; words = tableAfter words (s .state); state = s .state }
 
-    go : (b : Bool) → from b S ≡ from b empty
+    go : (b : Bool) → from b S ≡ from b (empty Edition.first)
     go true = refl
     go false = refl
 
 -- the table after a call goes with its state
 kept-after : (words : List ℕ) (S : State) → tableAfter (tableAfter words S) S ≡ tableAfter words S
 unfolding tableAfter
-kept-after words S = go (wrongTable (length words)) refl
+kept-after words S = go (wrongTable (S .declared .edition) (length words)) refl
   where
     kept : List ℕ
     kept = table (S .declared) (S .ties)
@@ -44,9 +46,9 @@ kept-after words S = go (wrongTable (length words)) refl
     either true = refl
     either false = refl
 
-    go : (b : Bool) → wrongTable (length words) ≡ b → (if wrongTable (length (if b then words else kept)) then (if b then words else kept) else kept) ≡ (if b then words else kept)
+    go : (b : Bool) → wrongTable (S .declared .edition) (length words) ≡ b → (if wrongTable (S .declared .edition) (length (if b then words else kept)) then (if b then words else kept) else kept) ≡ (if b then words else kept)
     go true e = ap (λ (c : Bool). if c then words else kept) e
-    go false e = either (wrongTable (length kept))
+    go false e = either (wrongTable (S .declared .edition) (length kept))
 
 -- what a call leaves goes with the ledger's state
 pub together-after : (S : State) (words : List ℕ) (c : Call) {a : Answer} {after : Memory} → Standing S
@@ -100,12 +102,12 @@ pub runs-are-the-ledger : (lent : Memory) (file : Bytes) (calls : List Call) (re
     → map seen results ≡ map posted (ledger (lent .words) file calls)
 unfolding ledger
 runs-are-the-ledger lent file calls results (next {after = after} {rest = rest} (loads g) run) =
-    one-more empty (Call.load file) (lent .words) calls (map seen rest) g
-    (run-posts (outcome empty (lent .words) (Call.load file) .state) after calls rest (together-after empty (lent .words) (Call.load file) empty-standing g) run)
+    one-more (empty Edition.first) (Call.load file) (lent .words) calls (map seen rest) g
+    (run-posts (outcome (empty Edition.first) (lent .words) (Call.load file) .state) after calls rest (together-after (empty Edition.first) (lent .words) (Call.load file) (empty-standing Edition.first) g) run)
 
 -- what is lent to a call of a run goes with the ledger's state
 pub leads-together : {first : Memory} {calls : List Call} {S : State} {lent : Memory} → Leads first calls S lent → Together S (lent .book) (lent .code) (lent .words)
-leads-together {first} (from-load {file = file} (loads g)) = together-after empty (first .words) (Call.load file) empty-standing g
+leads-together {first} (from-load {file = file} (loads g)) = together-after (empty Edition.first) (first .words) (Call.load file) (empty-standing Edition.first) g
 leads-together (from-there {S = S} {c = c} {before = before} run does) =
     let t = leads-together run in
     together-after S (before .words) c (t .standing) (does-gives t does)
@@ -118,17 +120,17 @@ end-more S words [] c = (refl, refl)
 end-more S words (d ∷ calls) c = end-more (outcome S words d .state) (outcome S words d .words) calls c
 
 ends : {first : Memory} {calls : List Call} {S : State} {lent : Memory} → Leads first calls S lent
-    → (endState empty (ledgerFrom empty (first .words) calls) ≡ S) × (endWords (first .words) (ledgerFrom empty (first .words) calls) ≡ lent .words)
+    → (endState (empty Edition.first) (ledgerFrom (empty Edition.first) (first .words) calls) ≡ S) × (endWords (first .words) (ledgerFrom (empty Edition.first) (first .words) calls) ≡ lent .words)
 ends (from-load (loads g)) = (refl, g .table)
 ends {first} (from-there {calls = calls} {c = c} run does) =
     let e = ends run in
-    let more = end-more empty (first .words) calls c in (
+    let more = end-more (empty Edition.first) (first .words) calls c in (
       more .0 ∙ ap₂ (λ (T : State) (w : List ℕ). outcome T w c .state) (e .0) (e .1),
       more .1 ∙ ap₂ (λ (T : State) (w : List ℕ). outcome T w c .words) (e .0) (e .1) ∙ does-gives (leads-together run) does .table,
     )
 
 -- where a list of calls leads is where the ledger of its calls ends, on the table that was lent at first: the state, and the words of the table
 pub leads-where-the-ledger-ends : {first : Memory} {file : Bytes} {calls : List Call} {S : State} {lent : Memory} → Leads first (Call.load file ∷ calls) S lent
-    → (endState empty (ledger (first .words) file calls) ≡ S) × (endWords (first .words) (ledger (first .words) file calls) ≡ lent .words)
+    → (endState (empty Edition.first) (ledger (first .words) file calls) ≡ S) × (endWords (first .words) (ledger (first .words) file calls) ≡ lent .words)
 unfolding ledger
 leads-where-the-ledger-ends run = ends run

@@ -95,5 +95,5 @@ module _ {first : Memory} {calls : List Call} {S : State} {before after : Memory
   edits-refused = EditsInRuns.refused-stays run does
 
   -- and its count is exact
-  pub edits-counted : changed ≡ countOf (setChanged (before .words) (after .words)) (below holderNumbers)
+  pub edits-counted : changed ≡ countOf (setChanged (before .words) (after .words)) (below (holderNumbers (S .declared .edition)))
   edits-counted = EditsInRuns.count-in-run run does

@@ -2,6 +2,7 @@
 use Prim.Native.Nat.{ℕ}
 use mathlib.Core.Path.{_≡_}
 use mathlib.Core.List.{List}
+use Rattle.model.specs.Limits.{Edition}
 use Rattle.model.specs.Bytes.{Bytes}
 use Rattle.model.specs.State.{State, empty}
 use Rattle.model.specs.Ledger.{Call, Answer, loaded, edited, tableAfter, Outcome, outcome}
@@ -20,9 +21,9 @@ pub record Together (S : State) (book : List ℕ) (code : Bytes) (words : List �
   pub holds : Holds book code S
   pub kept : tableAfter words S ≡ words
 
--- "A load gives both anew": whatever book and table were before
+-- "A load gives both anew": whatever book and table were before, and of whatever edition
 abbrev pub Loads : Bytes → List ℕ → ℕ → ℕ → List ℕ → List ℕ → Bytes → Type 0
-Loads file words number line words′ book′ code′ = Gives (outcome empty words (Call.load file)) (loaded number line) words′ book′ code′
+Loads file words number line words′ book′ code′ = Gives (outcome (empty Edition.first) words (Call.load file)) (loaded number line) words′ book′ code′
 
 -- an edit, on a book and a table that go together
 abbrev pub Edits : Bytes → List ℕ → List ℕ → ℕ → ℕ → List ℕ → List ℕ → Type 0

@@ -4,7 +4,7 @@ use mathlib.Core.Path.{_≡_}
 use mathlib.Core.List.{List}
 use lib.ListN.{length}
 use Rattle.model.specs.Notation.{if_then_else_}
-use Rattle.model.specs.Limits.{tableWords}
+use Rattle.model.specs.Limits.{Edition, tableWords}
 use Rattle.model.specs.Numbers as refusal
 use Rattle.model.specs.Bytes.{Bytes}
 use Rattle.model.specs.State.{State}
@@ -44,6 +44,6 @@ Answered counts operations code attributes pairs table block entries r =
 -- r is what a request is answered: 1 on a table of another length, and as the document says on a book and a table that stand for a state, by its case
 -- and by this paper's number and values. Nothing is written
 pub record Decides (block : Bytes) (book : List ℕ) (code : Bytes) (words : List ℕ) (r : Decision) : Type 0 where
-  pub other-table : (length words ≡ tableWords → ⊥) → decisionOf r ≡ model.refused refusal.wrongTable
+  pub other-table : (length words ≡ tableWords Edition.first → ⊥) → decisionOf r ≡ model.refused refusal.wrongTable
   pub decision : (S : State) → Standing S → Holds book code S → words ≡ table (S .declared) (S .ties) → decisionOf r ≡ model.decide S block
   pub numbers : (S : State) → Standing S → Holds book code S → words ≡ table (S .declared) (S .ties) → numberAndValuesOf r ≡ model.numberAndValues (model.decide S block)

@@ -7,7 +7,7 @@ use mathlib.Core.List.{List, [], _∷_}
 use mathlib.Core.Option.{Option, some}
 use lib.ListN.{length}
 use Rattle.model.specs.Notation.{_>>=_, _is_, isNone}
-use Rattle.model.specs.Limits.{tableWords, holderNumbers}
+use Rattle.model.specs.Limits.{Edition, tableWords, holderNumbers}
 use Rattle.model.specs.Numbers as refusal
 use Rattle.model.specs.Bytes.{Bytes}
 use Rattle.model.specs.Keys.{Key, isTieKey}
@@ -105,14 +105,14 @@ pub record Untouched (book words : List ℕ) (count : ℕ) (words′ book′ : L
 -- the words of holders that are neither the edited one nor below it stay as they were
 abbrev pub SetsElsewhere : State → Bytes → List ℕ → List ℕ → Type 0
 SetsElsewhere S line words words′ =
-    (k : ℕ) → k < holderNumbers → ((t : Tie) → editedTie S line ≡ some t → (k ≡ editedHolder t → ⊥) × (Below (S .ties) k (editedHolder t) → ⊥))
+    (k : ℕ) → k < holderNumbers (S .declared .edition) → ((t : Tie) → editedTie S line ≡ some t → (k ≡ editedHolder t → ⊥) × (Below (S .ties) k (editedHolder t) → ⊥))
     → setIn words′ k ≡ setIn words k
 
 -- the call. The last four hold of every book and table
 pub record EditCall (line : Bytes) (book words : List ℕ) (number count : ℕ) (words′ book′ : List ℕ) : Type 0 where
   pub edits : Edits line book words number count words′ book′
   pub elsewhere : (S : State) (code : Bytes) → Together S book code words → SetsElsewhere S line words words′
-  pub wrong-table : (length words ≡ tableWords → ⊥) → (number ≡ refusal.wrongTable) × Untouched book words count words′ book′
+  pub wrong-table : (length words ≡ tableWords Edition.first → ⊥) → (number ≡ refusal.wrongTable) × Untouched book words count words′ book′
   pub refused : (number ≡ 0 → ⊥) → Untouched book words count words′ book′
   pub table-long : length words′ ≡ length words
   pub book-long : length book′ ≡ length book

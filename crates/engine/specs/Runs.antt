@@ -3,6 +3,7 @@
 use Prim.Native.Nat.{ℕ}
 use mathlib.Core.Path.{_≡_}
 use mathlib.Core.List.{List, [], _∷_, _++_}
+use Rattle.model.specs.Limits.{Edition}
 use Rattle.model.specs.Bytes.{Bytes}
 use Rattle.model.specs.State.{State, empty}
 use Rattle.model.specs.Decision.{Decision}
@@ -65,6 +66,6 @@ endWords words (o ∷ rest) = endWords (o .words) rest
 
 -- where a list of calls that begins with a load has led, from what was lent at first: the ledger's state, and what is lent to the next call
 pub data Leads (first : Memory) : List Call → State → Memory → Type 0 where
-  from-load : {file : Bytes} {a : Answer} {after : Memory} → Does (load file) first a after → Leads first (load file ∷ []) (outcome empty (first .words) (load file) .state) after
+  from-load : {file : Bytes} {a : Answer} {after : Memory} → Does (load file) first a after → Leads first (load file ∷ []) (outcome (empty Edition.first) (first .words) (load file) .state) after
   from-there : {calls : List Call} {S : State} {c : Call} {a : Answer} {before after : Memory} → Leads first calls S before → Does c before a after
       → Leads first (calls ++ c ∷ []) (outcome S (before .words) c .state) after

@@ -1,7 +1,7 @@
 // Edits: one tie more or one less in the book, and the table kept.
 ghost use mathlib.Core.Path.{_≡_};
 ghost use lib.ListN.{length};
-ghost use Rattle.model.specs.Limits.{tableWords};
+ghost use Rattle.model.specs.Limits.{Edition, tableWords};
 ghost use Rattle.model.specs.Keys.{Key};
 ghost use Rattle.model.specs.Lines.{readFields};
 ghost use Rattle.book.specs.Sections.{bookWords};
@@ -151,7 +151,7 @@ fn change(words: &mut [u64], plus: bool, t: Tie)
 
 // The table refreshed after an edit of holder `edited`, by the book's sections of ties; answers how many sets changed.
 fn refresh(table: &mut [u64], words: &[u64], edited: usize) -> u32
-    requires { ⌜ (length (now words) ≡ bookWords) × (length (now table) ≡ tableWords) ⌝ }
+    requires { ⌜ (length (now words) ≡ bookWords) × (length (now table) ≡ tableWords Edition.first) ⌝ }
     ensures { λ r. ⌜ TableKept (now (words .entry)) edited (now (table .entry)) (now (table .exit)) r ⌝ }
 {
     let changed = sets::refresh(
@@ -166,7 +166,7 @@ fn refresh(table: &mut [u64], words: &[u64], edited: usize) -> u32
 
 // An edit that is not refused: the tie more or less, and the table refreshed; answers how many sets changed.
 fn apply(words: &mut [u64], table: &mut [u64], plus: bool, t: Tie) -> u32
-    requires { ⌜ (length (now words) ≡ bookWords) × (length (now table) ≡ tableWords) ⌝ }
+    requires { ⌜ (length (now words) ≡ bookWords) × (length (now table) ≡ tableWords Edition.first) ⌝ }
     ensures { λ r. ⌜ Applied plus (tieBy (t .kind) (t .lower) (t .upper)) (now (words .entry)) (now (words .exit)) (now (table .entry)) (now (table .exit)) r ⌝ }
 {
     change(words, plus, t);

@@ -1,7 +1,7 @@
 // A load: a file read into the book, and the table of its state.
 ghost use mathlib.Core.Path.{_≡_};
 ghost use lib.ListN.{length};
-ghost use Rattle.model.specs.Limits.{tableWords};
+ghost use Rattle.model.specs.Limits.{Edition, tableWords};
 ghost use Rattle.model.specs.State.{empty};
 ghost use Rattle.book.specs.Sections.{bookWords, ruleBytes};
 ghost use Rattle.book.specs.Held.{Holds};
@@ -19,7 +19,7 @@ use codes::WRONG_TABLE;
 
 // Fills the table from the book's ties.
 fn fill(words: &[u64], table: &mut [u64])
-    requires { ⌜ (length (now words) ≡ bookWords) × (length (now table) ≡ tableWords) ⌝ }
+    requires { ⌜ (length (now words) ≡ bookWords) × (length (now table) ≡ tableWords Edition.first) ⌝ }
     ensures { λ _. ⌜ TableFilled (now (words .entry)) (now (table .exit)) ⌝ }
 {
     sets::fill(
@@ -34,7 +34,7 @@ fn fill(words: &[u64], table: &mut [u64])
 // keeps its words.
 fn refuse(words: &mut [u64], code: &[u8], table: &mut [u64])
     requires { ⌜ (length (now words) ≡ bookWords) × (length (now code) ≡ ruleBytes) ⌝ }
-    ensures { λ _. ⌜ Holds (now (words .exit)) (now (code .entry)) empty × Cleared (now (table .entry)) (now (table .exit)) ⌝ }
+    ensures { λ _. ⌜ Holds (now (words .exit)) (now (code .entry)) (empty Edition.first) × Cleared (now (table .entry)) (now (table .exit)) ⌝ }
 {
     book::declare::clear(words);
     if table.len() == TABLE_WORDS {

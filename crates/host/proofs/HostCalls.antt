@@ -8,9 +8,10 @@ use lib.ListN.{length}
 use lib.Dec.{eqb}
 use borrow.Author.Tests.{eq-eqb, eqb-true}
 use Rattle.model.specs.Notation.{if_then_else_}
-use Rattle.model.specs.Limits.{tableWords}
+use Rattle.model.specs.Limits.{Edition, tableWords}
 use Rattle.model.specs.Numbers as refusal
 use Rattle.model.specs.Bytes.{Bytes}
+use Rattle.model.specs.Lines.{namedEdition}
 use Rattle.model.specs.Table.{table}
 use Rattle.model.specs.State.{State, empty}
 use Rattle.model.specs.Refusals.{wrongTable}
@@ -20,11 +21,12 @@ use Rattle.model.specs.Decision.{numberAndValues}
 use Rattle.model.specs.Ledger.{Call, Answer, loaded, edited, decided, tableAfter, Outcome, outcome, ledger}
 use Rattle.model.specs.Host.{hostCall, hostTable}
 use Rattle.model.proofs.Table.{table-length}
+use Rattle.model.proofs.Editions.{load-edition}
+use Rattle.model.proofs.Outcomes.{outcomeBy, outcome-by}
 use Rattle.engine.specs.Decisions.{decisionOf, numberAndValuesOf}
 use Rattle.engine.specs.Calls.{Loads}
 use Rattle.engine.specs.EditSteps.{EditCall}
 use Rattle.engine.specs.Runs.{Memory, Does, endWords}
-use Rattle.engine.proofs.Outcomes.{outcomeBy, outcome-by}
 use Rattle.engine.proofs.Promises.{file-loaded, line-edited, request-decided}
 use Rattle.host.specs.AnswerNumbers.{high, carriedValue, RequestNumber}
 
@@ -66,38 +68,38 @@ itself n = go (eqb n 0) refl
     go true e = sym (eqb-true n 0 e)
     go false e = refl
 
-table-right : (S : State) → wrongTable (length (table (S .declared) (S .ties))) ≡ false
+table-right : (S : State) → wrongTable (S .declared .edition) (length (table (S .declared) (S .ties))) ≡ false
 unfolding wrongTable
-table-right S = ap not (eq-eqb (length (table (S .declared) (S .ties))) tableWords (table-length (S .declared) (S .ties)))
+table-right S = ap not (eq-eqb (length (table (S .declared) (S .ties))) (tableWords (S .declared .edition)) (table-length (S .declared) (S .ties)))
 
 module _ (file block : Bytes) (words : List ℕ) where
   abbrev read : State
   read = model.load file .state
 
   -- what the list comes to, by a law of its two outcomes
-  by-outcomes : {A : Type 0} (f : List Outcome → A) (b : Bool) → wrongTable (length words) ≡ b
+  by-outcomes : {A : Type 0} (f : List Outcome → A) (b : Bool) → wrongTable (namedEdition file) (length words) ≡ b
       → f (ledger words file (Call.request block ∷ []))
-      ≡ (if b then f (outcomeBy true empty words (Call.load file) ∷ outcomeBy true empty words (Call.request block) ∷ [])
-      else f (outcomeBy false empty words (Call.load file) ∷ outcomeBy false read (table (read .declared) (read .ties)) (Call.request block) ∷ []))
+      ≡ (if b then f (outcomeBy true (empty Edition.first) words (Call.load file) ∷ outcomeBy true (empty (namedEdition file)) words (Call.request block) ∷ [])
+      else f (outcomeBy false (empty Edition.first) words (Call.load file) ∷ outcomeBy false read (table (read .declared) (read .ties)) (Call.request block) ∷ []))
   unfolding ledger
   by-outcomes f true e =
-      ap (λ (o : Outcome). f (o ∷ outcome (o .state) (o .words) (Call.request block) ∷ [])) (outcome-by empty words (Call.load file) e)
-      ∙ ap (λ (o : Outcome). f (outcomeBy true empty words (Call.load file) ∷ o ∷ [])) (outcome-by empty words (Call.request block) e)
+      ap (λ (o : Outcome). f (o ∷ outcome (o .state) (o .words) (Call.request block) ∷ [])) (outcome-by (empty Edition.first) words (Call.load file) e)
+      ∙ ap (λ (o : Outcome). f (outcomeBy true (empty Edition.first) words (Call.load file) ∷ o ∷ [])) (outcome-by (empty (namedEdition file)) words (Call.request block) e)
   by-outcomes f false e =
-      ap (λ (o : Outcome). f (o ∷ outcome (o .state) (o .words) (Call.request block) ∷ [])) (outcome-by empty words (Call.load file) e)
-      ∙ ap (λ (o : Outcome). f (outcomeBy false empty words (Call.load file) ∷ o ∷ [])) (outcome-by read (table (read .declared) (read .ties)) (Call.request block) (table-right read))
+      ap (λ (o : Outcome). f (o ∷ outcome (o .state) (o .words) (Call.request block) ∷ [])) (outcome-by (empty Edition.first) words (Call.load file) e)
+      ∙ ap (λ (o : Outcome). f (outcomeBy false (empty Edition.first) words (Call.load file) ∷ o ∷ [])) (outcome-by read (table (read .declared) (read .ties)) (Call.request block) (table-right read))
 
   -- its number is that of the load where that is refused, else that of the request
   pub pass-is-the-ledger : hostCall file block (length words) ≡ firstNumber (ledger words file (Call.request block ∷ []))
   unfolding hostCall
-  pass-is-the-ledger = go (wrongTable (length words)) refl
+  pass-is-the-ledger = go (wrongTable (namedEdition file) (length words)) refl
     where
       number : Bool → ℕ
       number b =
           if b then refusal.wrongTable
           else (if eqb (model.load file .number) 0 then numberAndValues (decision.decide read block) .0 else model.load file .number)
 
-      go : (b : Bool) → wrongTable (length words) ≡ b → number (wrongTable (length words)) ≡ firstNumber (ledger words file (Call.request block ∷ []))
+      go : (b : Bool) → wrongTable (namedEdition file) (length words) ≡ b → number (wrongTable (namedEdition file) (length words)) ≡ firstNumber (ledger words file (Call.request block ∷ []))
       go true e = ap number e ∙ sym (by-outcomes firstNumber true e)
       go false e =
           ap number e
@@ -107,11 +109,12 @@ module _ (file block : Bytes) (words : List ℕ) where
   -- and its table that of the list
   pub pass-table-is-the-ledger : hostTable file words ≡ endWords words (ledger words file (Call.request block ∷ []))
   unfolding hostTable tableAfter
-  pass-table-is-the-ledger = go (wrongTable (length words)) refl
+  pass-table-is-the-ledger =
+      ap (λ (e : Edition). kept (wrongTable e (length words))) (load-edition file) ∙ go (wrongTable (namedEdition file) (length words)) refl
     where
       kept : Bool → List ℕ
       kept b = if b then words else table (read .declared) (read .ties)
 
-      go : (b : Bool) → wrongTable (length words) ≡ b → kept (wrongTable (length words)) ≡ endWords words (ledger words file (Call.request block ∷ []))
+      go : (b : Bool) → wrongTable (namedEdition file) (length words) ≡ b → kept (wrongTable (namedEdition file) (length words)) ≡ endWords words (ledger words file (Call.request block ∷ []))
       go true e = ap kept e ∙ sym (by-outcomes (endWords words) true e)
       go false e = ap kept e ∙ sym (by-outcomes (endWords words) false e)

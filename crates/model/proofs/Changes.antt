@@ -95,18 +95,18 @@ module _ (D : Declarations) (T U : Ties) (before : Standing (record { declared =
       words : (W : Ties) → setIn (table D W) k ≡ wordsOf (effectiveSet D W k)
       words W = set-in-table D W k (laws.holder-fits before k h) ∙ holder-words W k h
 
-  changed-other : (k : ℕ) → isHolder D k ≡ false → k < holderNumbers → setChanged (table D T) (table D U) k ≡ false
+  changed-other : (k : ℕ) → isHolder D k ≡ false → k < holderNumbers (D .edition) → setChanged (table D T) (table D U) k ≡ false
   unfolding setChanged
   changed-other k h l =
       differ-not (setIn (table D T) k) (setIn (table D U) k)
       (set-in-table D T k l ∙ other-words T k h ∙ sym (other-words U k h) ∙ sym (set-in-table D U k l))
 
   -- "the number of holders whose stored set changed"
-  pub changes-exact : changes D T U ≡ countOf (setChanged (table D T) (table D U)) (below holderNumbers)
+  pub changes-exact : changes D T U ≡ countOf (setChanged (table D T) (table D U)) (below (holderNumbers (D .edition)))
   unfolding changes holderNumbersOf
   changes-exact =
       count-ext (differs D T U) (setChanged (table D T) (table D U)) (holderNumbersOf D) (λ k m. changed-holder k (laws.holder-below D k m))
-      ∙ count-numbers (λ h. h .number) (setChanged (table D T) (table D U)) (D .holders) holderNumbers (before .declarations .holders .ordered)
+      ∙ count-numbers (λ h. h .number) (setChanged (table D T) (table D U)) (D .holders) (holderNumbers (D .edition)) (before .declarations .holders .ordered)
       (λ k m. laws.holder-fits before k (laws.holder-below D k m))
       (λ k l out. changed-other k (absent k out (true-or-false (isHolder D k))) l)
     where

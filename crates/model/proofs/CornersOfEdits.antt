@@ -4,6 +4,7 @@ use Prim.Native.String.{String}
 use mathlib.Core.Path.{refl}
 use mathlib.Core.List.{List, [], _∷_, _++_}
 use lib.ListN.{replicate}
+use Rattle.model.specs.Limits.{Edition}
 use Rattle.model.specs.Bytes.{Bytes, bytes}
 use Rattle.model.specs.State.{State, empty}
 use Rattle.model.specs.Edits.{edit}
@@ -70,6 +71,6 @@ emptyEdits =
     ∷ "+value=admin,a,1\n" yields (8, 0)
     ∷ []
 
-pub empty-edits-agree : Agree (λ text. answer empty (bytes text)) emptyEdits
+pub empty-edits-agree : Agree (λ text. answer (empty Edition.first) (bytes text)) emptyEdits
 unfolding computing
 empty-edits-agree = refl

@@ -3,7 +3,9 @@ use Prim.Native.Nat.{ℕ}
 use mathlib.Core.Path.{refl}
 use mathlib.Core.List.{List, [], _∷_}
 use lib.ListN.{replicate}
+use Rattle.model.specs.Limits.{Edition}
 use Rattle.model.specs.Bytes.{Bytes, bytes}
+use Rattle.model.specs.State.{empty}
 use Rattle.model.specs.Load.{load}
 use Rattle.model.specs.Decision.{Decision, permit, deny, undefined, refused, decide}
 use Rattle.model.specs.Ledger.{Call, Answer, loaded, edited, decided, step}
@@ -71,6 +73,23 @@ calls =
 pub calls-agree : Agree (λ (words, c). step words valley c .answer) calls
 unfolding computing
 calls-agree = refl
+
+-- a state of the second edition goes with 4,096 words, a load with those of the edition that its file names
+abbrev pub secondCalls : List ((ℕ × Call) × Answer)
+secondCalls =
+    (1024, Call.request []) yields decided (refused 1)
+    ∷ (4096, Call.request []) yields decided (refused 15)
+    ∷ (1024, Call.edit (bytes "x")) yields edited 1 0
+    ∷ (4096, Call.edit (bytes "x")) yields edited 4 0
+    ∷ (4096, Call.load (bytes "rights=1\n")) yields loaded 1 0
+    ∷ (1024, Call.load (bytes "rights=1\n")) yields loaded 0 1
+    ∷ (4096, Call.load (bytes "rights=2\n")) yields loaded 1 0
+    ∷ (1024, Call.load (bytes "rights=2\n")) yields loaded 3 1
+    ∷ []
+
+pub second-calls-agree : Agree (λ (words, c). step words (empty Edition.second) c .answer) secondCalls
+unfolding computing
+second-calls-agree = refl
 
 -- L05: the C call, by the valley file's block, and by the length of the table
 abbrev pub hostCalls : List ((Bytes × List ℕ × ℕ) × ℕ)

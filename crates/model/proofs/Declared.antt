@@ -11,7 +11,7 @@ use lib.ListN.{length}
 use lib.Dec.{eqb, leb, ltb}
 use borrow.Author.Tests.{leb-false, not-false, not-true, eqb-true, eqb-false, eq-eqb, ne-eqb, lt-ltb, le-ltb}
 use Rattle.model.specs.Notation.{if_then_else_, _>>=_, _is_, isNone, anyOf, allOf, nth, place}
-use Rattle.model.specs.Limits.{attributeLimit, operationLimit, pairLimit, holderNumbers, groupLimit, ruleLimit}
+use Rattle.model.specs.Limits.{Edition, attributeLimit, operationLimit, pairLimit, holderNumbers, groupLimit, ruleLimit}
 use Rattle.model.specs.Bytes.{Bytes, bytes, same}
 use Rattle.model.specs.Names.{isName}
 use Rattle.model.specs.Attributes.{Source, AtomType, sourceWord, sources, sameSource, typeWord, types, fromBlock, sameType}
@@ -160,16 +160,16 @@ module _ {D : Declarations} (well : WellDeclared D) where
     few = rw e (well .pairs .few);
   }
 
-  holders-kept : (E : Declarations) → E .holders ≡ D .holders → HoldersStand E
+  holders-kept : (E : Declarations) → E .edition ≡ D .edition → E .holders ≡ D .holders → HoldersStand E
   unfolding holderNumbersOf groups
-  holders-kept E e = record {
+  holders-kept E same e = record {
     ordered = rw e (well .holders .ordered);
     gapless = rw e (well .holders .gapless);
     admin-first = rw e (well .holders .admin-first);
     others = rw e (well .holders .others);
     named = rw e (well .holders .named);
     unique = rw e (well .holders .unique);
-    few = rw e (well .holders .few);
+    few = rw (same, e) (well .holders .few);
     few-groups = rw e (well .holders .few-groups);
   }
 
@@ -189,7 +189,7 @@ module _ {D : Declarations} (well : WellDeclared D) where
         };
         operations = well .operations;
         pairs = pairs-kept (withAttribute a D) stay (λ i b e. nth-append (D .attributes) (a ∷ []) i e) refl;
-        holders = holders-kept (withAttribute a D) refl;
+        holders = holders-kept (withAttribute a D) refl refl;
         rules = rules-kept (withAttribute a D) stay (λ o k e. e) refl;
       }
 
@@ -205,7 +205,7 @@ module _ {D : Declarations} (well : WellDeclared D) where
       few = one-longer operationLimit (D .operations) n room;
     };
     pairs = pairs-kept (withOperation n D) (λ s m k e. e) (λ i a e. e) refl;
-    holders = holders-kept (withOperation n D) refl;
+    holders = holders-kept (withOperation n D) refl refl;
     rules = rules-kept (withOperation n D) (λ s m k e. e) (λ o k e. place-append (same o) (D .operations) (n ∷ []) e) refl;
   }
 
@@ -219,7 +219,7 @@ module _ {D : Declarations} (well : WellDeclared D) where
       unique = unique-more alikePairs (D .pairs) p (well .pairs .unique) (apart alikePairs pairs-sym (D .pairs) p new);
       few = one-longer pairLimit (D .pairs) p room;
     };
-    holders = holders-kept (withPair p D) refl;
+    holders = holders-kept (withPair p D) refl refl;
     rules = rules-kept (withPair p D) (λ s m k e. e) (λ o k e. e) refl;
   }
 
@@ -229,7 +229,7 @@ module _ {D : Declarations} (well : WellDeclared D) where
     attributes = well .attributes;
     operations = well .operations;
     pairs = pairs-kept (withRule r D) (λ s m k e. e) (λ i a e. e) refl;
-    holders = holders-kept (withRule r D) refl;
+    holders = holders-kept (withRule r D) refl refl;
     rules = record {
       each = λ i q e. rule-stays D (withRule r D) (λ s m k e. e) (λ o k e. e) q (each-more (D .rules) r (well .rules .each) stands i q e);
       few = one-longer ruleLimit (D .rules) r room;
@@ -245,7 +245,7 @@ module _ {D : Declarations} (well : WellDeclared D) where
   unfolding attributeNumber operationNumber holderNumber holderNumbersOf groups
   holder-more h at no-admin named new room =
       let (room-for-holders, room-for-groups) =
-      or-none (leb holderNumbers (length (holderNumbersOf D))) (isGroup (h .sort) && leb groupLimit (groups D)) room in
+      or-none (leb (holderNumbers (D .edition)) (length (holderNumbersOf D))) (isGroup (h .sort) && leb groupLimit (groups D)) room in
       let free : holderOf D (h .number) ≡ none = ap (holderOf D) at ∙ next-free in
       let longer = length-inserted (λ g. g .number) h (D .holders) in
       record {
@@ -262,7 +262,7 @@ module _ {D : Declarations} (well : WellDeclared D) where
           others = λ k g e. ⊎-elim (well .holders .others k g) (λ q. rw (q .1) at no-admin) (holder-cases D h free (suc k) g e);
           named = λ k g e. ⊎-elim (well .holders .named k g) (λ q. rw (q .1) at named) (holder-cases D h free k g e);
           unique = λ j k g f e d s. only j k g f s (holder-cases D h free j g e) (holder-cases D h free k f d);
-          few = omega (arith, length-map (λ g. g .number) (withHolder h D .holders), length-map (λ g. g .number) (D .holders), longer, leb-false holderNumbers (length (holderNumbersOf D)) room-for-holders);
+          few = omega (arith, length-map (λ g. g .number) (withHolder h D .holders), length-map (λ g. g .number) (D .holders), longer, leb-false (holderNumbers (D .edition)) (length (holderNumbersOf D)) room-for-holders);
           few-groups = rw (count-inserted (λ g. g .number) h (λ g. isGroup (g .sort)) (D .holders)) (one-more-group (isGroup (h .sort)) (groups D) (well .holders .few-groups) room-for-groups);
         };
         rules = rules-kept (withHolder h D) (λ s m k e. e) (λ o k e. e) refl;
@@ -350,12 +350,12 @@ declare-well S (value h n v) well a = well
 declare-well S (rule o ts) well a = rule-more well _ (rule-of-line (S .declared) o ts (a .formed) (a .within) (a .known)) (a .room)
 
 -- "the empty D": holder 0 alone
-pub alone : (k : ℕ) → holderOf nothingDeclared (suc k) ≡ none
-alone k = rw (ne-eqb 0 (suc k) (λ e. omega arith))
+pub alone : (e : Edition) (k : ℕ) → holderOf (nothingDeclared e) (suc k) ≡ none
+alone e k = rw (ne-eqb 0 (suc k) (λ e. omega arith))
 
-pub nothing-well : WellDeclared nothingDeclared
+pub nothing-well : (e : Edition) → WellDeclared (nothingDeclared e)
 unfolding holderNumbersOf groups isName
-nothing-well = record {
+nothing-well edition = record {
   attributes = record { named = λ i x e. none-is-some e; typed = λ i x e. none-is-some e; unique = λ i j x y e. none-is-some e; few = omega arith };
   operations = record { named = λ i x e. none-is-some e; unique = λ i j x y e. none-is-some e; few = omega arith };
   pairs = record { each = λ i x e. none-is-some e; unique = λ i j x y e. none-is-some e; few = omega arith };
@@ -363,7 +363,7 @@ nothing-well = record {
     ordered = refl;
     gapless = gapless;
     admin-first = refl;
-    others = λ k h e. none-is-some (sym (alone k) ∙ e);
+    others = λ k h e. none-is-some (sym (alone edition k) ∙ e);
     named = one (λ h. isName (h .name) ≡ true) refl;
     unique = λ j k g h e f s. only j g e ∙ sym (only k h f);
     few = omega arith;
@@ -372,17 +372,17 @@ nothing-well = record {
   rules = record { each = λ i x e. none-is-some e; few = omega arith };
 }
   where
-    gapless : (k : ℕ) → isHolder nothingDeclared k ≡ ltb k 1
+    gapless : (k : ℕ) → isHolder (nothingDeclared edition) k ≡ ltb k 1
     gapless zero = refl
-    gapless (suc k) = ap (λ (o : Option Holder). not (isNone o)) (alone k) ∙ sym (le-ltb (suc k) 1 (omega arith))
+    gapless (suc k) = ap (λ (o : Option Holder). not (isNone o)) (alone edition k) ∙ sym (le-ltb (suc k) 1 (omega arith))
 
-    only : (k : ℕ) (h : Holder) → holderOf nothingDeclared k ≡ some h → k ≡ 0
+    only : (k : ℕ) (h : Holder) → holderOf (nothingDeclared edition) k ≡ some h → k ≡ 0
     only zero h e = refl
-    only (suc k) h e = none-is-some (sym (alone k) ∙ e)
+    only (suc k) h e = none-is-some (sym (alone edition k) ∙ e)
 
-    one : (P : Holder → Type 0) → P (record { number = 0; sort = Sort.admin; name = bytes "admin" }) → (k : ℕ) (h : Holder) → holderOf nothingDeclared k ≡ some h → P h
+    one : (P : Holder → Type 0) → P (record { number = 0; sort = Sort.admin; name = bytes "admin" }) → (k : ℕ) (h : Holder) → holderOf (nothingDeclared edition) k ≡ some h → P h
     one P p zero h e = rw (Option·some-injective _ _ e) at p
-    one P p (suc k) h e = none-is-some (sym (alone k) ∙ e)
+    one P p (suc k) h e = none-is-some (sym (alone edition k) ∙ e)
 
 -- a pair's attribute, by its number
 pub record PairDeclared (D : Declarations) (p : Pair) : Type 0 where

@@ -32,7 +32,7 @@ pub record WithinLimits (D : Declarations) : Type 0 where
   pub attributes-within : length (D .attributes) ≤ attributeLimit
   pub operations-within : length (D .operations) ≤ operationLimit
   pub pairs-within : length (D .pairs) ≤ pairLimit
-  pub holders-within : length (D .holders) ≤ 1 + holderLimit
+  pub holders-within : length (D .holders) ≤ 1 + holderLimit (D .edition)
   pub groups-within : groups D ≤ groupLimit
   pub rules-within : length (D .rules) ≤ ruleLimit
 
@@ -63,11 +63,11 @@ group-within D s n w e = go (isGroup s) e (groups-last D (record { number = leng
     go false e q = omega arith
 
 -- a holder more is one longer
-holder-over : (D : Declarations) (s : Sort) (n : Bytes) → leb holderNumbers (length (holderNumbersOf D)) ≡ true → length (declare (holder s n) D .holders) ≤ 1 + holderLimit → ⊥
-holder-over D s n e h = omega (arith, numbers-length D, leb-true holderNumbers (length (holderNumbersOf D)) e, length-inserted (λ x. x .number) (record { number = length (D .holders); sort = s; name = n }) (D .holders))
+holder-over : (D : Declarations) (s : Sort) (n : Bytes) → leb (holderNumbers (D .edition)) (length (holderNumbersOf D)) ≡ true → length (declare (holder s n) D .holders) ≤ 1 + holderLimit (D .edition) → ⊥
+holder-over D s n e h = omega (arith, numbers-length D, leb-true (holderNumbers (D .edition)) (length (holderNumbersOf D)) e, length-inserted (λ x. x .number) (record { number = length (D .holders); sort = s; name = n }) (D .holders))
 
-holder-within : (D : Declarations) (s : Sort) (n : Bytes) → leb holderNumbers (length (holderNumbersOf D)) ≡ false → length (declare (holder s n) D .holders) ≤ 1 + holderLimit
-holder-within D s n e = omega (arith, numbers-length D, leb-false holderNumbers (length (holderNumbersOf D)) e, length-inserted (λ x. x .number) (record { number = length (D .holders); sort = s; name = n }) (D .holders))
+holder-within : (D : Declarations) (s : Sort) (n : Bytes) → leb (holderNumbers (D .edition)) (length (holderNumbersOf D)) ≡ false → length (declare (holder s n) D .holders) ≤ 1 + holderLimit (D .edition)
+holder-within D s n e = omega (arith, numbers-length D, leb-false (holderNumbers (D .edition)) (length (holderNumbersOf D)) e, length-inserted (λ x. x .number) (record { number = length (D .holders); sort = s; name = n }) (D .holders))
 
 -- ---- 11
 
@@ -77,14 +77,14 @@ full-over D (op n) e w = one-over operationLimit (D .operations) n e (w .operati
 full-over D (atom s n a) e w = one-over pairLimit (D .pairs) _ e (w .pairs-within)
 full-over D (holder s n) e w =
     ⊎-elim (λ h. holder-over D s n h (w .holders-within)) (λ g. group-over D s n g (w .groups-within))
-    (or-cases (leb holderNumbers (length (holderNumbersOf D))) (isGroup s && leb groupLimit (groups D)) e)
+    (or-cases (leb (holderNumbers (D .edition)) (length (holderNumbersOf D))) (isGroup s && leb groupLimit (groups D)) e)
 full-over D (parent c g) e w = false-is-true e
 full-over D (member p g) e w = false-is-true e
 full-over D (value h n a) e w = false-is-true e
 full-over D (rule o ts) e w = one-over ruleLimit (D .rules) _ e (w .rules-within)
 
 within : {D : Declarations} → length (D .attributes) ≤ attributeLimit → length (D .operations) ≤ operationLimit → length (D .pairs) ≤ pairLimit
-    → length (D .holders) ≤ 1 + holderLimit → groups D ≤ groupLimit → length (D .rules) ≤ ruleLimit → WithinLimits D
+    → length (D .holders) ≤ 1 + holderLimit (D .edition) → groups D ≤ groupLimit → length (D .rules) ≤ ruleLimit → WithinLimits D
 within a o p h g r = record {
   attributes-within = a;
   operations-within = o;
@@ -104,7 +104,7 @@ still-within D (op n) w e =
 still-within D (atom s n a) w e =
     within (w .attributes-within) (w .operations-within) (one-longer pairLimit (D .pairs) _ e) (w .holders-within) (w .groups-within) (w .rules-within)
 still-within D (holder s n) w e =
-    let (h, g) = or-none (leb holderNumbers (length (holderNumbersOf D))) (isGroup s && leb groupLimit (groups D)) e in
+    let (h, g) = or-none (leb (holderNumbers (D .edition)) (length (holderNumbersOf D))) (isGroup s && leb groupLimit (groups D)) e in
     within (w .attributes-within) (w .operations-within) (w .pairs-within) (holder-within D s n h)
     (group-within D s n (w .groups-within) g) (w .rules-within)
 still-within D (parent c g) w e = w

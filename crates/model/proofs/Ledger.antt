@@ -9,10 +9,11 @@ use lib.ListN.{length}
 use lib.Dec.{eqb}
 use borrow.Author.Tests.{eqb-true, eqb-false}
 use Rattle.model.specs.Notation.{if_then_else_, _>>=_, _or-else_, _is_, isNone}
+use Rattle.model.specs.Limits.{Edition}
 use Rattle.model.specs.Numbers as refusal
 use Rattle.model.specs.Bytes.{Bytes, linesOf}
 use Rattle.model.specs.Keys.{Key}
-use Rattle.model.specs.Lines.{Line, readLine}
+use Rattle.model.specs.Lines.{namedEdition, Line, readLine}
 use Rattle.model.specs.Declarations.{holderNumbersOf}
 use Rattle.model.specs.Ties.{Tie, Ties, editedHolder, added, removed, Below}
 use Rattle.model.specs.Effective.{effective}
@@ -22,7 +23,7 @@ use Rattle.model.specs.Load
 use Rattle.model.specs.Load.{Loaded, readOn, stepped, keyOf, refusedAt, otherLines}
 use Rattle.model.specs.Edits
 use Rattle.model.specs.Edits.{Edited, editedTie, adds, editedTies, accepting, refusing}
-use Rattle.model.specs.Ledger.{Call, step, withTable, withoutTable, Outcome, outcome, ledgerFrom, ledger}
+use Rattle.model.specs.Ledger.{Call, editionFor, step, withTable, withoutTable, Outcome, outcome, ledgerFrom, ledger}
 use Rattle.model.specs.Standing.{Standing, DifferAt}
 use Rattle.model.proofs.Options.{bind-some, some-not}
 use Rattle.model.proofs.Tests.{none-holds}
@@ -55,24 +56,24 @@ stepped-standing : (S : State) (previous : Option Key) (line : Bytes) → Standi
 stepped-standing S previous line standing e none q = standing
 stepped-standing S previous line standing e (some l) q = let (a, c) = accepted-line S previous line l e q in after-standing l standing a c
 
-read-standing : (S : State) (previous : Option Key) (n : ℕ) (ls : List Bytes) → Standing S → Standing (readOn S previous n ls .state)
+read-standing : (edition : Edition) (S : State) (previous : Option Key) (n : ℕ) (ls : List Bytes) → Standing S → Standing (readOn edition S previous n ls .state)
 unfolding readOn
-read-standing S previous n [] standing = standing
-read-standing S previous n (l ∷ ls) standing = go (eqb (lineRefusal S previous l) 0) refl (λ T key s. read-standing T key (suc n) ls s)
+read-standing edition S previous n [] standing = standing
+read-standing edition S previous n (l ∷ ls) standing = go (eqb (lineRefusal S previous l) 0) refl (λ T key s. read-standing edition T key (suc n) ls s)
   where
-    go : (b : Bool) → eqb (lineRefusal S previous l) 0 ≡ b → ((T : State) (key : Option Key) → Standing T → Standing (readOn T key (suc n) ls .state))
-        → Standing ((elim b as (λ _. Loaded) [ true ↦ readOn (stepped S (readLine l)) (keyOf l) (suc n) ls | false ↦ refusedAt (lineRefusal S previous l) (suc n) ]) .state)
+    go : (b : Bool) → eqb (lineRefusal S previous l) 0 ≡ b → ((T : State) (key : Option Key) → Standing T → Standing (readOn edition T key (suc n) ls .state))
+        → Standing ((elim b as (λ _. Loaded) [ true ↦ readOn edition (stepped S (readLine l)) (keyOf l) (suc n) ls | false ↦ refusedAt edition (lineRefusal S previous l) (suc n) ]) .state)
     go true e f = f (stepped S (readLine l)) (keyOf l) (stepped-standing S previous l standing (eqb-true _ _ e) (readLine l) refl)
-    go false e f = empty-standing
+    go false e f = empty-standing edition
 
 pub load-standing : (file : Bytes) → Standing (Load.load file .state)
 unfolding Load.load
 load-standing file = go (tooLong file) (wrongFirstLine file)
   where
-    go : (b c : Bool) → Standing ((elim b as (λ _. Loaded) [ true ↦ refusedAt refusal.tooLong 0 | false ↦ elim c as (λ _. Loaded) [ true ↦ refusedAt refusal.wrongFirstLine 1 | false ↦ readOn empty none 1 (otherLines (linesOf file)) ] ]) .state)
-    go true c = empty-standing
-    go false true = empty-standing
-    go false false = read-standing empty none 1 (otherLines (linesOf file)) empty-standing
+    go : (b c : Bool) → Standing ((elim b as (λ _. Loaded) [ true ↦ refusedAt (namedEdition file) refusal.tooLong 0 | false ↦ elim c as (λ _. Loaded) [ true ↦ refusedAt (namedEdition file) refusal.wrongFirstLine 1 | false ↦ readOn (namedEdition file) (empty (namedEdition file)) none 1 (otherLines (linesOf file)) ] ]) .state)
+    go true c = empty-standing (namedEdition file)
+    go false true = empty-standing (namedEdition file)
+    go false false = read-standing (namedEdition file) (empty (namedEdition file)) none 1 (otherLines (linesOf file)) (empty-standing (namedEdition file))
 
 -- ---- an edit
 
@@ -160,10 +161,10 @@ edit-elsewhere S line k p elsewhere =
 
 pub step-standing : (words : ℕ) {S : State} (c : Call) → Standing S → Standing (step words S c .state)
 unfolding step
-step-standing words {S} c standing = go (wrongTable words) c
+step-standing words {S} c standing = go (wrongTable (editionFor S c) words) c
   where
     go : (b : Bool) (c : Call) → Standing ((if b then withoutTable S c else withTable S c) .state)
-    go true (Call.load file) = empty-standing
+    go true (Call.load file) = empty-standing (namedEdition file)
     go true (Call.edit line) = standing
     go true (Call.request block) = standing
     go false (Call.load file) = load-standing file
@@ -179,12 +180,12 @@ from-standing S words (c ∷ calls) standing o (there m) =
 
 pub ledger-standing : (words : List ℕ) (file : Bytes) (calls : List Call) (o : Outcome) → o ∈ ledger words file calls → Standing (o .state)
 unfolding ledger
-ledger-standing words file calls = from-standing empty words (Call.load file ∷ calls) empty-standing
+ledger-standing words file calls = from-standing (empty Edition.first) words (Call.load file ∷ calls) (empty-standing Edition.first)
 
 -- a request changes nothing
 pub request-keeps : (words : ℕ) (S : State) (block : Bytes) → step words S (Call.request block) .state ≡ S
 unfolding step
-request-keeps words S block = go (wrongTable words)
+request-keeps words S block = go (wrongTable (S .declared .edition) words)
   where
     go : (b : Bool) → (if b then withoutTable S (Call.request block) else withTable S (Call.request block)) .state ≡ S
     go true = refl

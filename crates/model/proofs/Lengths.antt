@@ -74,7 +74,7 @@ module _ (D : Declarations) (well : WellDeclared D) where
   by-ties T U {n} h =
       let all : Longer n (fileLines (with-ties T)) (fileLines (with-ties U)) =
       behind (map attributeLine (D .attributes)) (behind (map op (D .operations)) (behind (map pairLine (D .pairs)) (behind (holderLines D) (before (map ruleLine (D .rules)) h)))) in
-      omega (arith, all .by, length-append firstLine (each lineText (fileLines (with-ties T))), length-append firstLine (each lineText (fileLines (with-ties U))))
+      omega (arith, all .by, length-append (firstLine (D .edition)) (each lineText (fileLines (with-ties T))), length-append (firstLine (D .edition)) (each lineText (fileLines (with-ties U))))
 
   -- the text of a tie's line
   tieText : Tie → Bytes

@@ -44,6 +44,8 @@ pub mod Growing
 pub mod Declared
 pub mod Standing
 pub mod Ledger
+pub mod Editions
+pub mod Outcomes
 pub mod Reached
 pub mod Gate
 pub mod Fallbacks

@@ -11,7 +11,7 @@ use lib.ListN.{length}
 use lib.Dec.{eqb}
 use borrow.Author.Tests.{eq-eqb}
 use Rattle.model.specs.Notation.{if_then_else_, countOf, below}
-use Rattle.model.specs.Limits.{holderNumbers, pairLimit, tableWords}
+use Rattle.model.specs.Limits.{Edition, holderNumbers, pairLimit, tableWords}
 use Rattle.model.specs.Bytes.{Bytes}
 use Rattle.model.specs.Declarations.{holderNumbersOf}
 use Rattle.model.specs.Ties.{Tie, Ties, editedHolder, added, removed, Below, isBelow}
@@ -56,22 +56,23 @@ unchanged t k = ap not (same-refl (setIn t k))
 pub reached-standing : {S : State} → Reached S → Standing S
 reached-standing r = subst Standing (r .state-is) (ledger-standing (r .words) (r .file) (r .calls) (r .last) (r .in-ledger))
 
-pub right-table : (words : List ℕ) → length words ≡ tableWords → wrongTable (length words) ≡ false
+pub right-table : (e : Edition) (words : List ℕ) → length words ≡ tableWords e → wrongTable e (length words) ≡ false
 unfolding wrongTable
-right-table words long = ap not (eq-eqb (length words) tableWords long)
+right-table e words long = ap not (eq-eqb (length words) (tableWords e) long)
 
-pub table-after : (words : List ℕ) (S : State) → length words ≡ tableWords → tableAfter words S ≡ tableOf S
+pub table-after : (words : List ℕ) (S : State) → length words ≡ tableWords (S .declared .edition) → tableAfter words S ≡ tableOf S
 unfolding tableAfter
-table-after words S long = ap (λ (b : Bool). if b then words else tableOf S) (right-table words long)
+table-after words S long = ap (λ (b : Bool). if b then words else tableOf S) (right-table (S .declared .edition) words long)
 
-from-words : (S : State) (words : List ℕ) (calls : List Call) → length words ≡ tableWords
-    → {o : Outcome} → o ∈ ledgerFrom S words calls → o .words ≡ tableOf (o .state)
-from-words S words [] long m = elim m [ ]
-from-words S words (c ∷ calls) long {o} (here e) =
-    subst (λ (x : Outcome). x .words ≡ tableOf (x .state)) (sym e) (table-after words (outcome S words c .state) long)
-from-words S words (c ∷ calls) long (there m) =
+from-words : (S : State) (words : List ℕ) (calls : List Call) {o : Outcome} → o ∈ ledgerFrom S words calls
+    → length words ≡ tableWords (o .state .declared .edition) → o .words ≡ tableOf (o .state)
+from-words S words [] m long = elim m [ ]
+from-words S words (c ∷ calls) {o} (here e) long =
+    subst (λ (x : Outcome). length words ≡ tableWords (x .state .declared .edition) → x .words ≡ tableOf (x .state)) (sym e)
+    (table-after words (outcome S words c .state)) long
+from-words S words (c ∷ calls) (there m) long =
     let o = outcome S words c in
-    from-words (o .state) (o .words) calls (words-after words (o .state) long) m
+    from-words (o .state) (o .words) calls m (words-after words (o .state) ∙ long)
 
 -- ---- a state that is reached
 
@@ -109,26 +110,27 @@ module _ {S : State} (reached : Reached S) where
           (λ c. true≢false (sym (is-below k (editedHolder t) .1 c) ∙ no-chain))
 
   -- "the number of holders whose stored set changed": those whose four words are others in the table behind the edit
-  pub edit-count : (line : Bytes) → edit S line .changed ≡ countOf (setChanged (tableOf S) (tableOf (edit S line .state))) (below holderNumbers)
+  pub edit-count : (line : Bytes) → edit S line .changed ≡ countOf (setChanged (tableOf S) (tableOf (edit S line .state))) (below (holderNumbers (S .declared .edition)))
   unfolding edit
   edit-count line = go (eqb (editRefusal S line) 0) (edit-standing S line standing)
     where
       go : (b : Bool) → Standing ((if b then accepting S line else refusing S line) .state)
           → (if b then accepting S line else refusing S line) .changed
-          ≡ countOf (setChanged (tableOf S) (tableOf ((if b then accepting S line else refusing S line) .state))) (below holderNumbers)
+          ≡ countOf (setChanged (tableOf S) (tableOf ((if b then accepting S line else refusing S line) .state))) (below (holderNumbers (S .declared .edition)))
       go true after = changes-exact (S .declared) (S .ties) (accepting S line .state .ties) standing after
-      go false after = sym (count-below (setChanged (tableOf S) (tableOf S)) 0 holderNumbers (omega arith) (λ k h l. unchanged (tableOf S) k))
+      go false after = sym (count-below (setChanged (tableOf S) (tableOf S)) 0 (holderNumbers (S .declared .edition)) (omega arith) (λ k h l. unchanged (tableOf S) k))
 
 -- ---- the table in the list
 
-module _ (words : List ℕ) (file : Bytes) (calls : List Call) (long : length words ≡ tableWords) {o : Outcome} (m : o ∈ ledger words file calls) where
-  -- "all 1,024 words with those that effective on T gives"
+module _ (words : List ℕ) (file : Bytes) (calls : List Call) {o : Outcome} (m : o ∈ ledger words file calls)
+    (long : length words ≡ tableWords (o .state .declared .edition)) where
+  -- "all 1,024 words with those that effective on T gives", on a table of the state's edition
   pub ledger-table : o .words ≡ tableOf (o .state)
   unfolding ledger
-  ledger-table = from-words empty words (Call.load file ∷ calls) long m
+  ledger-table = from-words (empty Edition.first) words (Call.load file ∷ calls) m long
 
   -- so after every call of every list bit p modulo 64 of word p/64 of the four words from word 4k tells whether p is effective for k
-  pub ledger-layout : (k p : ℕ) → k < holderNumbers → p < pairLimit → pairIn (o .words) k p ≡ effectiveSet (o .state .declared) (o .state .ties) k p
+  pub ledger-layout : (k p : ℕ) → k < holderNumbers (o .state .declared .edition) → p < pairLimit → pairIn (o .words) k p ≡ effectiveSet (o .state .declared) (o .state .ties) k p
   ledger-layout k p h l =
       ap (λ (t : List ℕ). pairIn t k p) ledger-table
       ∙ standing-layout (reached-standing (record { words = words; file = file; calls = calls; last = o; in-ledger = m; state-is = refl })) k p h l

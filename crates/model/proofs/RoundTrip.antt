@@ -11,7 +11,7 @@ use lib.Dec.{eqb, leb, ltb}
 use borrow.Author.Tests.{leb-true, lt-leb, ltb-true, ltb-false}
 use native.Mathlib.Nat.{pow-suc}
 use Rattle.model.specs.Notation.{if_then_else_, _>>=_, _is_, isNone, allOf, map, each, filter, countOf, place, nth, find, inserted}
-use Rattle.model.specs.Limits.{nameBytes, textBytes, largestInt, attributeLimit, operationLimit, pairLimit, holderNumbers, groupLimit}
+use Rattle.model.specs.Limits.{Edition, nameBytes, textBytes, largestInt, attributeLimit, operationLimit, pairLimit, holderNumbers, groupLimit}
 use Rattle.model.specs.Bytes.{Bytes, bytes, same}
 use Rattle.model.specs.Names.{isName, nameByte}
 use Rattle.model.specs.Attributes.{Source, sourceWord, AtomType, typeWord, sameType, sameSource}
@@ -114,8 +114,8 @@ module _ {A : Type 0} where
   shift pre x rest = append-assoc pre (x ∷ []) rest
 
 -- a state by its parts
-abbrev pub parts-of : List Attribute → List Bytes → List Pair → List Holder → List Rule → Ties → State
-parts-of A O P H R T = record { declared = record { attributes = A; operations = O; pairs = P; holders = H; rules = R }; ties = T }
+abbrev pub parts-of : Edition → List Attribute → List Bytes → List Pair → List Holder → List Rule → Ties → State
+parts-of e A O P H R T = record { declared = record { edition = e; attributes = A; operations = O; pairs = P; holders = H; rules = R }; ties = T }
 
 abbrev pub admin : Holder
 admin = record { number = 0; sort = Sort.admin; name = bytes "admin" }
@@ -148,9 +148,9 @@ module _ {A : Type 0} (xs : List A) (S : List A → State) (low : List A → ℕ
 
 -- ---- attributes, operations and pairs
 
-pub attributes-go : (A : List Attribute) → AttributesStand A → Goes (parts-of [] [] [] admin-alone [] noTies) 0 (map attributeLine A) (parts-of A [] [] admin-alone [] noTies) 0
+pub attributes-go : (edition : Edition) (A : List Attribute) → AttributesStand A → Goes (parts-of edition [] [] [] admin-alone [] noTies) 0 (map attributeLine A) (parts-of edition A [] [] admin-alone [] noTies) 0
 unfolding after circular attributeNumber
-attributes-go A stand = list-go A (λ l. parts-of l [] [] admin-alone [] noTies) (λ _. 0) attributeLine λ pre a rest e.
+attributes-go edition A stand = list-go A (λ l. parts-of edition l [] [] admin-alone [] noTies) (λ _. 0) attributeLine λ pre a rest e.
     let allOf : AttributesStand (pre ++ a ∷ rest) = subst AttributesStand (sym e) stand in
     let here = nth-at pre a rest in
     record {
@@ -169,9 +169,9 @@ attributes-go A stand = list-go A (λ l. parts-of l [] [] admin-alone [] noTies)
       to = refl;
     }
 
-pub operations-go : (A : List Attribute) (O : List Bytes) → OperationsStand O → Goes (parts-of A [] [] admin-alone [] noTies) 1 (map op O) (parts-of A O [] admin-alone [] noTies) 1
+pub operations-go : (edition : Edition) (A : List Attribute) (O : List Bytes) → OperationsStand O → Goes (parts-of edition A [] [] admin-alone [] noTies) 1 (map op O) (parts-of edition A O [] admin-alone [] noTies) 1
 unfolding after circular operationNumber
-operations-go A O stand = list-go O (λ l. parts-of A l [] admin-alone [] noTies) (λ _. 1) op λ pre n rest e.
+operations-go edition A O stand = list-go O (λ l. parts-of edition A l [] admin-alone [] noTies) (λ _. 1) op λ pre n rest e.
     let allOf : OperationsStand (pre ++ n ∷ rest) = subst OperationsStand (sym e) stand in
     let here = nth-at pre n rest in
     record {
@@ -200,9 +200,9 @@ pair-named D named p st =
     (k, q, ap isName (sym (same-eq (b .name) (p .name) (parts (sameSource (b .source) (p .source)) (same (b .name) (p .name)) g .1))) ∙ named .named k b f)
 
 pub pairs-go : (D : Declarations) → AttributesStand (D .attributes) → PairsStand D
-    → Goes (parts-of (D .attributes) (D .operations) [] admin-alone [] noTies) 2 (map pairLine (D .pairs)) (parts-of (D .attributes) (D .operations) (D .pairs) admin-alone [] noTies) 2
+    → Goes (parts-of (D .edition) (D .attributes) (D .operations) [] admin-alone [] noTies) 2 (map pairLine (D .pairs)) (parts-of (D .edition) (D .attributes) (D .operations) (D .pairs) admin-alone [] noTies) 2
 unfolding after circular pairNumber attributeOf attributeNumber
-pairs-go D named stand = list-go (D .pairs) (λ l. parts-of (D .attributes) (D .operations) l admin-alone [] noTies) (λ _. 2) pairLine λ pre p rest e.
+pairs-go D named stand = list-go (D .pairs) (λ l. parts-of (D .edition) (D .attributes) (D .operations) l admin-alone [] noTies) (λ _. 2) pairLine λ pre p rest e.
     let here : nth (D .pairs) (length pre) ≡ some p = subst (λ (l : List Pair). nth l (length pre) ≡ some p) e (nth-at pre p rest) in
     let st = stand .each (length pre) p here in
     let (k, q, formed) = pair-named D named p st in
@@ -356,10 +356,10 @@ count-front p (y ∷ pre) x rest = go (p y) (count-front p pre x rest)
 
 -- holders behind admin
 pub holders-go : (D : Declarations) (others : List Holder) → D .holders ≡ admin ∷ others → HoldersStand D → Rising 3 others
-    → Goes (parts-of (D .attributes) (D .operations) (D .pairs) admin-alone [] noTies) 3 (map holderLine others)
-    (parts-of (D .attributes) (D .operations) (D .pairs) (admin ∷ others) [] noTies) (lastRank 3 others)
+    → Goes (parts-of (D .edition) (D .attributes) (D .operations) (D .pairs) admin-alone [] noTies) 3 (map holderLine others)
+    (parts-of (D .edition) (D .attributes) (D .operations) (D .pairs) (admin ∷ others) [] noTies) (lastRank 3 others)
 unfolding after circular holderNumber holderNumbersOf groups
-holders-go D others e stand rises = list-go others (λ l. parts-of (D .attributes) (D .operations) (D .pairs) (admin ∷ l) [] noTies) (lastRank 3) holderLine λ pre h rest f.
+holders-go D others e stand rises = list-go others (λ l. parts-of (D .edition) (D .attributes) (D .operations) (D .pairs) (admin ∷ l) [] noTies) (lastRank 3) holderLine λ pre h rest f.
     let split : D .holders ≡ (admin ∷ pre) ++ h ∷ rest = e ∙ ap (λ (l : List Holder). admin ∷ l) (sym f) in
     let at : h .number ≡ suc (length pre) = holder-at stand (admin ∷ pre) h rest split in
     let found : holderOf D (h .number) ≡ some h = holder-found stand (subst (λ (l : List Holder). h ∈ l) (sym split) (Memᴰ·append-right (admin ∷ pre) (here refl))) in
@@ -379,15 +379,15 @@ holders-go D others e stand rises = list-go others (λ l. parts-of (D .attribute
             let (m, s) = find-in (λ g. same (g .name) (h .name)) (admin ∷ pre) g q in
             omega (arith, before g m, stand .unique (g .number) (h .number) g h (holder-found stand (subst (λ (l : List Holder). g ∈ l) (sym split) (Memᴰ·append-left (h ∷ rest) m))) found s));
         room = ap₂ (λ (x y : Bool). x || y)
-            (ap (leb holderNumbers) (length-map (λ g. g .number) (admin ∷ pre)) ∙ room-left holderNumbers (admin ∷ pre) h rest (subst (λ (l : List Holder). length l ≤ holderNumbers) split (few (stand .few))))
+            (ap (leb (holderNumbers (D .edition))) (length-map (λ g. g .number) (admin ∷ pre)) ∙ room-left (holderNumbers (D .edition)) (admin ∷ pre) h rest (subst (λ (l : List Holder). length l ≤ holderNumbers (D .edition)) split (few (stand .few))))
             (group-room (isGroup (h .sort)) (countOf (λ g. isGroup (g .sort)) (admin ∷ pre)) (groups-few (admin ∷ pre) h rest split));
       };
       no-circle = refl;
-      to = ap (λ (l : List Holder). parts-of (D .attributes) (D .operations) (D .pairs) l [] noTies)
+      to = ap (λ (l : List Holder). parts-of (D .edition) (D .attributes) (D .operations) (D .pairs) l [] noTies)
           (ap (λ (n : ℕ). inserted (λ g. g .number) (record { number = n; sort = h .sort; name = h .name }) (admin ∷ pre)) (sym at) ∙ inserted-last (λ g. g .number) h (admin ∷ pre) before);
     }
   where
-    few : length (holderNumbersOf D) ≤ holderNumbers → length (D .holders) ≤ holderNumbers
+    few : length (holderNumbersOf D) ≤ holderNumbers (D .edition) → length (D .holders) ≤ holderNumbers (D .edition)
     few l = omega (arith, numbers-length D)
 
     groups-few : (pre : List Holder) (h : Holder) (rest : List Holder) → D .holders ≡ pre ++ h ∷ rest

@@ -10,7 +10,7 @@ use lib.ListN.{length, length-append}
 use lib.Dec.{eqb, leb, ltb}
 use borrow.Author.Tests.{eqb-true, eqb-false, leb-true, le-leb, ltb-true, ltb-false}
 use Rattle.model.specs.Notation.{if_then_else_, _>>=_, _is_, isNone, nth, allOf}
-use Rattle.model.specs.Limits.{lineBytes}
+use Rattle.model.specs.Limits.{Edition, lineBytes}
 use Rattle.model.specs.Bytes.{Bytes}
 use Rattle.model.specs.Keys.{Key, rank}
 use Rattle.model.specs.Names.{readName, isName}
@@ -18,14 +18,14 @@ use Rattle.model.specs.Tokens.{isToken, spelled, tokensOf}
 use Rattle.model.specs.Grammar.{readPolicy}
 use Rattle.model.specs.Attributes.{readSource}
 use Rattle.model.specs.Atoms.{readAtom}
-use Rattle.model.specs.Declarations.{Declarations, Holder, Rule, holderOf}
-use Rattle.model.specs.Lines.{Line, attr, op, atom, holder, parent, member, value, rule, readAttr, readOp, readPair, readHolder, readTwo, readValue, readRule, readFields, framed, readLine, writeLine, isLine, Writes}
+use Rattle.model.specs.Declarations.{Declarations, Holder, Rule, nothingDeclared, holderOf}
+use Rattle.model.specs.Lines.{isRead, namedEdition, Line, attr, op, atom, holder, parent, member, value, rule, readAttr, readOp, readPair, readHolder, readTwo, readValue, readRule, readFields, framed, readLine, writeLine, isLine, Writes}
 use Rattle.model.specs.Ties.{Tie, Ties}
 use Rattle.model.specs.State.{State, empty, after, withHolder}
 use Rattle.model.specs.Refusals.{outOfOrder, lineRefusal, wrongTable}
 use Rattle.model.specs.Load
 use Rattle.model.specs.Load.{Loaded, keyOf}
-use Rattle.model.specs.Ledger.{Call, step, withTable, withoutTable, Outcome, outcome, ledgerFrom, ledger}
+use Rattle.model.specs.Ledger.{Call, editionFor, step, withTable, withoutTable, Outcome, outcome, ledgerFrom, ledger}
 use Rattle.model.specs.Standing.{Each, WellDeclared, Standing}
 use Rattle.model.proofs.Lines.{lineKey, sortKey}
 use Rattle.model.proofs.WordTables.{false-is-true, none-is-some}
@@ -41,6 +41,7 @@ use Rattle.model.proofs.Standing.{empty-standing, after-standing}
 use Rattle.model.proofs.Ledger.{accepted-line}
 use Rattle.model.proofs.Refusals.{line-unmet}
 use Rattle.model.proofs.Accepted.{ReadAs, edit-declared}
+use Rattle.model.proofs.Editions.{named-read}
 use Rattle.model.proofs.Loads.{AcceptedLines, end, next, load-accepted, load-refused, refused-load}
 use Rattle.model.proofs.Reached.{Reached}
 
@@ -50,8 +51,10 @@ use Rattle.model.proofs.Reached.{Reached}
 abbrev pub isReached : Key → Option Key → Bool
 isReached key previous = previous is λ p. leb (rank key) (rank p)
 
--- what a file leaves declared: the numbers of holders rise with their keys, and each rule, as it was read from a line, fits one
+-- what a file leaves declared: its edition is one that files have, the numbers of holders rise with their keys, and each rule, as it was read from a line,
+-- fits one
 pub record Loadable (D : Declarations) : Type 0 where
+  pub edition-read : isRead (D .edition) ≡ true
   pub by-key : (j k : ℕ) (g h : Holder) → holderOf D j ≡ some g → holderOf D k ≡ some h → j < k → rank (sortKey (g .sort)) ≤ rank (sortKey (h .sort))
   pub short : Each (λ r. length (writeLine (rule (r .operation) (r .tokens))) ≤ lineBytes) (D .rules)
 
@@ -103,16 +106,16 @@ line-short line l e = let (h, b, w, short, j) = line-exact line l .0 e in omega 
 
 -- ---- a line more
 
-pub nothing-so-far : SoFar empty none
-nothing-so-far = record {
-  loadable = record { by-key = one-only; short = λ i r e. none-is-some e };
-  holders-reached = λ k h e. none-is-some (sym (alone k) ∙ e);
+pub nothing-so-far : (e : Edition) → isRead e ≡ true → SoFar (empty e) none
+nothing-so-far edition read = record {
+  loadable = record { edition-read = read; by-key = one-only; short = λ i r e. none-is-some e };
+  holders-reached = λ k h e. none-is-some (sym (alone edition k) ∙ e);
   ties-reached = λ t e. false-is-true e;
 }
   where
-    one-only : (j k : ℕ) (g h : Holder) → holderOf (empty .declared) j ≡ some g → holderOf (empty .declared) k ≡ some h → j < k → rank (sortKey (g .sort)) ≤ rank (sortKey (h .sort))
+    one-only : (j k : ℕ) (g h : Holder) → holderOf (nothingDeclared edition) j ≡ some g → holderOf (nothingDeclared edition) k ≡ some h → j < k → rank (sortKey (g .sort)) ≤ rank (sortKey (h .sort))
     one-only j zero g h e f l = absurd (omega arith)
-    one-only j (suc k) g h e f l = none-is-some (sym (alone k) ∙ f)
+    one-only j (suc k) g h e f l = none-is-some (sym (alone edition k) ∙ f)
 
 -- no tie stands before `parent` is reached
 pub untied : {S : State} {previous : Option Key} → SoFar S previous → isReached Key.parent previous ≡ false → (t : Tie) → S .ties t ≡ false
@@ -126,10 +129,10 @@ still-reached k key previous order e =
 
 module _ {S : State} (previous : Option Key) (well : WellDeclared (S .declared)) (so-far : SoFar S previous) (key : Key) (order : (p : Key) → previous ≡ some p → rank p ≤ rank key) where
   -- lines that declare no holder
-  same-holders : {E : Declarations} {T : Ties} → E .holders ≡ S .declared .holders → ((i : ℕ) (r : Rule) → nth (E .rules) i ≡ some r → length (writeLine (rule (r .operation) (r .tokens))) ≤ lineBytes)
+  same-holders : {E : Declarations} {T : Ties} → E .edition ≡ S .declared .edition → E .holders ≡ S .declared .holders → ((i : ℕ) (r : Rule) → nth (E .rules) i ≡ some r → length (writeLine (rule (r .operation) (r .tokens))) ≤ lineBytes)
       → ((t : Tie) → T t ≡ true → isReached Key.parent (some key) ≡ true) → SoFar (record { declared = E; ties = T }) (some key)
-  same-holders e short tied = record {
-    loadable = record { by-key = rw e (so-far .loadable .by-key); short = short };
+  same-holders d e short tied = record {
+    loadable = record { edition-read = ap isRead d ∙ so-far .loadable .edition-read; by-key = rw e (so-far .loadable .by-key); short = short };
     holders-reached = λ k h f. still-reached (sortKey (h .sort)) key previous order (so-far .holders-reached k h (rw e at f));
     ties-reached = tied;
   }
@@ -140,7 +143,7 @@ module _ {S : State} (previous : Option Key) (well : WellDeclared (S .declared))
   -- a holder more, with the next number
   one-holder : (h : Holder) → h .number ≡ length (S .declared .holders) → sortKey (h .sort) ≡ key → SoFar (record { declared = withHolder h (S .declared); ties = S .ties }) (some key)
   one-holder h at its-key = record {
-    loadable = record { by-key = λ i j f g p q l. rises i j f g l (cases i f p) (cases j g q); short = so-far .loadable .short };
+    loadable = record { edition-read = so-far .loadable .edition-read; by-key = λ i j f g p q l. rises i j f g l (cases i f p) (cases j g q); short = so-far .loadable .short };
     holders-reached = λ k g e. ⊎-elim (λ old. still-reached (sortKey (g .sort)) key previous order (so-far .holders-reached k g old))
         (λ (a, b). le-leb (rank (sortKey (g .sort))) (rank key) (omega (arith, ap (λ (x : Holder). rank (sortKey (x .sort))) b, ap rank its-key))) (cases (suc k) g e);
     ties-reached = kept;
@@ -170,14 +173,14 @@ module _ {S : State} (previous : Option Key) (well : WellDeclared (S .declared))
 
   pub after-so-far : (l : Line) → lineKey l ≡ key → length (writeLine l) ≤ lineBytes → SoFar (after l S) (some key)
   unfolding after
-  after-so-far (attr s n t) k short = same-holders refl (so-far .loadable .short) kept
-  after-so-far (op n) k short = same-holders refl (so-far .loadable .short) kept
-  after-so-far (atom s n v) k short = same-holders refl (so-far .loadable .short) kept
+  after-so-far (attr s n t) k short = same-holders refl refl (so-far .loadable .short) kept
+  after-so-far (op n) k short = same-holders refl refl (so-far .loadable .short) kept
+  after-so-far (atom s n v) k short = same-holders refl refl (so-far .loadable .short) kept
   after-so-far (holder s n) k short = one-holder (record { number = length (S .declared .holders); sort = s; name = n }) refl k
-  after-so-far (parent c g) k short = same-holders refl (so-far .loadable .short) (λ t e. tie-key k refl)
-  after-so-far (member p g) k short = same-holders refl (so-far .loadable .short) (λ t e. tie-key k refl)
-  after-so-far (value h n v) k short = same-holders refl (so-far .loadable .short) (λ t e. tie-key k refl)
-  after-so-far (rule o ts) k short = same-holders refl (each-more (S .declared .rules) (record { operation = o; tokens = ts }) (so-far .loadable .short) short) kept
+  after-so-far (parent c g) k short = same-holders refl refl (so-far .loadable .short) (λ t e. tie-key k refl)
+  after-so-far (member p g) k short = same-holders refl refl (so-far .loadable .short) (λ t e. tie-key k refl)
+  after-so-far (value h n v) k short = same-holders refl refl (so-far .loadable .short) (λ t e. tie-key k refl)
+  after-so-far (rule o ts) k short = same-holders refl refl (each-more (S .declared .rules) (record { operation = o; tokens = ts }) (so-far .loadable .short) short) kept
 
 -- ---- lines that are accepted
 
@@ -208,15 +211,15 @@ pub load-so-far : (file : Bytes) → (last : Option Key) × SoFar (Load.load fil
 load-so-far file = go (eqb (Load.load file .number) 0) refl
   where
     go : (b : Bool) → eqb (Load.load file .number) 0 ≡ b → (last : Option Key) × SoFar (Load.load file .state) last
-    go true e = let a = load-accepted file (eqb-true _ 0 e) in (a .last, lines-so-far (a .read) empty-standing nothing-so-far)
-    go false e = (none, subst (λ (r : Loaded). SoFar (r .state) none) (sym (refused-load file (load-refused file (eqb-false _ 0 e)))) nothing-so-far)
+    go true e = let a = load-accepted file (eqb-true _ 0 e) in (a .last, lines-so-far (a .read) (empty-standing (namedEdition file)) (nothing-so-far (namedEdition file) (named-read file)))
+    go false e = (none, subst (λ (r : Loaded). SoFar (r .state) none) (sym (refused-load file (load-refused file (eqb-false _ 0 e)))) (nothing-so-far (namedEdition file) (named-read file)))
 
 pub step-loadable : (words : ℕ) (S : State) (c : Call) → Loadable (S .declared) → Loadable (step words S c .state .declared)
 unfolding step
-step-loadable words S c loadable = go (wrongTable words) c
+step-loadable words S c loadable = go (wrongTable (editionFor S c) words) c
   where
     go : (b : Bool) (c : Call) → Loadable ((if b then withoutTable S c else withTable S c) .state .declared)
-    go true (Call.load file) = nothing-so-far .loadable
+    go true (Call.load file) = nothing-so-far (namedEdition file) (named-read file) .loadable
     go true (Call.edit line) = loadable
     go true (Call.request block) = loadable
     go false (Call.load file) = load-so-far file .1 .loadable
@@ -231,7 +234,7 @@ from-loadable S words (c ∷ calls) loadable o (there m) =
 
 pub ledger-loadable : (words : List ℕ) (file : Bytes) (calls : List Call) (o : Outcome) → o ∈ ledger words file calls → Loadable (o .state .declared)
 unfolding ledger
-ledger-loadable words file calls = from-loadable empty words (Call.load file ∷ calls) (nothing-so-far .loadable)
+ledger-loadable words file calls = from-loadable (empty Edition.first) words (Call.load file ∷ calls) (nothing-so-far Edition.first refl .loadable)
 
 -- every state that a list of calls leaves is loadable
 pub reached-loadable : {S : State} → Reached S → Loadable (S .declared)

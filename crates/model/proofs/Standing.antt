@@ -10,7 +10,7 @@ use lib.ListN.{length}
 use lib.Dec.{eqb}
 use borrow.Author.Tests.{not-false, eqb-false, ltb-true}
 use Rattle.model.specs.Notation.{_>>=_, _is_, isNone, nth, find, map}
-use Rattle.model.specs.Limits.{holderNumbers, pairLimit}
+use Rattle.model.specs.Limits.{Edition, holderNumbers, pairLimit}
 use Rattle.model.specs.Bytes.{Bytes, same}
 use Rattle.model.specs.Attributes.{sourceWord, sources, sameSource}
 use Rattle.model.specs.Atoms.{Atom, sameAtom}
@@ -277,9 +277,9 @@ after-standing {S} l standing a c =
     let tie = tied-standing standing (tieOf (S .declared) l) (λ t e. tie-fits (S .declared) l t e (a .sorted)) c in
     grown-standing tie (declare l (S .declared)) (declared-grows (S .declared) l (next-free (standing .declarations))) (declare-well S l (standing .declarations) a)
 
-pub empty-standing : Standing empty
-empty-standing = record {
-  declarations = nothing-well;
+pub empty-standing : (e : Edition) → Standing (empty e)
+empty-standing edition = record {
+  declarations = nothing-well edition;
   ties-fit = λ t e. false-is-true e;
   acyclic = λ h c. false-is-true (first-tie c .1);
 }
@@ -307,7 +307,7 @@ holder-in D k e = go (holderOf D k) refl e
     go (some x) f g = holder-number D k f
 
 -- every holder's number is one of the table's
-pub holder-fits : {S : State} → Standing S → (k : ℕ) → isHolder (S .declared) k ≡ true → k < holderNumbers
+pub holder-fits : {S : State} → Standing S → (k : ℕ) → isHolder (S .declared) k ≡ true → k < holderNumbers (S .declared .edition)
 holder-fits {S} standing k h =
     let few = standing .declarations .holders .few in
     let l = ltb-true k (length (S .declared .holders)) (sym (standing .declarations .holders .gapless k) ∙ h) in
@@ -321,7 +321,7 @@ room-length {S} standing n room =
     (λ h m. room (h .number) (holder-below (S .declared) (h .number) (map-in (λ g. g .number) m)))
 
 -- a holder of some sort is one of the table's
-pub sorted-fits : {S : State} → Standing S → (k : ℕ) {s : Sort} → sortOf (S .declared) k ≡ some s → k < holderNumbers
+pub sorted-fits : {S : State} → Standing S → (k : ℕ) {s : Sort} → sortOf (S .declared) k ≡ some s → k < holderNumbers (S .declared .edition)
 sorted-fits {S} standing k e = holder-fits standing k (holder-below (S .declared) k (sort-number (S .declared) k e))
 
 -- the holder that has a name, by its number

@@ -1,4 +1,4 @@
--- The table of a state has 1,024 words, and that of the empty state is all 0. Assumes nothing.
+-- The table of a state has the words of its edition, and that of an empty state is all 0. Assumes nothing.
 use Prim.Native.Nat.{ℕ, suc, _+_, _*_}
 use mathlib.Core.Path.{_≡_, refl, ap, _∙_}
 use mathlib.Core.Bool.{Bool, true, false}
@@ -7,7 +7,7 @@ use native.Mathlib.Omega.{arith}
 use native.Mathlib.Nat.{mul-suc}
 use lib.ListN.{length, length-append, replicate}
 use Rattle.model.specs.Notation.{each, below}
-use Rattle.model.specs.Limits.{tableWords, setWords, holderNumbers}
+use Rattle.model.specs.Limits.{Edition, tableWords, setWords, holderNumbers}
 use Rattle.model.specs.Declarations.{Declarations, nothingDeclared, isHolder}
 use Rattle.model.specs.Ties.{Ties, noTies}
 use Rattle.model.specs.Table.{wordsOf, effectiveSet, storedSet, table}
@@ -30,12 +30,13 @@ each-length f n (x ∷ xs) e = length-append (f x) (each f xs) ∙ more (length 
     more : (a b k : ℕ) → a ≡ n → b ≡ n * k → a + b ≡ n * suc k
     more a b k p q = omega (arith, mul-suc n k)
 
--- "The lent table has exactly 1,024 words"
-pub table-length : (D : Declarations) (T : Ties) → length (table D T) ≡ tableWords
+-- "The lent table has exactly 1,024 words", that of the second edition 4,096
+pub table-length : (D : Declarations) (T : Ties) → length (table D T) ≡ tableWords (D .edition)
 unfolding table
-table-length D T = each-length (storedSet D T) setWords (below holderNumbers) (set-length D T) ∙ ap (λ (n : ℕ). setWords * n) (length-below holderNumbers)
+table-length D T = each-length (storedSet D T) setWords (below (holderNumbers (D .edition))) (set-length D T) ∙ ap (λ (n : ℕ). setWords * n) (length-below (holderNumbers (D .edition)))
 
 -- "Book empty, table all 0"
-pub empty-table : table nothingDeclared noTies ≡ replicate tableWords 0
+pub empty-table : (e : Edition) → table (nothingDeclared e) noTies ≡ replicate (tableWords e) 0
 unfolding computing
-empty-table = refl
+empty-table Edition.first = refl
+empty-table Edition.second = refl

@@ -1,5 +1,5 @@
 -- The layout of the table: holder k's pair p is bit p modulo 64 of word p/64 of the four words from word 4k, and each word is below 2^64. No other
--- list of 1,024 such words has these bits. Assumes nothing.
+-- list of as many such words has these bits. Assumes nothing.
 use Prim.Native.Nat.{ℕ, zero, suc, _+_, _*_, _/_, _%_, _^_, _≤_, _<_}
 use mathlib.Core.Path.{_≡_, refl, sym, ap, ap₂, _∙_}
 use mathlib.Core.Logic.{⊎-elim}
@@ -109,17 +109,17 @@ no-words (suc (suc (suc (suc j)))) = refl
 
 module _ (D : Declarations) (T : Ties) where
   -- its four words from word 4k are the stored set of k
-  pub set-in-table : (k : ℕ) → k < holderNumbers → setIn (table D T) k ≡ storedSet D T k
+  pub set-in-table : (k : ℕ) → k < holderNumbers (D .edition) → setIn (table D T) k ≡ storedSet D T k
   unfolding table
-  set-in-table k h = set-in-each (storedSet D T) (set-length D T) holderNumbers k h
+  set-in-table k h = set-in-each (storedSet D T) (set-length D T) (holderNumbers (D .edition)) k h
 
-  word-in-table : (k j : ℕ) → k < holderNumbers → j < setWords → getD (table D T) (setWords * k + j) 0 ≡ getD (storedSet D T k) j 0
+  word-in-table : (k j : ℕ) → k < holderNumbers (D .edition) → j < setWords → getD (table D T) (setWords * k + j) 0 ≡ getD (storedSet D T k) j 0
   word-in-table k j h l =
       sym (getD-take setWords (drop (setWords * k) (table D T)) j 0 l ∙ getD-drop (setWords * k) (table D T) j 0)
       ∙ ap (λ (s : List ℕ). getD s j 0) (set-in-table k h)
 
   -- "pair p is bit p modulo 64 (0 lowest) of word p/64": whether it is effective for holder k. Unused words have no bit
-  pub layout : (k p : ℕ) → k < holderNumbers → p < pairLimit → pairIn (table D T) k p ≡ (isHolder D k && effectiveSet D T k p)
+  pub layout : (k p : ℕ) → k < holderNumbers (D .edition) → p < pairLimit → pairIn (table D T) k p ≡ (isHolder D k && effectiveSet D T k p)
   unfolding pairIn storedSet
   layout k p h l = ap (λ (w : ℕ). bitOf w (p % wordBits)) (word-in-table k (p / wordBits) h (omega arith)) ∙ go (isHolder D k)
     where
@@ -131,13 +131,13 @@ module _ (D : Declarations) (T : Ties) where
   -- "words of 64 bits"
   pub word-bound : (n : ℕ) → getD (table D T) n 0 < 2 ^ wordBits
   unfolding storedSet
-  word-bound n = go (decLt n tableWords)
+  word-bound n = go (decLt n (tableWords (D .edition)))
     where
       stored : (k j : ℕ) → j < setWords → (b : Bool) → getD (if b then wordsOf (effectiveSet D T k) else replicate setWords 0) j 0 < 2 ^ wordBits
       stored k j l true = rw (words-at (effectiveSet D T k) j l) (word-lt wordBits (λ i. effectiveSet D T k (wordBits * j + i)))
       stored k j l false = rw (no-words j) (omega arith)
 
-      go : Dec (n < tableWords) → getD (table D T) n 0 < 2 ^ wordBits
+      go : Dec (n < tableWords (D .edition)) → getD (table D T) n 0 < 2 ^ wordBits
       go (yes h) =
           let at : setWords * (n / setWords) + n % setWords ≡ n = omega arith in
           let e = word-in-table (n / setWords) (n % setWords) (omega arith) (omega arith) in
@@ -148,10 +148,10 @@ module _ (D : Declarations) (T : Ties) where
 
 -- ---- a list of words is known by its pairs
 
-word-known : (t u : List ℕ) (n : ℕ) → n < tableWords → getD t n 0 < 2 ^ wordBits → getD u n 0 < 2 ^ wordBits
-    → ((k p : ℕ) → k < holderNumbers → p < pairLimit → pairIn t k p ≡ pairIn u k p) → getD t n 0 ≡ getD u n 0
+word-known : (m : ℕ) (t u : List ℕ) (n : ℕ) → n < setWords * m → getD t n 0 < 2 ^ wordBits → getD u n 0 < 2 ^ wordBits
+    → ((k p : ℕ) → k < m → p < pairLimit → pairIn t k p ≡ pairIn u k p) → getD t n 0 ≡ getD u n 0
 unfolding pairIn
-word-known t u n h a b e =
+word-known m t u n h a b e =
     same-bits wordBits (getD t n 0) (getD u n 0) a b
     (λ i l.
     let at : setWords * (n / setWords) + (wordBits * (n % setWords) + i) / wordBits ≡ n = omega arith in
@@ -160,18 +160,18 @@ word-known t u n h a b e =
     ∙ e (n / setWords) (wordBits * (n % setWords) + i) (omega arith) (omega arith)
     ∙ ap₂ (λ (x y : ℕ). bitOf (getD u x 0) y) at bit)
 
--- "exactly 1,024 words of 64 bits"
-pub record TableWords (t : List ℕ) : Type 0 where
-  pub how-many : length t ≡ tableWords
+-- "exactly 1,024 words of 64 bits", four for each of m holders
+pub record TableWords (m : ℕ) (t : List ℕ) : Type 0 where
+  pub how-many : length t ≡ setWords * m
   pub bound : (n : ℕ) → getD t n 0 < 2 ^ wordBits
 
-pub table-words : (D : Declarations) (T : Ties) → TableWords (table D T)
+pub table-words : (D : Declarations) (T : Ties) → TableWords (holderNumbers (D .edition)) (table D T)
 table-words D T = record { how-many = table-length D T; bound = word-bound D T }
 
 -- two such lists that hold the same pairs are the same
-pub same-pairs : (t u : List ℕ) → TableWords t → TableWords u → ((k p : ℕ) → k < holderNumbers → p < pairLimit → pairIn t k p ≡ pairIn u k p) → t ≡ u
-same-pairs t u a b e =
-    ext-getD 0 t u (a .how-many ∙ sym (b .how-many)) (λ n l. word-known t u n (omega (arith, l, a .how-many)) (a .bound n) (b .bound n) e)
+pub same-pairs : (m : ℕ) (t u : List ℕ) → TableWords m t → TableWords m u → ((k p : ℕ) → k < m → p < pairLimit → pairIn t k p ≡ pairIn u k p) → t ≡ u
+same-pairs m t u a b e =
+    ext-getD 0 t u (a .how-many ∙ sym (b .how-many)) (λ n l. word-known m t u n (omega (arith, l, a .how-many)) (a .bound n) (b .bound n) e)
 
 -- ---- on a state that stands no one else has a pair
 
@@ -199,7 +199,7 @@ module _ {S : State} (standing : Standing S) where
   holder-declared k p e = holder-below (S .declared) k (has-holder (has k p e))
 
   -- so the bits of the table are the effective pairs
-  pub standing-layout : (k p : ℕ) → k < holderNumbers → p < pairLimit
+  pub standing-layout : (k p : ℕ) → k < holderNumbers (S .declared .edition) → p < pairLimit
       → pairIn (table (S .declared) (S .ties)) k p ≡ effectiveSet (S .declared) (S .ties) k p
   standing-layout k p h l =
       layout (S .declared) (S .ties) k p h l
@@ -207,7 +207,7 @@ module _ {S : State} (standing : Standing S) where
       (λ e. parts (isHolder (S .declared) k) (effectiveSet (S .declared) (S .ties) k p) e .1) (λ e. both (holder-declared k p e) e)
 
   -- and no other list of such words has these bits
-  pub only-table : (t : List ℕ) → TableWords t → ((k p : ℕ) → k < holderNumbers → p < pairLimit → pairIn t k p ≡ effectiveSet (S .declared) (S .ties) k p)
+  pub only-table : (t : List ℕ) → TableWords (holderNumbers (S .declared .edition)) t → ((k p : ℕ) → k < holderNumbers (S .declared .edition) → p < pairLimit → pairIn t k p ≡ effectiveSet (S .declared) (S .ties) k p)
       → t ≡ table (S .declared) (S .ties)
   only-table t fit e =
-      same-pairs t (table (S .declared) (S .ties)) fit (table-words (S .declared) (S .ties)) (λ k p h l. e k p h l ∙ sym (standing-layout k p h l))
+      same-pairs (holderNumbers (S .declared .edition)) t (table (S .declared) (S .ties)) fit (table-words (S .declared) (S .ties)) (λ k p h l. e k p h l ∙ sym (standing-layout k p h l))

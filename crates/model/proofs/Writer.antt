@@ -16,11 +16,13 @@ use Rattle.model.specs.Bytes.{Bytes}
 use Rattle.model.specs.Declarations.{Declarations}
 use Rattle.model.specs.Ties.{Tie, Ties}
 use Rattle.model.specs.State.{State}
+use Rattle.model.specs.Lines.{namedEdition}
 use Rattle.model.specs.Refusals.{doesNotFit}
 use Rattle.model.specs.Load.{Loaded, load}
 use Rattle.model.specs.Ledger.{Call, Answer, step, outcome}
 use Rattle.model.specs.FileText.{fileLines, fileText, FileWritten, writeText, writeFile, writtenLength}
 use Rattle.model.proofs.Lists.{fun-ext, or-cases, or-none}
+use Rattle.model.proofs.Editions.{load-edition}
 use Rattle.model.proofs.Reached.{Reached, reached-standing, tableOf, right-table, table-after}
 use Rattle.model.proofs.SoFar.{reached-loadable}
 use Rattle.model.proofs.WrittenBack
@@ -125,10 +127,12 @@ module _ {S : State} (reached : Reached S) where
     result-loads = ap load (text-written S buffer written .1) ∙ text-loads (zero-exactly S buffer .0 written .1)
 
     -- "on a table of the right length …, and the table words that belong to these ties", whatever stood before
-    pub result-loads-on : (R : State) (words : List ℕ) → length words ≡ tableWords
+    pub result-loads-on : (R : State) (words : List ℕ) → length words ≡ tableWords (S .declared .edition)
         → outcome R words (Call.load (writtenBytes (writeFile S buffer))) ≡ record { answer = Answer.loaded 0 (suc (length (fileLines S))); words = tableOf S; state = S }
     unfolding step
-    result-loads-on R words long = rw (right-table words long, result-loads) (ap (λ (t : List ℕ). record { answer = Answer.loaded 0 (suc (length (fileLines S))); words = t; state = S }) (table-after words S long))
+    result-loads-on R words long =
+        let named = sym (ap (λ (l : Loaded). l .state .declared .edition) result-loads) ∙ load-edition (writtenBytes (writeFile S buffer)) in
+        rw (right-table (namedEdition (writtenBytes (writeFile S buffer))) words (long ∙ ap tableWords named), result-loads) (ap (λ (t : List ℕ). record { answer = Answer.loaded 0 (suc (length (fileLines S))); words = t; state = S }) (table-after words S long))
 
     -- written again, it gives the same bytes
     pub written-again : (buffer′ : Bytes) → writeFile (load (writtenBytes (writeFile S buffer)) .state) buffer′ ≡ writeFile S buffer′

@@ -8,14 +8,14 @@ use native.Mathlib.Omega.{arith}
 use lib.ListN.{length}
 use borrow.Author.Tests.{le-ltb}
 use Rattle.model.specs.Notation.{_is_, isNone, allOf, map, each, filter, nth, listed}
-use Rattle.model.specs.Limits.{fileBytes, ruleLimit}
+use Rattle.model.specs.Limits.{Edition, fileBytes, ruleLimit}
 use Rattle.model.specs.Bytes.{Bytes, linesOf, same}
 use Rattle.model.specs.Names.{isName}
 use Rattle.model.specs.Keys.{rank}
 use Rattle.model.specs.Tokens.{isToken}
 use Rattle.model.specs.Grammar.{Policy, readPolicy, tooLarge}
 use Rattle.model.specs.Declarations.{Declarations, Holder, Rule, Sort, isSort, holderOf, sortOf, holderNumbersOf, groups, operationNumber, attributeNumber, attributeOf}
-use Rattle.model.specs.Lines.{firstLine, Line, op}
+use Rattle.model.specs.Lines.{firstLine, namedEdition, Line, op}
 use Rattle.model.specs.Ties.{Tie, Ties, noTies}
 use Rattle.model.specs.State.{State, empty, after}
 use Rattle.model.specs.Refusals.{tooLong, circular}
@@ -27,7 +27,8 @@ use Rattle.model.proofs.WordTables.{none-is-some, same-eq}
 use Rattle.model.proofs.Options.{both, is-there}
 use Rattle.model.proofs.Lists.{_∈_, place-nth, nth-in}
 use Rattle.model.proofs.Numbered.{length-map, rising-back, rising-apart, numbers-listed}
-use Rattle.model.proofs.Loads.{accepted-load}
+use Rattle.model.proofs.Editions.{named-by}
+use Rattle.model.proofs.Loads.{AcceptedLines, first-alone, accepted-load}
 use Rattle.model.proofs.SoFar.{Loadable}
 use Rattle.model.proofs.Rereading.{text-lines, Goes, goes-append, goes-earlier, goes-later}
 use Rattle.model.proofs.RoundTrip.{list-go, parts-of, admin, admin-alone, attributes-go, operations-go, pairs-go, holder-found, admin-leads, holders-go, Rising, by-numbers, other-rank, lastRank, ofSort, by-keys, each-sorts, nth-at, room-left}
@@ -43,9 +44,9 @@ operation-named D well n e =
     ap isName (same-eq n m g) ∙ well .operations .named k m f
 
 rules-go : (D : Declarations) (T : Ties) → WellDeclared D → Loadable D
-    → Goes (parts-of (D .attributes) (D .operations) (D .pairs) (D .holders) [] T) 10 (map ruleLine (D .rules)) (parts-of (D .attributes) (D .operations) (D .pairs) (D .holders) (D .rules) T) 10
+    → Goes (parts-of (D .edition) (D .attributes) (D .operations) (D .pairs) (D .holders) [] T) 10 (map ruleLine (D .rules)) (parts-of (D .edition) (D .attributes) (D .operations) (D .pairs) (D .holders) (D .rules) T) 10
 unfolding after circular operationNumber attributeNumber
-rules-go D T well loadable = list-go (D .rules) (λ l. parts-of (D .attributes) (D .operations) (D .pairs) (D .holders) l T) (λ _. 10) ruleLine λ pre r rest e.
+rules-go D T well loadable = list-go (D .rules) (λ l. parts-of (D .edition) (D .attributes) (D .operations) (D .pairs) (D .holders) l T) (λ _. 10) ruleLine λ pre r rest e.
     let here : nth (D .rules) (length pre) ≡ some r = subst (λ (l : List Rule). nth l (length pre) ≡ some r) e (nth-at pre r rest) in
     let st = well .rules .each (length pre) r here in
     let formed : (isName (r .operation) && allOf isToken (r .tokens) && not (isNone (readPolicy (r .tokens)))) ≡ true =
@@ -70,7 +71,7 @@ rules-go D T well loadable = list-go (D .rules) (λ l. parts-of (D .attributes) 
 
 -- the declarations without rules
 abbrev unruled : Declarations → Declarations
-unruled D = record { attributes = D .attributes; operations = D .operations; pairs = D .pairs; holders = D .holders; rules = [] }
+unruled D = record { edition = D .edition; attributes = D .attributes; operations = D .operations; pairs = D .pairs; holders = D .holders; rules = [] }
 
 unruled-well : {D : Declarations} → WellDeclared D → WellDeclared (unruled D)
 unfolding attributeOf attributeNumber holderNumbersOf groups
@@ -155,7 +156,7 @@ module _ {S : State} (standing : Standing S) (loadable : Loadable (S .declared))
       ∙ each-sorts others
       ∙ ap (map holderLine) (by-keys others 3 rises (λ i h e. other-sort h (nth-in others i e)))
 
-  ties-part : Goes (parts-of (D .attributes) (D .operations) (D .pairs) (D .holders) [] noTies) 7 (tieLines S) (parts-of (D .attributes) (D .operations) (D .pairs) (D .holders) [] (S .ties)) 9
+  ties-part : Goes (parts-of (D .edition) (D .attributes) (D .operations) (D .pairs) (D .holders) [] noTies) 7 (tieLines S) (parts-of (D .edition) (D .attributes) (D .operations) (D .pairs) (D .holders) [] (S .ties)) 9
   unfolding holderNumbersOf
   ties-part =
       subst (λ (U : Ties). Goes (record { declared = unruled D; ties = noTies }) 7 (tieLines S) (record { declared = unruled D; ties = U }) 9) (all-ties standing)
@@ -163,17 +164,17 @@ module _ {S : State} (standing : Standing S) (loadable : Loadable (S .declared))
       (λ i. λ t. same-lines D t i)
       (all-ties-go (unruled D) (unruled-well well) (S .ties) (λ t e. unruled-fits D t (standing .ties-fit t e)) (standing .acyclic)))
 
-  holders-part : Goes (parts-of (D .attributes) (D .operations) (D .pairs) admin-alone [] noTies) 3 (holderLines D) (parts-of (D .attributes) (D .operations) (D .pairs) (D .holders) [] noTies) 6
+  holders-part : Goes (parts-of (D .edition) (D .attributes) (D .operations) (D .pairs) admin-alone [] noTies) 3 (holderLines D) (parts-of (D .edition) (D .attributes) (D .operations) (D .pairs) (D .holders) [] noTies) 6
   holders-part =
-      subst (λ (hs : List Holder). Goes (parts-of (D .attributes) (D .operations) (D .pairs) admin-alone [] noTies) 3 (holderLines D) (parts-of (D .attributes) (D .operations) (D .pairs) hs [] noTies) 6) (sym holders-are)
-      (subst (λ (ls : List Line). Goes (parts-of (D .attributes) (D .operations) (D .pairs) admin-alone [] noTies) 3 ls (parts-of (D .attributes) (D .operations) (D .pairs) (admin ∷ others) [] noTies) 6) (sym holder-lines)
+      subst (λ (hs : List Holder). Goes (parts-of (D .edition) (D .attributes) (D .operations) (D .pairs) admin-alone [] noTies) 3 (holderLines D) (parts-of (D .edition) (D .attributes) (D .operations) (D .pairs) hs [] noTies) 6) (sym holders-are)
+      (subst (λ (ls : List Line). Goes (parts-of (D .edition) (D .attributes) (D .operations) (D .pairs) admin-alone [] noTies) 3 ls (parts-of (D .edition) (D .attributes) (D .operations) (D .pairs) (admin ∷ others) [] noTies) 6) (sym holder-lines)
       (goes-later (last-rank-low 3 others (omega arith)) (holders-go D others holders-are (well .holders) rises)))
 
-  whole-go : Goes empty 0 (fileLines S) S 10
+  whole-go : Goes (empty (D .edition)) 0 (fileLines S) S 10
   unfolding fileLines
   whole-go =
-      goes-append (map attributeLine (D .attributes)) _ (attributes-go (D .attributes) (well .attributes))
-      (goes-earlier (omega arith) (goes-append (map op (D .operations)) _ (operations-go (D .attributes) (D .operations) (well .operations))
+      goes-append (map attributeLine (D .attributes)) _ (attributes-go (D .edition) (D .attributes) (well .attributes))
+      (goes-earlier (omega arith) (goes-append (map op (D .operations)) _ (operations-go (D .edition) (D .attributes) (D .operations) (well .operations))
       (goes-earlier (omega arith) (goes-append (map pairLine (D .pairs)) _ (pairs-go D (well .attributes) (well .pairs))
       (goes-earlier (omega arith) (goes-append (holderLines D) _ holders-part
       (goes-earlier (omega arith) (goes-append (tieLines S) (map ruleLine (D .rules)) ties-part
@@ -184,12 +185,14 @@ module _ {S : State} (standing : Standing S) (loadable : Loadable (S .declared))
   unfolding fileText tooLong
   written-back short =
       let (last, b, read) = whole-go .goes none (λ p e. none-is-some e) in
-      let lines : linesOf (fileText S) ≡ firstLine ∷ map lineText (fileLines S) = ap (λ (ls : List Bytes). firstLine ∷ ls) (text-lines (fileLines S) (whole-go .writable)) in
+      let named : namedEdition (fileText S) ≡ D .edition = named-by (D .edition) (each lineText (fileLines S)) (loadable .edition-read) in
+      let lines : linesOf (fileText S) ≡ firstLine (D .edition) ∷ map lineText (fileLines S) =
+      first-alone (D .edition) (each lineText (fileLines S)) ∙ ap (λ (ls : List Bytes). firstLine (D .edition) ∷ ls) (text-lines (fileLines S) (whole-go .writable)) in
       accepted-load (fileText S) (record {
         not-too-long = le-ltb fileBytes (length (fileText S)) short;
         others = map lineText (fileLines S);
         last = last;
-        lines-are = lines;
-        read = read;
+        lines-are = lines ∙ ap (λ (e : Edition). firstLine e ∷ map lineText (fileLines S)) (sym named);
+        read = subst (λ (e : Edition). AcceptedLines (empty e) none (map lineText (fileLines S)) S last) (sym named) read;
         counted = ap suc (sym (length-map lineText (fileLines S))) ∙ sym (ap length lines);
       })

@@ -5,6 +5,7 @@ use mathlib.Core.List.{List, [], _∷_}
 use mathlib.Core.Option.{Option, none, some}
 use lib.Dec.{eqb}
 use Rattle.model.specs.Notation.{_>>=_, isNone, anyOf, place, nth, find, countOf, map}
+use Rattle.model.specs.Limits.{Edition}
 use Rattle.model.specs.Bytes.{Bytes, bytes, same}
 use Rattle.model.specs.Attributes.{Source, AtomType, sameSource}
 use Rattle.model.specs.Atoms.{Atom, sameAtom}
@@ -37,18 +38,20 @@ pub record Rule : Type 0 where
   pub operation : Bytes
   pub tokens : List Token
 
--- "declarations D of the file (the rules, by their tokens, among them)"; attributes, operations, pairs and rules are numbered by their
--- places, from 0; holders have their numbers, and stand in the order of these
+-- "declarations D of the file (the rules, by their tokens, among them)"; document 02, E5: "The edition is one of the declarations". Attributes,
+-- operations, pairs and rules are numbered by their places, from 0; holders have their numbers, and stand in the order of these
 pub record Declarations : Type 0 where
+  pub edition : Edition
   pub attributes : List Attribute
   pub operations : List Bytes
   pub pairs : List Pair
   pub holders : List Holder
   pub rules : List Rule
 
--- "Holder 0 is `admin`, always there": so it is in the empty D too
-abbrev pub nothingDeclared : Declarations
-nothingDeclared = record {
+-- "Holder 0 is `admin`, always there": so it is in the empty D too. Of the edition document 02, E5 says: "an empty D has one too"
+abbrev pub nothingDeclared : Edition → Declarations
+nothingDeclared e = record {
+  edition = e;
   attributes = [];
   operations = [];
   pairs = [];

@@ -66,9 +66,9 @@ fileLines S =
 abbrev pub lineText : Line → Bytes
 lineText l = writeLine l ++ newline ∷ []
 
--- the text of a state
+-- the text of a state; document 02, E6: "The writer keeps the edition that was loaded"
 unfoldable pub fileText : State → Bytes
-fileText S = firstLine ++ each lineText (fileLines S)
+fileText S = firstLine (S .declared .edition) ++ each lineText (fileLines S)
 
 -- the number of the answer, the length that it carries, and the buffer
 pub record FileWritten : Type 0 where

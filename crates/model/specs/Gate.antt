@@ -7,10 +7,11 @@ use mathlib.Core.Option.{Option, none, some}
 use lib.ListN.{length}
 use lib.Dec.{ltb}
 use Rattle.model.specs.Notation.{if_then_else_, _>>=_, _or-else_, onlyIf, map}
-use Rattle.model.specs.Limits.{inputBytes, tableWords}
+use Rattle.model.specs.Limits.{Edition, inputBytes, tableWords}
 use Rattle.model.specs.Numbers as refusal
 use Rattle.model.specs.Bytes.{Bytes, bytes, same, behind, linesOf, content, inRange}
 use Rattle.model.specs.Atoms.{decimal}
+use Rattle.model.specs.Lines.{namedEdition}
 use Rattle.model.specs.State.{State, empty}
 use Rattle.model.specs.Refusals.{signedLine}
 use Rattle.model.specs.Decision.{Decision, permit, deny, undefined, refused}
@@ -63,15 +64,16 @@ printed (loaded number line) = bytes "load=" ++ decimal number ++ bytes "," ++ d
 printed (edited number count) = bytes "edit=" ++ decimal number ++ bytes "," ++ decimal count ++ bytes "\n"
 printed (decided d) = printedDecision d ++ bytes "\n"
 
--- the answers to the commands, from a state on; "`bad=` for other lines, bad hex among them"
-unfoldable pub output : State → List (Option Call) → Bytes
-output S [] = []
-output S (none ∷ calls) = bytes "bad=\n" ++ output S calls
-output S (some c ∷ calls) = let s = step tableWords S c in printed (s .answer) ++ output (s .state) calls
+-- the answers to the commands on a table of so many words, from a state on; "`bad=` for other lines, bad hex among them"
+unfoldable pub output : ℕ → State → List (Option Call) → Bytes
+output words S [] = []
+output words S (none ∷ calls) = bytes "bad=\n" ++ output words S calls
+output words S (some c ∷ calls) = let s = step words S c in printed (s .answer) ++ output words (s .state) calls
 
--- "After a refused load it goes on with the empty book. Over 65,536 bytes: `load=2,0` alone"
+-- "After a refused load it goes on with the empty book. Over 65,536 bytes: `load=2,0` alone". Document 02, E5: "`gate` lends the table that its file's
+-- first line asks for"
 unfoldable pub gate : Bytes → Bytes
 gate input =
     let lines = linesOf input in
     if ltb inputBytes (length input) then printed (loaded refusal.tooLong 0)
-    else output empty (some (Call.load (fileOf lines)) ∷ map callOf (commandsOf lines))
+    else output (tableWords (namedEdition (fileOf lines))) (empty Edition.first) (some (Call.load (fileOf lines)) ∷ map callOf (commandsOf lines))

@@ -6,6 +6,7 @@ use Rattle.model.specs.Notation.{if_then_else_}
 use Rattle.model.specs.Numbers as refusal
 use Rattle.model.specs.Bytes.{Bytes}
 use Rattle.model.specs.Refusals.{wrongTable}
+use Rattle.model.specs.Lines.{namedEdition}
 use Rattle.model.specs.Load.{load}
 use Rattle.model.specs.Ledger.{tableAfter}
 use Rattle.model.specs.Decision.{numberAndValues, decide}
@@ -14,7 +15,7 @@ use Rattle.model.specs.Decision.{numberAndValues, decide}
 unfoldable pub hostCall : Bytes → Bytes → ℕ → ℕ
 hostCall file block words =
     let l = load file in
-    if wrongTable words then refusal.wrongTable else (if eqb (l .number) 0 then numberAndValues (decide (l .state) block) .0 else l .number)
+    if wrongTable (namedEdition file) words then refusal.wrongTable else (if eqb (l .number) 0 then numberAndValues (decide (l .state) block) .0 else l .number)
 
 -- "Table as after the load"
 unfoldable pub hostTable : Bytes → List ℕ → List ℕ

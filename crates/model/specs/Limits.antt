@@ -1,5 +1,5 @@
--- The limits and sizes of document 01, each named once.
-use Prim.Native.Nat.{ℕ, _+_}
+-- The limits and sizes of documents 01 and 02, each named once.
+use Prim.Native.Nat.{ℕ, _+_, _*_}
 
 -- "At most 32,768 bytes. Lines end with byte 10 and have at most 255 bytes before it."
 abbrev pub fileBytes : ℕ
@@ -21,15 +21,22 @@ pairLimit = 256
 abbrev pub ruleLimit : ℕ
 ruleLimit = 32
 
--- "Others are numbered from 1 in file order, at most 255, of which at most 64 groups": with holder 0 the numbers are those below 256
-abbrev pub holderLimit : ℕ
-holderLimit = 255
+-- the edition of a file, which "is one of the declarations"
+pub data Edition : Type 0 where
+  first second : Edition
+
+-- "Others are numbered from 1 in file order, at most 255, of which at most 64 groups"; document 02, E5: "Files that begin `rights=2` number holders to
+-- 1,023 … At most 64 are groups, as before"
+abbrev pub holderLimit : Edition → ℕ
+holderLimit Edition.first = 255
+holderLimit Edition.second = 1023
 
 abbrev pub groupLimit : ℕ
 groupLimit = 64
 
-abbrev pub holderNumbers : ℕ
-holderNumbers = holderLimit + 1
+-- with holder 0 the numbers are those below 256, in the second edition those below 1,024
+abbrev pub holderNumbers : Edition → ℕ
+holderNumbers e = holderLimit e + 1
 
 -- "NAME: 1 to 12 bytes", "str in double quotes, 0 to 12 bytes", "int 0 to 4294967295"
 abbrev pub nameBytes : ℕ
@@ -41,15 +48,16 @@ textBytes = 12
 abbrev pub largestInt : ℕ
 largestInt = 4294967295
 
--- "exactly 1,024 words of 64 bits", "the four words from word 4k"
-abbrev pub tableWords : ℕ
-tableWords = 1024
-
+-- "words of 64 bits", "the four words from word 4k"
 abbrev pub wordBits : ℕ
 wordBits = 64
 
 abbrev pub setWords : ℕ
 setWords = 4
+
+-- "exactly 1,024 words"; document 02, E5: "Their table has 4,096 words"
+abbrev pub tableWords : Edition → ℕ
+tableWords e = setWords * holderNumbers e
 
 -- "At most 16 terms", "parentheses at most 8 deep", "set `{a, b}` of 1 to 8 atoms"
 abbrev pub termLimit : ℕ

@@ -1,12 +1,12 @@
 -- The lines `key=fields`, read from bytes and written as bytes.
-use mathlib.Core.Bool.{Bool, _&&_, not}
+use mathlib.Core.Bool.{Bool, true, false, _&&_, not}
 use mathlib.Core.List.{List, _++_}
 use mathlib.Core.Option.{Option, some}
 use lib.ListN.{length}
 use lib.Dec.{leb}
-use Rattle.model.specs.Notation.{_>>=_, isNone, onlyIf, allOf}
-use Rattle.model.specs.Limits.{lineBytes}
-use Rattle.model.specs.Bytes.{Bytes, bytes, cutAt, content}
+use Rattle.model.specs.Notation.{if_then_else_, _>>=_, isNone, onlyIf, allOf}
+use Rattle.model.specs.Limits.{Edition, lineBytes}
+use Rattle.model.specs.Bytes.{Bytes, bytes, behind, cutAt, content}
 use Rattle.model.specs.Names.{isName, readName}
 use Rattle.model.specs.Attributes.{Source, AtomType, sourceWord, typeWord, readSource, readType}
 use Rattle.model.specs.Atoms.{Atom, readAtom, writeAtom, isAtom}
@@ -15,9 +15,20 @@ use Rattle.model.specs.Tokens.{Token, isToken, tokensOf, Spells, spelled
 use Rattle.model.specs.Grammar.{readPolicy}
 use Rattle.model.specs.Declarations.{Sort, sortWord, isSort}
 
--- "The first is `rights=1`", with its byte 10
-abbrev pub firstLine : Bytes
-firstLine = bytes "rights=1\n"
+-- "The first is `rights=1`"; document 02, E5: "Edition 2 is named only by a first line that is exactly `rights=2` with its byte 10"
+abbrev pub firstLine : Edition → Bytes
+firstLine Edition.first = bytes "rights=1\n"
+firstLine Edition.second = bytes "rights=2\n"
+
+-- whether a file may begin with the first line of that edition: so far `rights=1` alone is one
+abbrev pub isRead : Edition → Bool
+isRead Edition.first = true
+isRead Edition.second = false
+
+-- "the edition that its first line names, else edition 1"
+unfoldable pub namedEdition : Bytes → Edition
+namedEdition file =
+    if isRead Edition.second && not (isNone (behind (firstLine Edition.second) file)) then Edition.second else Edition.first
 
 -- the lines of the eleven keys; `holder` is those of the keys ugroup, ogroup, user and object
 pub data Line : Type 0 where

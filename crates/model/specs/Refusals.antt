@@ -6,13 +6,13 @@ use mathlib.Core.Option.{Option}
 use lib.ListN.{length}
 use lib.Dec.{eqb, leb, ltb}
 use Rattle.model.specs.Notation.{_>>=_, _or-else_, _is_, isNone, anyOf, allOf, nth, below}
-use Rattle.model.specs.Limits.{fileBytes, attributeLimit, operationLimit, pairLimit, ruleLimit, holderNumbers, groupLimit, tableWords, maskBits}
+use Rattle.model.specs.Limits.{Edition, fileBytes, attributeLimit, operationLimit, pairLimit, ruleLimit, holderNumbers, groupLimit, tableWords, maskBits}
 use Rattle.model.specs.Numbers as refusal
 use Rattle.model.specs.Bytes.{Bytes, bytes, behind}
 use Rattle.model.specs.Attributes.{Source, AtomType, fromBlock, sameType, sameSource}
 use Rattle.model.specs.Atoms.{typeOf}
 use Rattle.model.specs.Keys.{Key, rank, isTieKey}
-use Rattle.model.specs.Lines.{firstLine, Line, attr, op, atom, holder, parent, member, value, rule, framed, readFields, readLine}
+use Rattle.model.specs.Lines.{firstLine, namedEdition, Line, attr, op, atom, holder, parent, member, value, rule, framed, readFields, readLine}
 use Rattle.model.specs.Tokens.{Token, asName}
 use Rattle.model.specs.Grammar.{readPolicy, tooLarge}
 use Rattle.model.specs.Declarations.{Declarations, Sort, isSort, isGroup, groups, parentSort, groupSort, sortOf, attributeNumber, attributeOf, operationNumber, pairNumber, holderNumber, holderNumbersOf}
@@ -34,9 +34,9 @@ first ((n if false) ∷ tests) = first tests
 
 -- ---- Host
 
--- "1: table not 1,024 words, any call"
-unfoldable pub wrongTable : ℕ → Bool
-wrongTable words = not (eqb words tableWords)
+-- "1: table not 1,024 words, any call"; document 02, E5: "refusal 1 tests the length of the book's edition"
+unfoldable pub wrongTable : Edition → ℕ → Bool
+wrongTable e words = not (eqb words (tableWords e))
 
 -- ---- Ticket office, file
 
@@ -46,7 +46,7 @@ tooLong file = ltb fileBytes (length file)
 
 -- "3: first line, with its byte 10, wrong or missing"
 unfoldable pub wrongFirstLine : Bytes → Bool
-wrongFirstLine file = isNone (behind firstLine file)
+wrongFirstLine file = isNone (behind (firstLine (namedEdition file)) file)
 
 -- ---- Ticket office, file or edit. A line is given with its byte 10
 
@@ -123,7 +123,7 @@ abbrev pub full : Declarations → Line → Bool
 full D (attr s n t) = leb attributeLimit (length (D .attributes))
 full D (op n) = leb operationLimit (length (D .operations))
 full D (atom s n a) = leb pairLimit (length (D .pairs))
-full D (holder s n) = leb holderNumbers (length (holderNumbersOf D)) || isGroup s && leb groupLimit (groups D)
+full D (holder s n) = leb (holderNumbers (D .edition)) (length (holderNumbersOf D)) || isGroup s && leb groupLimit (groups D)
 full D (parent c g) = false
 full D (member p g) = false
 full D (value h n a) = false

@@ -59,7 +59,8 @@ pub record PairsStand (D : Declarations) : Type 0 where
   pub unique : Unique (λ p q. sameSourceAndName (p .source) (p .name) (q .source) (q .name) && sameAtom (p .atom) (q .atom)) (D .pairs)
   pub few : length (D .pairs) ≤ pairLimit
 
--- holders: "Holder 0 is `admin`, always there. Others are numbered from 1 …, at most 255, of which at most 64 groups … Names are unique"
+-- holders: "Holder 0 is `admin`, always there. Others are numbered from 1 …, at most 255, of which at most 64 groups … Names are unique". In the second
+-- edition at most 1,023
 pub record HoldersStand (D : Declarations) : Type 0 where
   pub ordered : rising (λ h. h .number) (D .holders) ≡ true
   pub gapless : (k : ℕ) → isHolder D k ≡ ltb k (length (D .holders))
@@ -67,7 +68,7 @@ pub record HoldersStand (D : Declarations) : Type 0 where
   pub others : (k : ℕ) (h : Holder) → holderOf D (suc k) ≡ some h → isSort (h .sort) Sort.admin ≡ false
   pub named : (k : ℕ) (h : Holder) → holderOf D k ≡ some h → isName (h .name) ≡ true
   pub unique : (j k : ℕ) (g h : Holder) → holderOf D j ≡ some g → holderOf D k ≡ some h → same (g .name) (h .name) ≡ true → j ≡ k
-  pub few : length (holderNumbersOf D) ≤ holderNumbers
+  pub few : length (holderNumbersOf D) ≤ holderNumbers (D .edition)
   pub few-groups : groups D ≤ groupLimit
 
 -- rule: the operation is declared, the tokens are those of a policy within the limits, and its names are declared. "at most 32"

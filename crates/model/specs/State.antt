@@ -3,6 +3,7 @@ use mathlib.Core.List.{[], _∷_, _++_}
 use mathlib.Core.Option.{Option, none, some}
 use lib.ListN.{length}
 use Rattle.model.specs.Notation.{_>>=_, inserted}
+use Rattle.model.specs.Limits.{Edition}
 use Rattle.model.specs.Bytes.{Bytes}
 use Rattle.model.specs.Lines.{Line, attr, op, atom, holder, parent, member, value, rule}
 use Rattle.model.specs.Declarations.{Declarations, Attribute, Pair, Holder, Rule, nothingDeclared, holderNumber, sortOf, sourceFor, pairNumber}
@@ -14,8 +15,8 @@ pub record State : Type 0 where
   pub ties : Ties
 
 -- "the empty D and T"
-abbrev pub empty : State
-empty = record { declared = nothingDeclared; ties = noTies }
+abbrev pub empty : Edition → State
+empty e = record { declared = nothingDeclared e; ties = noTies }
 
 -- the tie of a parent, member or value line, the last of which "gives a declared pair"; none where one of its names or its pair is undeclared
 abbrev pub tieOf : Declarations → Line → Option Tie
@@ -34,19 +35,19 @@ tieOf D (rule o ts) = none
 
 -- one thing more at the end of a list, so with the next number
 abbrev pub withAttribute : Attribute → Declarations → Declarations
-withAttribute a D = record { attributes = D .attributes ++ a ∷ []; operations = D .operations; pairs = D .pairs; holders = D .holders; rules = D .rules }
+withAttribute a D = record { edition = D .edition; attributes = D .attributes ++ a ∷ []; operations = D .operations; pairs = D .pairs; holders = D .holders; rules = D .rules }
 
 abbrev pub withOperation : Bytes → Declarations → Declarations
-withOperation n D = record { attributes = D .attributes; operations = D .operations ++ n ∷ []; pairs = D .pairs; holders = D .holders; rules = D .rules }
+withOperation n D = record { edition = D .edition; attributes = D .attributes; operations = D .operations ++ n ∷ []; pairs = D .pairs; holders = D .holders; rules = D .rules }
 
 abbrev pub withPair : Pair → Declarations → Declarations
-withPair p D = record { attributes = D .attributes; operations = D .operations; pairs = D .pairs ++ p ∷ []; holders = D .holders; rules = D .rules }
+withPair p D = record { edition = D .edition; attributes = D .attributes; operations = D .operations; pairs = D .pairs ++ p ∷ []; holders = D .holders; rules = D .rules }
 
 abbrev pub withHolder : Holder → Declarations → Declarations
-withHolder h D = record { attributes = D .attributes; operations = D .operations; pairs = D .pairs; holders = inserted (λ g. g .number) h (D .holders); rules = D .rules }
+withHolder h D = record { edition = D .edition; attributes = D .attributes; operations = D .operations; pairs = D .pairs; holders = inserted (λ g. g .number) h (D .holders); rules = D .rules }
 
 abbrev pub withRule : Rule → Declarations → Declarations
-withRule r D = record { attributes = D .attributes; operations = D .operations; pairs = D .pairs; holders = D .holders; rules = D .rules ++ r ∷ [] }
+withRule r D = record { edition = D .edition; attributes = D .attributes; operations = D .operations; pairs = D .pairs; holders = D .holders; rules = D .rules ++ r ∷ [] }
 
 -- what an accepted line declares
 abbrev pub declare : Line → Declarations → Declarations

@@ -26,9 +26,9 @@ effectiveSet D T k p = effective (holderNumbersOf D) T k p
 unfoldable pub storedSet : Declarations → Ties → ℕ → List ℕ
 storedSet D T k = if isHolder D k then wordsOf (effectiveSet D T k) else replicate setWords 0
 
--- "The lent table has exactly 1,024 words of 64 bits"
+-- "The lent table has exactly 1,024 words of 64 bits"; in the second edition it has 4,096
 unfoldable pub table : Declarations → Ties → List ℕ
-table D T = each (storedSet D T) (below holderNumbers)
+table D T = each (storedSet D T) (below (holderNumbers (D .edition)))
 
 -- "Holder k's stored set is the four words from word 4k": these words of a table
 abbrev pub setIn : List ℕ → ℕ → List ℕ

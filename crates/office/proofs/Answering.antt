@@ -4,7 +4,6 @@ use mathlib.Core.Path.{_≡_, refl, sym, ap, subst, _∙_}
 use mathlib.Core.List.{List, _∷_, _++_}
 use mathlib.Core.Option.{Option, none, some}
 use lib.ListN.{length}
-use Rattle.model.specs.Limits.{tableWords}
 use Rattle.model.specs.Bytes.{Bytes, bytes}
 use Rattle.model.specs.State.{State}
 use Rattle.model.specs.Ledger.{Call, Answer, edited, decided, step, outcome}
@@ -18,24 +17,24 @@ use Rattle.engine.proofs.Promises.{line-edited, request-decided}
 use Rattle.office.specs.Command.{CommandTold}
 use Rattle.office.specs.declared.command.Command.{Command}
 use Rattle.office.specs.Printing.{PrintedAt}
-use Rattle.office.specs.Answers.{memory, MemoryOf, Prints, EditAnswered, RequestAnswered, CommandAnswered}
+use Rattle.office.specs.Answers.{memory, lentWords, MemoryOf, Prints, EditAnswered, RequestAnswered, CommandAnswered}
 
 -- an outcome given: its answer is printed
 pub outcome-prints : (S : State) (c : Call) (words : List ℕ) (after : Memory) (a : Answer) (rest : List (Option Call)) → Standing S
-    → Gives (outcome S words c) a (after .words) (after .book) (after .code) → length words ≡ tableWords → Prints S (some c ∷ rest) (printed a) rest after
+    → Gives (outcome S words c) a (after .words) (after .book) (after .code) → length words ≡ lentWords → Prints S (some c ∷ rest) (printed a) rest after
 unfolding output
 outcome-prints S c words after a rest standing g long =
     let T = outcome S words c .state in
     record {
       state = T;
       stands = together-after S words c {a = a} {after = after} standing g;
-      prints = ap (λ (n : ℕ). printed (step n S c .answer) ++ output (step n S c .state) rest) (sym long)
-          ∙ ap (λ (x : Answer). printed x ++ output T rest) (g .answered);
+      prints = ap (λ (n : ℕ). printed (step n S c .answer) ++ output lentWords (step n S c .state) rest) (sym long)
+          ∙ ap (λ (x : Answer). printed x ++ output lentWords T rest) (g .answered);
     }
 
 -- a call made
 pub call-prints : (S : State) (c : Call) (before after : Memory) (a : Answer) (rest : List (Option Call)) → Does c before a after → MemoryOf S before
-    → length (before .words) ≡ tableWords → Prints S (some c ∷ rest) (printed a) rest after
+    → length (before .words) ≡ lentWords → Prints S (some c ∷ rest) (printed a) rest after
 call-prints S c before after a rest does stands long = outcome-prints S c (before .words) after a rest (stands .standing) (does-gives stands does) long
 
 -- no call: the state stays
@@ -45,7 +44,7 @@ bad-prints S l rest stands = record { state = S; stands = stands; prints = refl 
 
 -- by what is known of the line
 pub call-answered : (line : Bytes) (c : Call) (before after : Memory) (a : Answer) {out : Bytes} {at : ℕ} {out′ : Bytes} {r : ℕ} → callOf line ≡ some c
-    → Does c before a after → length (before .words) ≡ tableWords → PrintedAt out at (printed a) out′ r → CommandAnswered line before after out at out′ r
+    → Does c before a after → length (before .words) ≡ lentWords → PrintedAt out at (printed a) out′ r → CommandAnswered line before after out at out′ r
 call-answered line c before after a e does long p = record {
   text = printed a;
   answer = p;

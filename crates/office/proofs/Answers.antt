@@ -16,7 +16,7 @@ use Rattle.output.specs.Laid.{far}
 use Rattle.output.proofs.Laying.{laid-none, laid-on, laid-length}
 use Rattle.office.specs.Printing.{answerBytes}
 use Rattle.office.specs.declared.answer.Reached.{Reached}
-use Rattle.office.specs.Answers.{FirstAnswered, AnsweredTo}
+use Rattle.office.specs.Answers.{lentWords, FirstAnswered, AnsweredTo}
 
 pub none-answered : (commands : Bytes) (l : Memory) (out : Bytes) (at : ℕ) → AnsweredTo commands 0 l l out at out at
 none-answered commands l out at = record {
@@ -63,8 +63,8 @@ module _ {commands : Bytes} {i : ℕ} {before middle : Memory} {out : Bytes} {at
               record {
                 state = y .state;
                 stands = y .stands;
-                prints = x .prints ∙ ap (λ (o : List (Option Call)). a .text ++ output (x .state) o) next-lines ∙ ap (λ (o : Bytes). a .text ++ o) (y .prints)
-                    ∙ sym (append-assoc (a .text) (b .text) (output (y .state) rest));
+                prints = x .prints ∙ ap (λ (o : List (Option Call)). a .text ++ output lentWords (x .state) o) next-lines ∙ ap (λ (o : Bytes). a .text ++ o) (y .prints)
+                    ∙ sym (append-assoc (a .text) (b .text) (output lentWords (y .state) rest));
               };
         }
 

@@ -8,9 +8,10 @@ use native.Mathlib.Omega.{arith}
 use borrow.Author.Tests.{le-ltb}
 use lib.ListN.{length, take, drop, length-append, length-drop}
 use Rattle.model.specs.Notation.{if_then_else_, map}
-use Rattle.model.specs.Limits.{inputBytes, tableWords}
+use Rattle.model.specs.Limits.{Edition, inputBytes}
 use Rattle.model.specs.Numbers as refusal
 use Rattle.model.specs.Bytes.{Bytes, linesOf}
+use Rattle.model.specs.Lines.{namedEdition}
 use Rattle.model.specs.State.{State, empty}
 use Rattle.model.specs.Ledger.{Call, loaded}
 use Rattle.model.specs.Gate.{fileOf, commandsOf, callOf, printed, output, gate}
@@ -23,7 +24,7 @@ use Rattle.office.specs.Input.{Split}
 use Rattle.output.specs.Laid.{Laid}
 use Rattle.output.proofs.Laying.{laid-as, laid-on}
 use Rattle.office.specs.Printing.{answerBytes, PrintedAt}
-use Rattle.office.specs.Answers.{AnsweredTo}
+use Rattle.office.specs.Answers.{lentWords, AnsweredTo}
 use Rattle.office.proofs.Answering.{outcome-prints}
 
 pub commands-as : {s t : Bytes} {before after : Memory} {out : Bytes} {at : ℕ} {out′ : Bytes} {r : ℕ} → s ≡ t → AnsweredTo s (length s) before after out at out′ r
@@ -39,24 +40,24 @@ pub too-long : (input : Bytes) {out out′ : Bytes} {r : ℕ} → inputBytes < l
 too-long input h p = (laid-as (sym (gate-too-long input h)) (p .laid), omega (arith, p .laid .behind, p .short))
 
 gate-calls : (input : Bytes) (r : Places) → length input ≤ inputBytes → Split input r
-    → gate input ≡ output empty (some (Call.load (take (r .file) input)) ∷ map callOf (linesOf (drop (r .commands) input)))
-unfolding gate
+    → gate input ≡ output lentWords (empty Edition.first) (some (Call.load (take (r .file) input)) ∷ map callOf (linesOf (drop (r .commands) input)))
+unfolding gate namedEdition
 gate-calls input r short s =
-    ap (λ (b : Bool). if b then printed (loaded refusal.tooLong 0) else output empty (some (Call.load (fileOf (linesOf input))) ∷ map callOf (commandsOf (linesOf input))))
+    ap (λ (b : Bool). if b then printed (loaded refusal.tooLong 0) else output lentWords (empty Edition.first) (some (Call.load (fileOf (linesOf input))) ∷ map callOf (commandsOf (linesOf input))))
     (le-ltb inputBytes (length input) short)
-    ∙ ap₂ (λ (f : Bytes) (ls : List Bytes). output empty (some (Call.load f) ∷ map callOf ls)) (s .file) (s .commands)
+    ∙ ap₂ (λ (f : Bytes) (ls : List Bytes). output lentWords (empty Edition.first) (some (Call.load f) ∷ map callOf ls)) (s .file) (s .commands)
 
 -- behind the last line there is none
-nothing-left : (commands : Bytes) (T : State) → output T (map callOf (linesOf (drop (length commands) commands))) ≡ []
+nothing-left : (commands : Bytes) (T : State) → output lentWords T (map callOf (linesOf (drop (length commands) commands))) ≡ []
 unfolding output
 nothing-left commands T = go (drop (length commands) commands) (length-drop (length commands) commands)
   where
-    go : (d : Bytes) → length d ≡ length commands - length commands → output T (map callOf (linesOf d)) ≡ []
+    go : (d : Bytes) → length d ≡ length commands - length commands → output lentWords T (map callOf (linesOf d)) ≡ []
     go [] e = refl
     go (x ∷ d) e = absurd (omega arith)
 
 module _ (input : Bytes) (places : Places) (short : length input ≤ inputBytes) (split : Split input places) {out : Bytes}
-    (words : List ℕ) (long : length words ≡ tableWords) {number line : ℕ} (after : Memory)
+    (words : List ℕ) (long : length words ≡ lentWords) {number line : ℕ} (after : Memory)
     (l : Loads (take (places .file) input) words number line (after .words) (after .book) (after .code)) {out₁ : Bytes} {at : ℕ}
     (p : PrintedAt out 0 (printed (loaded number line)) out₁ at) where
   abbrev pub commands : Bytes
@@ -66,7 +67,7 @@ module _ (input : Bytes) (places : Places) (short : length input ≤ inputBytes)
   whole {out₂ = out₂} {r = r} a =
       let c = Call.load (take (places .file) input) in
       let rest = map callOf (linesOf commands) in
-      let first = outcome-prints empty c words after (loaded number line) rest empty-standing l long in
+      let first = outcome-prints (empty Edition.first) c words after (loaded number line) rest (empty-standing Edition.first) l long in
       let more = a .goes-on (first .state) (first .stands) in
       let s = p .short in
       let t = a .short in

@@ -5,7 +5,7 @@ use mathlib.Core.List.{List, _∷_, _++_}
 use mathlib.Core.Option.{Option}
 use lib.ListN.{length, take, drop}
 use Rattle.model.specs.Notation.{map}
-use Rattle.model.specs.Limits.{tableWords}
+use Rattle.model.specs.Limits.{Edition, tableWords}
 use Rattle.model.specs.Bytes.{Bytes, linesOf}
 use Rattle.model.specs.State.{State}
 use Rattle.model.specs.Ledger.{Call, edited, decided}
@@ -23,6 +23,10 @@ use Rattle.office.specs.Printing.{answerBytes, PrintedAt}
 abbrev pub memory : List ℕ → Bytes → List ℕ → Memory
 memory book code words = record { book = book; code = code; words = words }
 
+-- how many words the table has that is lent: those of the first edition
+abbrev pub lentWords : ℕ
+lentWords = tableWords Edition.first
+
 -- book and table go together with a state
 abbrev pub MemoryOf : State → Memory → Type 0
 MemoryOf S l = Together S (l .book) (l .code) (l .words)
@@ -31,20 +35,20 @@ MemoryOf S l = Together S (l .book) (l .code) (l .words)
 pub record Prints (S : State) (commands : List (Option Call)) (text : Bytes) (rest : List (Option Call)) (after : Memory) : Type 0 where
   pub state : State
   pub stands : MemoryOf state after
-  pub prints : output S commands ≡ text ++ output state rest
+  pub prints : output lentWords S commands ≡ text ++ output lentWords state rest
 
 -- an edit made, and its answer
 pub record EditAnswered (line : Bytes) (book words book′ words′ : List ℕ) (out : Bytes) (at : ℕ) (out′ : Bytes) (r : ℕ) : Type 0 where
   pub number : ℕ
   pub count : ℕ
-  pub table-long : length words ≡ tableWords
+  pub table-long : length words ≡ lentWords
   pub call : EditCall line book words number count words′ book′
   pub answer : PrintedAt out at (printed (edited number count)) out′ r
 
 -- a request decided, and its answer
 pub record RequestAnswered (block : Bytes) (l : Memory) (out : Bytes) (at : ℕ) (out′ : Bytes) (r : ℕ) : Type 0 where
   pub decision : Decision
-  pub table-long : length (l .words) ≡ tableWords
+  pub table-long : length (l .words) ≡ lentWords
   pub call : Decides block (l .book) (l .code) (l .words) decision
   pub answer : PrintedAt out at (printed (decided (decisionOf decision))) out′ r
 

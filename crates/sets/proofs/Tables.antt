@@ -10,6 +10,7 @@ use native.Mathlib.Omega.{arith}
 use lib.ListN.{length, getD, replicate, length-append, List·getD-append}
 use lib.Seq.{ext-getD, getD-append-add}
 use Rattle.model.specs.Notation.{each, below}
+use Rattle.model.specs.Limits.{holderNumbers, tableWords}
 use Rattle.model.specs.Declarations.{Declarations, isHolder, holderNumbersOf}
 use Rattle.model.specs.Ties.{Ties, value}
 use Rattle.model.specs.Effective.{Has, own, inherited}
@@ -94,17 +95,17 @@ module _ (D : Declarations) (T : Ties) (standing : Standing (record { declared =
   length-stored : (k : ℕ) → length (storedSet D T k) ≡ 4
   length-stored k = ap length (stored-words k) ∙ length-words (effectiveSet D T k)
 
-  length-table : length (table D T) ≡ 1024
+  length-table : length (table D T) ≡ tableWords (D .edition)
   unfolding table
-  length-table = length-each (storedSet D T) length-stored 256
+  length-table = length-each (storedSet D T) length-stored (holderNumbers (D .edition))
 
-  table-word : (k j : ℕ) → k < 256 → j < 4 → getD (table D T) (4 * k + j) 0 ≡ word 64 (λ i. effectiveSet D T k (64 * j + i))
+  table-word : (k j : ℕ) → k < holderNumbers (D .edition) → j < 4 → getD (table D T) (4 * k + j) 0 ≡ word 64 (λ i. effectiveSet D T k (64 * j + i))
   unfolding table
   table-word k j h l =
-      getD-each (storedSet D T) length-stored 256 k j h l ∙ ap (λ (s : List ℕ). getD s j 0) (stored-words k) ∙ getD-words (effectiveSet D T k) j l
+      getD-each (storedSet D T) length-stored (holderNumbers (D .edition)) k j h l ∙ ap (λ (s : List ℕ). getD s j 0) (stored-words k) ∙ getD-words (effectiveSet D T k) j l
 
   -- holder k's pairs in it are the effective ones
-  holds-table : (k p : ℕ) → k < 256 → p < 256 → holds (table D T) k p ≡ effectiveSet D T k p
+  holds-table : (k p : ℕ) → k < holderNumbers (D .edition) → p < 256 → holds (table D T) k p ≡ effectiveSet D T k p
   unfolding holds
   holds-table k p h l =
       let e : 64 * (p / 64) + p % 64 ≡ p = omega arith in
@@ -112,7 +113,7 @@ module _ (D : Declarations) (T : Ties) (standing : Standing (record { declared =
       ∙ ap (effectiveSet D T k) e
 
   -- and a table with those pairs is this one
-  table-is : (t : List ℕ) → length t ≡ 1024 → ((j : ℕ) → getD t j 0 < 2 ^ 64) → ((k p : ℕ) → k < 256 → p < 256 → holds t k p ≡ effectiveSet D T k p) → t ≡ table D T
+  table-is : (t : List ℕ) → length t ≡ tableWords (D .edition) → ((j : ℕ) → getD t j 0 < 2 ^ 64) → ((k p : ℕ) → k < holderNumbers (D .edition) → p < 256 → holds t k p ≡ effectiveSet D T k p) → t ≡ table D T
   unfolding holds
   table-is t long fit e =
       ext-getD 0 t (table D T) (long ∙ sym length-table)
@@ -125,10 +126,10 @@ module _ (D : Declarations) (T : Ties) (standing : Standing (record { declared =
       sym (ap₂ (λ (x y : ℕ). bit (getD t x 0) y) d r) ∙ e (j / 4) (64 * (j % 4) + i) (omega arith) (omega arith))
       ∙ sym (table-word (j / 4) (j % 4) (omega arith) (omega arith)) ∙ ap (λ (i : ℕ). getD (table D T) i 0) at)
 
-  pub sets-table : (t : List ℕ) → length t ≡ 1024 → ((j : ℕ) → getD t j 0 < 2 ^ 64) → KeepsSets 256 t D T → t ≡ table D T
+  pub sets-table : (t : List ℕ) → length t ≡ tableWords (D .edition) → ((j : ℕ) → getD t j 0 < 2 ^ 64) → KeepsSets (holderNumbers (D .edition)) t D T → t ≡ table D T
   unfolding KeepsSets
   sets-table t long fit e = table-is t long fit e
 
-  pub table-sets : (t : List ℕ) → t ≡ table D T → KeepsSets 256 t D T
+  pub table-sets : (t : List ℕ) → t ≡ table D T → KeepsSets (holderNumbers (D .edition)) t D T
   unfolding KeepsSets
   table-sets t e k p h l = ap (λ (x : List ℕ). holds x k p) e ∙ holds-table k p h l

@@ -16,9 +16,9 @@ unfoldable pub KeepsSets : ℕ → List ℕ → Declarations → Ties → Type 0
 KeepsSets n t D T = (k p : ℕ) → k < n → p < pairLimit → holds t k p ≡ effectiveSet D T k p
 
 -- "Load and edits keep it equal to effective(k). Unused words are 0": for every standing state that the arrays keep, with room for its holders, the
--- sets are its effective ones; and a table for document 01's number of holders is that state's table
+-- sets are its effective ones; and a table for the number of holders of its edition is that state's table
 pub record Filled (ups own slots t : List ℕ) : Type 0 where
   pub pairs : (D : Declarations) (T : Ties) → Standing (record { declared = D; ties = T }) → KeepsTies ups own slots T → Room D (length ups)
       → KeepsSets (length ups) t D T
-  pub whole : (D : Declarations) (T : Ties) → Standing (record { declared = D; ties = T }) → KeepsTies ups own slots T → length ups ≡ holderNumbers
+  pub whole : (D : Declarations) (T : Ties) → Standing (record { declared = D; ties = T }) → KeepsTies ups own slots T → length ups ≡ holderNumbers (D .edition)
       → t ≡ table D T

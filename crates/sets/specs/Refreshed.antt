@@ -33,12 +33,12 @@ pub record Rewritten (ups own slots : List ℕ) (e : ℕ) (t t′ m m′ : List 
   pub told : Distinct (length ups) slots → MarksChanged m m′ t t′
   pub elsewhere : Elsewhere ups slots e t t′
 
--- from the table t to t′: r holders' sets changed, on any arrays no more than there are marks. A table for document 01's number of holders goes from
--- one state's table to the other's.
+-- from the table t to t′: r holders' sets changed, on any arrays no more than there are marks. A table for the number of holders of the states'
+-- edition goes from one state's table to the other's.
 pub record Refreshed (ups own slots : List ℕ) (e : ℕ) (t t′ : List ℕ) (r : ℕ) : Type 0 where
   pub pairs : (D : Declarations) (T U : Ties) → EditedAt ups own slots e D T U → Room D (length ups)
       → KeepsSets (length ups) t D T → KeepsSets (length ups) t′ D U × (r ≡ changes D T U)
-  pub whole : (D : Declarations) (T U : Ties) → EditedAt ups own slots e D T U → length ups ≡ holderNumbers
+  pub whole : (D : Declarations) (T U : Ties) → EditedAt ups own slots e D T U → length ups ≡ holderNumbers (D .edition)
       → t ≡ table D T → (t′ ≡ table D U) × (r ≡ changes D T U)
   pub elsewhere : Elsewhere ups slots e t t′
   pub at-most : r ≤ wordBits * markWords

@@ -4,7 +4,7 @@ use mathlib.Core.Path.{_≡_}
 use mathlib.Core.Bool.{Bool, true, false, not, _&&_, _||_, Bool·beq}
 use mathlib.Core.List.{List}
 use lib.ListN.{getD, length}
-use Rattle.model.specs.Limits.{groupLimit, pairLimit, holderNumbers, wordBits}
+use Rattle.model.specs.Limits.{Edition, groupLimit, pairLimit, holderNumbers, wordBits}
 use Rattle.bits.specs.Bits.{bit, member, holds, anyBelow}
 use Rattle.ties.specs.TieArrays.{inUse, tiedUp, Distinct}
 
@@ -14,9 +14,9 @@ pub record Shaped (ups own slots t : List ℕ) : Type 0 where
   pub slots-long : length slots ≡ groupLimit
   pub table-long : length t ≡ 4 * length ups
 
--- the words of the sets of holders that a call makes for itself: room for document 01's number of holders
+-- the words of the sets of holders that a call makes for itself: room for the number of holders of the first edition
 abbrev pub markWords : ℕ
-markWords = holderNumbers / wordBits
+markWords = holderNumbers Edition.first / wordBits
 
 -- a set of holders with room for those of the arrays, and not too long to be walked over
 pub record Marked (ups marks : List ℕ) : Type 0 where

@@ -10,6 +10,7 @@ use lib.Dec.{eqb}
 use lib.ListN.{length, getD}
 use Rattle.model.specs.Notation.{if_then_else_, _>>=_, map, each, filter, nth, below}
 use Rattle.model.specs.Bytes.{Bytes}
+use Rattle.model.specs.Limits.{holderNumbers}
 use Rattle.model.specs.Declarations.{Holder, Sort, holderOf, sortOf, holderNumbersOf, isSort}
 use Rattle.model.specs.Lines.{holder}
 use Rattle.model.specs.State.{State}
@@ -18,12 +19,13 @@ use Rattle.model.specs.FileText.{holderLine, holdersInOrder, holderSorts, holde
 use Rattle.model.proofs.WordTables.{none-is-some}
 use Rattle.model.proofs.Lists.{nth-in, lt-nth, each-each}
 use Rattle.model.proofs.Numbered.{numbers-listed}
-use Rattle.model.proofs.Standing.{numbers-length, holder-fits, holder-below, holder-number}
+use Rattle.model.proofs.Standing.{numbers-length, holder-below, holder-number}
 use Rattle.model.proofs.RoundTrip.{holder-found, holder-at}
 use Rattle.codes.specs.Codes.{coded}
 use Rattle.text.specs.Packing.{packedOf}
 use Rattle.book.specs.Sections as section
 use Rattle.book.specs.Held.{Holds, sortCode, holderRow}
+use Rattle.book.proofs.HeldNumbers.{holder-in-book}
 use Rattle.output.specs.Laid.{wordText}
 use Rattle.writer.specs.Texts.{keyWords, listedText, nameText, nameOfHolder, lineEnd, holderLineText, holderCount, holderAt, sortText, holdersText}
 use Rattle.writer.proofs.Unpacked.{name-back}
@@ -103,13 +105,13 @@ module _ {book : List ℕ} {rules : Bytes} {S : State} (standing : Standing S) (
       let few = standing .declarations .holders .few in
       let n : getD book 3 0 ≡ length (holderNumbersOf (S .declared)) = word-at section.counts book (held .counts .holders) (omega arith) refl in
       let m = numbers-length (S .declared) in
-      omega (arith, n, m, few)
+      omega (arith, n, m, few, ap holderNumbers (held .edition))
 
   -- the name in a holder's row
   pub holder-name : (k : ℕ) (h : Holder) → holderOf (S .declared) k ≡ some h → nameOfHolder book k ≡ h .name
   unfolding nameText
   holder-name k h e =
-      let l : k < 256 = holder-fits standing k (holder-below (S .declared) k (holder-number (S .declared) k e)) in
+      let l : k < 256 = holder-in-book standing held k (holder-below (S .declared) k (holder-number (S .declared) k e)) in
       let row : holderRow (S .declared) k ≡ some (1, packedOf (h .name) .low, packedOf (h .name) .high, 0) =
       ap (λ (o : Option Holder). o >>= λ h. some (1, packedOf (h .name) .low, packedOf (h .name) .high, 0)) e in
       let w = held .holders .written k _ row in
@@ -123,7 +125,7 @@ module _ {book : List ℕ} {rules : Bytes} {S : State} (standing : Standing S) (
   unfolding holderLineText sortOf
   line-is s other k h e =
       let f = holder-nth k h e in
-      let l : k < 256 = holder-fits standing k (holder-below (S .declared) k (holder-number (S .declared) k f)) in
+      let l : k < 256 = holder-in-book standing held k (holder-below (S .declared) k (holder-number (S .declared) k f)) in
       let g : getD book (section.sorts .start + k) 0 ≡ sortCode (h .sort) =
       word-at section.sorts book (held .sorts k l ∙ ap (λ (o : Option Holder). coded sortCode (o >>= λ h. some (h .sort))) f) l refl in
       ap₂ (λ (c : ℕ) (n : Bytes). if eqb c (sortCode s) then listedText keyWords (sortCode s) ++ (n ++ lineEnd) else []) g (holder-name k h f)

@@ -3,6 +3,7 @@ use Prim.Native.Nat.{ℕ}
 use mathlib.Core.Path.{_≡_, sym, ap, ap₂, _∙_}
 use mathlib.Core.List.{List, _++_, append-assoc}
 use Rattle.model.specs.Notation.{map, each}
+use Rattle.model.specs.Limits.{Edition}
 use Rattle.model.specs.Bytes.{Bytes}
 use Rattle.model.specs.Lines.{firstLine, Line, op}
 use Rattle.model.specs.Declarations.{Declarations}
@@ -53,7 +54,7 @@ module _ {book : List ℕ} {rules : Bytes} {S : State} (standing : Standing S) (
   pub book-text : bookText book rules ≡ fileText S
   unfolding bookText fileText
   book-text =
-      ap (λ (s : Bytes). firstLine ++ s)
+      ap₂ (λ (e : Edition) (s : Bytes). firstLine e ++ s) (sym (held .edition))
       (ap₂ (λ (x y : Bytes). x ++ y) (declared-text standing held)
       (ap₂ (λ (x y : Bytes). x ++ y) (holders-text standing held)
       (ap₂ (λ (x y : Bytes). x ++ y) (ties-text standing held (pair-name standing held) (pair-atom standing held)) (rules-text standing held)))

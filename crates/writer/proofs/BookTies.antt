@@ -19,12 +19,13 @@ use Rattle.model.specs.Standing.{Standing}
 use Rattle.model.specs.FileText.{tiesWith, tiesInOrder, tieLine, tieLines, lineText}
 use Rattle.model.proofs.WordTables.{none-is-some}
 use Rattle.model.proofs.Lists.{nth-lt, lt-nth, each-append, each-each}
-use Rattle.model.proofs.Standing.{sorted-fits, pairs-fit}
+use Rattle.model.proofs.Standing.{pairs-fit}
 use Rattle.bits.specs.Bits.{bit, member, holds}
 use Rattle.ties.specs.TieArrays.{tiedUp}
 use Rattle.book.specs.Sections as section
 use Rattle.book.specs.Sections.{sectionWords}
 use Rattle.book.specs.Held.{Holds}
+use Rattle.book.proofs.HeldNumbers.{sorted-in-book}
 use Rattle.book.proofs.TieSections.{part-size}
 use Rattle.output.specs.Laid.{wordText}
 use Rattle.writer.specs.Texts.{listedText, nameText, rowOfPair, pairAtomText, lineEnd, inMask, hasUp, upLineText, upText, keyOfUps, holderUpsText, ownOf, valueLineText, valueText, valuesText, tiesText}
@@ -93,11 +94,11 @@ module _ {book : List ℕ} {rules : Bytes} {S : State} (standing : Standing S) (
       → (q : ℕ) × (getD book (section.seats .start + g) 0 ≡ suc q) × (q < 64) × (getD slots q 0 ≡ g)
   seat-group g s e f =
       let (q, a, b, c) = held .groups .seated g s e f in
-      (q, word-at section.seats book a (sorted-fits standing g e) refl, omega (arith, b, standing .declarations .holders .few-groups), c)
+      (q, word-at section.seats book a (sorted-in-book standing held g e) refl, omega (arith, b, standing .declarations .holders .few-groups), c)
 
   seat-other : (g : ℕ) (s : Sort) → sortOf (S .declared) g ≡ some s → isGroup s ≡ false → getD book (section.seats .start + g) 0 ≡ 0
   seat-other g s e f =
-      let l = sorted-fits standing g e in
+      let l = sorted-in-book standing held g e in
       word-at section.seats book (held .groups .unseated g l (λ t d. ap isGroup (Option·some-injective t s (sym d ∙ e)) ∙ f)) l refl
 
   -- ---- ties up
@@ -177,7 +178,7 @@ module _ {book : List ℕ} {rules : Bytes} {S : State} (standing : Standing S) (
           → holderUpsText book count 8 h ≡ each (λ g. tieText (Tie.parent h g)) (below count)
       go s e true f =
           ups-text 8 Tie.parent h (group-key h s e f)
-          (λ g m. up-is h g (sorted-fits standing h e) m ∙ or-off (S .ties (Tie.parent h g)) (S .ties (Tie.member h g)) (no-member h s e f g))
+          (λ g m. up-is h g (sorted-in-book standing held h e) m ∙ or-off (S .ties (Tie.parent h g)) (S .ties (Tie.member h g)) (no-member h s e f g))
           (λ g m. parent-line h g l m)
       go s e false f = no-ups-text 8 Tie.parent h (λ z. let y = other-key h s e f in omega arith) (no-parent h s e f)
 
@@ -189,7 +190,7 @@ module _ {book : List ℕ} {rules : Bytes} {S : State} (standing : Standing S) (
       go s e true f = no-ups-text 9 Tie.member h (λ z. let y = group-key h s e f in omega arith) (no-member h s e f)
       go s e false f =
           ups-text 9 Tie.member h (other-key h s e f)
-          (λ g m. up-is h g (sorted-fits standing h e) m ∙ ap (λ (t : Bool). t || S .ties (Tie.member h g)) (no-parent h s e f g))
+          (λ g m. up-is h g (sorted-in-book standing held h e) m ∙ ap (λ (t : Bool). t || S .ties (Tie.member h g)) (no-parent h s e f g))
           (λ g m. member-line h g l m)
 
   -- ---- the values of a holder
@@ -251,7 +252,7 @@ module _ {book : List ℕ} {rules : Bytes} {S : State} (standing : Standing S) (
     unfolding valueText
     values-of h l =
         let (a, e) = holder-there standing held h l in
-        let few = sorted-fits standing h (sort-of h a e) in
+        let few = sorted-in-book standing held h (sort-of h a e) in
         sym (each-none (valueText book h) (length (S .declared .pairs)) pairLimit (pairs-fit standing)
         (λ p i j. ap (λ (t : Bool). if t then valueLineText book h p else []) (own-is h p few j ∙ off (S .ties (Tie.value h p)) (λ on. no-pair p i on))))
         ∙ each-same (valueText book h) (λ p. tieText (Tie.value h p)) (length (S .declared .pairs))

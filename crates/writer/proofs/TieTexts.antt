@@ -10,14 +10,14 @@ use lib.Dec.{eqb}
 use lib.ListN.{length, getD, drop, length-drop}
 use lib.Seq.{length-take-le}
 use Rattle.model.specs.Notation.{if_then_else_, each, below}
-use Rattle.model.specs.Limits.{pairLimit, holderNumbers}
+use Rattle.model.specs.Limits.{pairLimit}
 use Rattle.bits.specs.Bits.{bit, member}
 use Rattle.bits.specs.Lowest.{FirstFrom}
 use Rattle.bits.proofs.Bits.{bit-none}
 use Rattle.bits.proofs.Walks.{any-left, none-left}
 use Rattle.ties.proofs.Masks.{eqb-flip}
 use Rattle.book.specs.Sections as section
-use Rattle.book.specs.Sections.{sectionWords, bookWords}
+use Rattle.book.specs.Sections.{sectionWords, bookWords, bookHolders}
 use Rattle.writer.specs.GroupSets.{AddsGroup, AddsGroups}
 use Rattle.writer.specs.Texts.{inMask, upLineText, upAmong, upText, upsText, keyOfUps, holderUpsText, ownOf, valueLineText, valueText}
 use Rattle.writer.proofs.LaidTexts.{chosen, passed, each-none, each-same}
@@ -55,7 +55,7 @@ without-group before number long large =
 -- what is in the set so far, or in the slots that are left, is in the set before or in the mask
 pub record GroupsLeft (slots : List ℕ) (mask : ℕ) (before groups : List ℕ) (left : ℕ) : Type 0 where
   pub long : length groups ≡ 4
-  pub members : (g : ℕ) → g < holderNumbers → (member groups g || inMask slots left g) ≡ (member before g || inMask slots mask g)
+  pub members : (g : ℕ) → g < bookHolders → (member groups g || inMask slots left g) ≡ (member before g || inMask slots mask g)
 
 pub groups-start : (slots : List ℕ) (mask : ℕ) (before : List ℕ) → length before ≡ 4 → GroupsLeft slots mask before before mask
 groups-start slots mask before long = record { long = long; members = λ g l. refl }

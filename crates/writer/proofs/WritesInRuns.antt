@@ -7,7 +7,7 @@ use mathlib.Core.Logic.{_⊎_, _↔_}
 use mathlib.Core.List.{List, [], _∷_, _++_, List·Memᴰ·head as here, List·Memᴰ·tail as there}
 use native.Mathlib.Omega.{arith}
 use lib.ListN.{length, take, drop}
-use Rattle.model.specs.Limits.{tableWords}
+use Rattle.model.specs.Limits.{Edition, tableWords}
 use Rattle.model.specs.Numbers as refusal
 use Rattle.model.specs.Bytes.{Bytes}
 use Rattle.model.specs.State.{State, empty}
@@ -23,7 +23,7 @@ use Rattle.model.proofs.Writer.{writtenBytes, TooLong, Fits}
 use Rattle.book.specs.Held.{Holds}
 use Rattle.engine.specs.Calls.{Gives}
 use Rattle.engine.specs.Runs.{Memory, Does, Leads, endState}
-use Rattle.engine.proofs.Outcomes.{edit-by-table}
+use Rattle.model.proofs.Outcomes.{edit-by-table}
 use Rattle.engine.proofs.Runs.{does-gives, leads-together, leads-where-the-ledger-ends}
 use Rattle.writer.specs.WriteCalls.{written, WriteCall, LengthCall}
 
@@ -42,11 +42,12 @@ unfolding ledger
 leads-reached {first} {calls} {S} {lent} run =
     let (file, rest, e) = begins run in
     let there′ = leads-where-the-ledger-ends (subst (λ (l : List Call). Leads first l S lent) e run) in
-    let (o, m, at) = last-outcome empty (outcome empty (first .words) (Call.load file)) (ledgerFrom (outcome empty (first .words) (Call.load file) .state) (outcome empty (first .words) (Call.load file) .words) rest) in
+    let loaded = outcome (empty Edition.first) (first .words) (Call.load file) in
+    let (o, m, at) = last-outcome (empty Edition.first) loaded (ledgerFrom (loaded .state) (loaded .words) rest) in
     record { words = first .words; file = file; calls = rest; last = o; in-ledger = m; state-is = at ∙ there′ .0 }
 
 -- what a load does, by its promise
-load-gives : {file : Bytes} {other left : Memory} {a : Answer} → Does (Call.load file) other a left → Gives (outcome empty (other .words) (Call.load file)) a (left .words) (left .book) (left .code)
+load-gives : {file : Bytes} {other left : Memory} {a : Answer} → Does (Call.load file) other a left → Gives (outcome (empty Edition.first) (other .words) (Call.load file)) a (left .words) (left .book) (left .code)
 load-gives (Does.loads g) = g
 
 -- ---- a write in a run
@@ -94,15 +95,15 @@ module _ {first : Memory} {calls : List Call} {S : State} {lent : Memory} (run :
 
   -- "loading the result on a table of the right length gives a book equal in declarations, ties and rule tokens, and the table words that belong to these
   -- ties", whatever was lent to that load
-  pub loads-back : number ≡ 0 → {other left : Memory} {a : Answer} → Does (Call.load (take long after)) other a left → length (other .words) ≡ tableWords
+  pub loads-back : number ≡ 0 → {other left : Memory} {a : Answer} → Does (Call.load (take long after)) other a left → length (other .words) ≡ tableWords (S .declared .edition)
       → Holds (left .book) (left .code) S × (left .words ≡ tableOf S) × (a ≡ Answer.loaded 0 (suc (length (fileLines S))))
   loads-back e {other} {left} {a} does right =
-      let same = ap (λ (s : Bytes). outcome empty (other .words) (Call.load s)) text-is ∙ Writer.result-loads-on (leads-reached run) before (sym number-is ∙ e) empty (other .words) right in
+      let same = ap (λ (s : Bytes). outcome (empty Edition.first) (other .words) (Call.load s)) text-is ∙ Writer.result-loads-on (leads-reached run) before (sym number-is ∙ e) (empty Edition.first) (other .words) right in
       let h = subst (λ (o : Outcome). Gives o a (left .words) (left .book) (left .code)) same (load-gives does) in
       (h .holds, sym (h .table), sym (h .answered))
 
   -- and that book, written again, gives the same bytes
-  pub written-again : number ≡ 0 → {other left : Memory} {a : Answer} → Does (Call.load (take long after)) other a left → length (other .words) ≡ tableWords
+  pub written-again : number ≡ 0 → {other left : Memory} {a : Answer} → Does (Call.load (take long after)) other a left → length (other .words) ≡ tableWords (S .declared .edition)
       → {number′ long′ : ℕ} {after′ : Bytes} → WriteCall (left .book) (left .code) before number′ long′ after′ → written number′ long′ after′ ≡ written number long after
   written-again e does right again = again .exact S (leads-together run .standing) (loads-back e does right .0) ∙ sym writes-state
 

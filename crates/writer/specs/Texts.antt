@@ -6,7 +6,7 @@ use mathlib.Core.List.{List, [], _∷_, _++_}
 use lib.ListN.{getD, take, drop}
 use lib.Dec.{eqb, leb}
 use Rattle.model.specs.Notation.{if_then_else_, map, each, below}
-use Rattle.model.specs.Limits.{attributeLimit, operationLimit, pairLimit, holderNumbers, groupLimit, ruleLimit}
+use Rattle.model.specs.Limits.{Edition, attributeLimit, operationLimit, pairLimit, groupLimit, ruleLimit}
 use Rattle.model.specs.Bytes.{Bytes, bytes, newline}
 use Rattle.model.specs.Atoms.{decimal, quoted}
 use Rattle.model.specs.Block.{number, valueAt}
@@ -15,7 +15,7 @@ use Rattle.bits.specs.Bits.{bit, member, anyBelow}
 use Rattle.output.specs.Laid.{wordText}
 use Rattle.index.specs.Index.{rowPlace}
 use Rattle.book.specs.Sections as section
-use Rattle.book.specs.Sections.{sectionWords, codeBytes}
+use Rattle.book.specs.Sections.{sectionWords, bookHolders, codeBytes}
 
 -- ---- words of the format, each packed in a word of a table; the number that a book has for it is its place
 
@@ -52,7 +52,7 @@ pairAt p = section.pairs .start + rowPlace pairLimit 0 + 4 * p
 
 -- a holder's name
 abbrev pub holderAt : ℕ → ℕ
-holderAt k = section.holders .start + rowPlace holderNumbers 0 + 1 + 4 * k
+holderAt k = section.holders .start + rowPlace bookHolders 0 + 1 + 4 * k
 
 -- how many there are of something, by a word of the counts; never more than there can be
 abbrev pub counted : List ℕ → ℕ → ℕ → ℕ
@@ -206,7 +206,7 @@ ruleLineText book rules k =
 -- ---- the whole
 
 abbrev pub holderCount : List ℕ → ℕ
-holderCount book = counted book 3 holderNumbers
+holderCount book = counted book 3 bookHolders
 
 abbrev pub declaredText : List ℕ → Bytes
 declaredText book =
@@ -230,4 +230,4 @@ abbrev pub rulesText : List ℕ → Bytes → Bytes
 rulesText book rules = each (ruleLineText book rules) (below (counted book 5 ruleLimit))
 
 unfoldable pub bookText : List ℕ → Bytes → Bytes
-bookText book rules = firstLine ++ (declaredText book ++ (holdersText book ++ (tiesText book ++ rulesText book rules)))
+bookText book rules = firstLine Edition.first ++ (declaredText book ++ (holdersText book ++ (tiesText book ++ rulesText book rules)))

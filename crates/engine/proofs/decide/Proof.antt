@@ -9,7 +9,7 @@ use Rattle.engine.proofs.decide.Statement.{statement}
 use Rattle.engine.proofs.decide.Tie as tie
 
 returns : tie.Need-returns
-returns c = promised (λ d. refl) (λ S standing holds e. absurd (c .if1 .taken (stands-long S e)))
+returns c = promised (λ d. refl) (λ S standing holds e. absurd (c .if1 .taken (stands-long holds e)))
 
 is-block-requires : tie.Need-is-block-requires
 is-block-requires c κs = search needs

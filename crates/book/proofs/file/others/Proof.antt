@@ -6,6 +6,7 @@ use native.Mathlib.Omega.{arith}
 use lib.ListN.{length, drop}
 use borrow.Author.Needs.{needs}
 use Rattle.model.specs.Bytes.{linesOf}
+use Rattle.model.specs.Limits.{Edition}
 use Rattle.model.specs.State.{empty}
 use Rattle.model.specs.Load.{readOn}
 use Rattle.text.proofs.LoopPlaces.{done}
@@ -18,7 +19,7 @@ use Rattle.book.proofs.file.others.Tie as tie
 abbrev Inv-loop : tie.InvT-loop
 Inv-loop book₀ code₀ rest at₀ n₀ previous₀ book code at n previous =
     (length book ≡ bookWords) × (length code ≡ ruleBytes) × (at ≤ length rest) × (n ≤ at + 1)
-    × (Holds book₀ code₀ empty → Onward (readOn empty none 1 (linesOf rest)) book code previous n (drop at rest))
+    × (Holds book₀ code₀ (empty Edition.first) → Onward (readOn Edition.first (empty Edition.first) none 1 (linesOf rest)) book code previous n (drop at rest))
 
 abbrev μ-loop : tie.MeasureT-loop
 μ-loop book₀ code₀ rest at₀ n₀ previous₀ book code at n previous = length rest - at
@@ -46,7 +47,7 @@ add-next c =
     let rest = start .args .rest .now in
     let turn = c .before .before .before .before in
     let said = c .before .first-line in
-    let within = turn-within (readOn empty none 1 (linesOf rest)) (turn .loop .book) (turn .loop .code) (turn .loop .previous) (turn .loop .n) (turn .loop .at) (said .result .length) rest (said .ensures) (omega (arith, c .before .before .before .loop-test .taken)) in
+    let within = turn-within (readOn Edition.first (empty Edition.first) none 1 (linesOf rest)) (turn .loop .book) (turn .loop .code) (turn .loop .previous) (turn .loop .n) (turn .loop .at) (said .result .length) rest (said .ensures) (omega (arith, c .before .before .before .loop-test .taken)) in
     omega (arith, within .0, within .1)
 
 sub-read : tie.Need-sub-read Inv-loop μ-loop
@@ -55,7 +56,7 @@ sub-read c =
     let rest = start .args .rest .now in
     let turn = c .before .before .before .before .before .before in
     let said = c .before .before .before .first-line in
-    let within = turn-within (readOn empty none 1 (linesOf rest)) (turn .loop .book) (turn .loop .code) (turn .loop .previous) (turn .loop .n) (turn .loop .at) (said .result .length) rest (said .ensures) (omega (arith, c .before .before .before .before .before .loop-test .taken)) in
+    let within = turn-within (readOn Edition.first (empty Edition.first) none 1 (linesOf rest)) (turn .loop .book) (turn .loop .code) (turn .loop .previous) (turn .loop .n) (turn .loop .at) (said .result .length) rest (said .ensures) (omega (arith, c .before .before .before .before .before .loop-test .taken)) in
     omega (arith, within .0, within .1)
 
 part-read-start : tie.Need-part-read-start Inv-loop μ-loop
@@ -64,7 +65,7 @@ part-read-start c =
     let rest = start .args .rest .now in
     let turn = c .before .before .before .before .before .before in
     let said = c .before .before .before .first-line in
-    let within = turn-within (readOn empty none 1 (linesOf rest)) (turn .loop .book) (turn .loop .code) (turn .loop .previous) (turn .loop .n) (turn .loop .at) (said .result .length) rest (said .ensures) (omega (arith, c .before .before .before .before .before .loop-test .taken)) in
+    let within = turn-within (readOn Edition.first (empty Edition.first) none 1 (linesOf rest)) (turn .loop .book) (turn .loop .code) (turn .loop .previous) (turn .loop .n) (turn .loop .at) (said .result .length) rest (said .ensures) (omega (arith, c .before .before .before .before .before .loop-test .taken)) in
     omega (arith, within .0, within .1)
 
 part-read-end : tie.Need-part-read-end Inv-loop μ-loop
@@ -73,7 +74,7 @@ part-read-end c =
     let rest = start .args .rest .now in
     let turn = c .before .before .before .before .before .before in
     let said = c .before .before .before .first-line in
-    let within = turn-within (readOn empty none 1 (linesOf rest)) (turn .loop .book) (turn .loop .code) (turn .loop .previous) (turn .loop .n) (turn .loop .at) (said .result .length) rest (said .ensures) (omega (arith, c .before .before .before .before .before .loop-test .taken)) in
+    let within = turn-within (readOn Edition.first (empty Edition.first) none 1 (linesOf rest)) (turn .loop .book) (turn .loop .code) (turn .loop .previous) (turn .loop .n) (turn .loop .at) (said .result .length) rest (said .ensures) (omega (arith, c .before .before .before .before .before .loop-test .taken)) in
     omega (arith, within .0, within .1)
 
 read-requires : tie.Need-read-requires Inv-loop μ-loop
@@ -84,7 +85,7 @@ read-requires c κs =
     let said = c .before .before .before .before .first-line in (
       turn .loop .inv .0,
       turn .loop .inv .1,
-      turn-ended (readOn empty none 1 (linesOf rest)) (turn .loop .book) (turn .loop .code) (turn .loop .previous) (turn .loop .n) (turn .loop .at) (said .result .length) rest (said .ensures) (omega (arith, c .before .before .before .before .before .before .loop-test .taken)),
+      turn-ended (readOn Edition.first (empty Edition.first) none 1 (linesOf rest)) (turn .loop .book) (turn .loop .code) (turn .loop .previous) (turn .loop .n) (turn .loop .at) (said .result .length) rest (said .ensures) (omega (arith, c .before .before .before .before .before .before .loop-test .taken)),
     )
 
 add-n : tie.Need-add-n Inv-loop μ-loop
@@ -103,7 +104,7 @@ returns c empty-held =
     let turn = c .before .before .before .before .before .before .before .before .before .before .before .before .before .before in
     let said = c .before .before .before .before .before .before .before .before .before .before .before .first-line in
     let done = c .before .before .before .before .before .before .read in
-    turn-refused (readOn empty none 1 (linesOf rest)) (turn .loop .book) (turn .loop .code) (turn .loop .previous) (turn .loop .n) (turn .loop .at) (said .result .length) rest (said .ensures) (omega (arith, c .before .before .before .before .before .before .before .before .before .before .before .before .before .loop-test .taken))
+    turn-refused (readOn Edition.first (empty Edition.first) none 1 (linesOf rest)) (turn .loop .book) (turn .loop .code) (turn .loop .previous) (turn .loop .n) (turn .loop .at) (said .result .length) rest (said .ensures) (omega (arith, c .before .before .before .before .before .before .before .before .before .before .before .before .before .loop-test .taken))
     (turn .loop .inv .4 empty-held) (done .last .0) (done .last .1 .0) (done .result .number) (done .result .key) (turn .loop .n + 1) (done .ensures) refl (c .if1 .taken)
 
 loop-less : tie.Need-loop-less Inv-loop μ-loop
@@ -112,7 +113,7 @@ loop-less c =
     let rest = start .args .rest .now in
     let turn = c .before .before .before .before .before .before .before .before .before .before .before .before .before .before in
     let said = c .before .before .before .before .before .before .before .before .before .before .before .first-line in
-    let within = turn-within (readOn empty none 1 (linesOf rest)) (turn .loop .book) (turn .loop .code) (turn .loop .previous) (turn .loop .n) (turn .loop .at) (said .result .length) rest (said .ensures) (omega (arith, c .before .before .before .before .before .before .before .before .before .before .before .before .before .loop-test .taken)) in
+    let within = turn-within (readOn Edition.first (empty Edition.first) none 1 (linesOf rest)) (turn .loop .book) (turn .loop .code) (turn .loop .previous) (turn .loop .n) (turn .loop .at) (said .result .length) rest (said .ensures) (omega (arith, c .before .before .before .before .before .before .before .before .before .before .before .before .before .loop-test .taken)) in
     omega (arith, within .0, within .1)
 
 loop-again : tie.Need-loop-again Inv-loop μ-loop
@@ -121,14 +122,14 @@ loop-again c =
     let rest = start .args .rest .now in
     let turn = c .before .before .before .before .before .before .before .before .before .before .before .before .before .before in
     let said = c .before .before .before .before .before .before .before .before .before .before .before .first-line in
-    let within = turn-within (readOn empty none 1 (linesOf rest)) (turn .loop .book) (turn .loop .code) (turn .loop .previous) (turn .loop .n) (turn .loop .at) (said .result .length) rest (said .ensures) (omega (arith, c .before .before .before .before .before .before .before .before .before .before .before .before .before .loop-test .taken)) in
+    let within = turn-within (readOn Edition.first (empty Edition.first) none 1 (linesOf rest)) (turn .loop .book) (turn .loop .code) (turn .loop .previous) (turn .loop .n) (turn .loop .at) (said .result .length) rest (said .ensures) (omega (arith, c .before .before .before .before .before .before .before .before .before .before .before .before .before .loop-test .taken)) in
     let done = c .before .before .before .before .before .before .read in (
       omega (arith, done .kept, turn .loop .inv .0),
       omega (arith, done .kept, turn .loop .inv .1),
       within .1,
       omega (arith, within .0, turn .loop .inv .3),
       λ empty-held.
-          turn-next (readOn empty none 1 (linesOf rest)) (turn .loop .book) (turn .loop .code) (turn .loop .previous) (turn .loop .n) (turn .loop .at) (said .result .length) rest (said .ensures) (omega (arith, c .before .before .before .before .before .before .before .before .before .before .before .before .before .loop-test .taken))
+          turn-next (readOn Edition.first (empty Edition.first) none 1 (linesOf rest)) (turn .loop .book) (turn .loop .code) (turn .loop .previous) (turn .loop .n) (turn .loop .at) (said .result .length) rest (said .ensures) (omega (arith, c .before .before .before .before .before .before .before .before .before .before .before .before .before .loop-test .taken))
           (turn .loop .inv .4 empty-held) (done .last .0) (done .last .1 .0) (done .result .number) (done .result .key) (turn .loop .n + 1) (done .ensures) refl (c .if1 .left),
     )
 

@@ -4,10 +4,10 @@ use lib.ListN.{length}
 use native.Mathlib.Omega.{arith}
 use Rattle.model.specs.Declarations.{holderNumbersOf}
 use Rattle.model.specs.Refusals.{tieCloses}
-use Rattle.model.proofs.Standing.{holder-fits}
 use Rattle.ties.specs.TieArrays.{ClosesCircle}
 use Rattle.book.specs.Sections as section
 use Rattle.book.specs.Sections.{sectionWords}
+use Rattle.book.proofs.HeldNumbers.{holder-in-book}
 use Rattle.book.proofs.TieSections.{part-size}
 use Rattle.book.proofs.TieEditing.{parent-tie, no-circle}
 use borrow.Author.Needs.{needs}
@@ -47,7 +47,7 @@ returns-2 c S code standing held =
     let t = start .args .t in
     let size = part-size section.ups (start .args .book .now) (start .pre) (omega arith) in
     c .closes-circle .ensures (S .declared) (S .ties) (sectionWords section.own (start .args .book .now)) standing (held .ties)
-    (λ k h. omega (arith, size, holder-fits standing k h))
+    (λ k h. omega (arith, size, holder-in-book standing held k h))
     ∙ ap (tieCloses (holderNumbersOf (S .declared)) (S .ties)) (sym (parent-tie (t .kind) (t .lower) (t .upper) (c .before .before .before .if1 .left)))
 
 pub closes-spec : {M : Type 1} → statement M

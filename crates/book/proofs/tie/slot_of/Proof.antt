@@ -4,18 +4,19 @@ use mathlib.Core.Path.{_≡_, sym, subst, _∙_}
 use mathlib.Core.Bool.{true}
 use lib.ListN.{getD}
 use native.Mathlib.Omega.{arith}
-use Rattle.model.specs.Limits.{groupLimit, holderNumbers}
+use Rattle.model.specs.Limits.{groupLimit}
 use Rattle.ties.specs.TieArrays.{inUse}
 use Rattle.book.specs.Sections as section
-use Rattle.book.specs.Sections.{sectionWords}
-use Rattle.book.proofs.TieFitting.{sorted-few, seat-slot}
+use Rattle.book.specs.Sections.{sectionWords, bookHolders}
+use Rattle.book.proofs.TieFitting.{seat-slot}
+use Rattle.book.proofs.HeldNumbers.{sorted-in-book}
 use Rattle.book.proofs.TieEditing.{word-at}
 use borrow.Author.Needs.{needs}
 use Rattle.book.proofs.tie.slot_of.Statement.{statement}
 use Rattle.book.proofs.tie.slot_of.Tie as tie
 
 returns : tie.Need-returns
-returns c S code standing held s e i = absurd (omega (arith, c .if1 .taken, sorted-few standing (c .before .before .args .g) e))
+returns c S code standing held s e i = absurd (omega (arith, c .if1 .taken, sorted-in-book standing held (c .before .before .args .g) e))
 
 add-slot : tie.Need-add-slot
 add-slot c = search needs
@@ -35,8 +36,8 @@ returns-2 c S code standing held s e i =
     let book = start .args .book .now in
     let q = seat-slot standing held (start .args .g) s e i in
     let same : q .0 ≡ c .slot .result =
-    sym (c .slot .ensures (q .0) (sym (word-at section.seats book (start .args .g) (sorted-few standing (start .args .g) e)) ∙ q .1) (q .2)) in
-    subst (λ (r : ℕ). (r < groupLimit) × (inUse holderNumbers (sectionWords section.slots book) r ≡ true) × (getD (sectionWords section.slots book) r 0 ≡ start .args .g)) same
+    sym (c .slot .ensures (q .0) (sym (word-at section.seats book (start .args .g) (sorted-in-book standing held (start .args .g) e)) ∙ q .1) (q .2)) in
+    subst (λ (r : ℕ). (r < groupLimit) × (inUse bookHolders (sectionWords section.slots book) r ≡ true) × (getD (sectionWords section.slots book) r 0 ≡ start .args .g)) same
     (q .2, q .3, q .4)
 
 pub slot-of-spec : {M : Type 1} → statement M

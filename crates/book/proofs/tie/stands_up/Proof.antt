@@ -9,7 +9,7 @@ use Rattle.book.proofs.tie.stands_up.Tie as tie
 returns : tie.Need-returns
 returns c t leads S code standing held f =
     let start = c .before .before in
-    absurd (omega (arith, c .if1 .taken, up-fits standing t (start .args .h) (start .args .g) leads f .few))
+    absurd (omega (arith, c .if1 .taken, up-fits standing held t (start .args .h) (start .args .g) leads f .few))
 
 slot-of-requires : tie.Need-slot-of-requires
 slot-of-requires c κs = search needs

@@ -9,12 +9,12 @@ use Rattle.book.proofs.tie.stands_value.Tie as tie
 returns : tie.Need-returns
 returns c S code standing held f =
     let start = c .before .before in
-    absurd (omega (arith, c .if1 .taken, value-fits standing (start .args .h) (start .args .p) f .0))
+    absurd (omega (arith, c .if1 .taken, value-fits standing held (start .args .h) (start .args .p) f .0))
 
 returns-2 : tie.Need-returns-2
 returns-2 c S code standing held f =
     let start = c .before .before .before in
-    absurd (omega (arith, c .if2 .taken, value-fits standing (start .args .h) (start .args .p) f .1))
+    absurd (omega (arith, c .if2 .taken, value-fits standing held (start .args .h) (start .args .p) f .1))
 
 sub-contains : tie.Need-sub-contains
 sub-contains c = search needs
