@@ -1,4 +1,4 @@
--- Laws about the sections of a book, about what is found in them, about what they hold when a line declares more, about its ties, and about lines and files.
+-- Laws about the sections of a book, about what is found in them, and about what they hold when a line declares more.
 pub mod Sections
 pub mod HeldNumbers
 pub mod Finding
@@ -12,13 +12,3 @@ pub mod PairSteps
 pub mod Holders
 pub mod HolderSteps
 pub mod Cleared
-pub mod TieSections
-pub mod TieFitting
-pub mod TieEditing
-pub mod TieSorts
-pub mod TieNaming
-pub mod TieLines
-pub mod RuleLines
-pub mod LineReading
-pub mod FileLines
-pub mod Files

@@ -3,9 +3,10 @@ use Prim.Native.Nat.{ℕ, zero, suc, _+_, _-_, _≤_}
 use mathlib.Core.Path.{_≡_, refl, sym, ap, _∙_}
 use mathlib.Core.List.{List, [], _∷_, _++_}
 use native.Mathlib.Omega.{arith}
-use lib.ListN.{length, take, drop}
+use lib.ListN.{length, take, drop, length-drop}
 use lib.Seq.{take-at, drop-at, drop-drop, take-take, length-take-le}
 use borrow.Rule.Slice.PartMut.{putMid, take-put, drop-put}
+use Rattle.book.specs.Sections.{Section, sectionWords, bookWords}
 
 module _ {X : Type 0} where
   -- what stands at the front does not depend on what stands behind it
@@ -34,3 +35,7 @@ module _ {X : Type 0} where
         ap (λ (m : ℕ). drop (a + k) (putMid a m xs ys)) (sym c) ∙ drop-put a (a + k) xs ys (omega arith) fits (e ∙ sym c) in
         let split : (z : List X) → drop b z ≡ drop (b - (a + k)) (drop (a + k) z) = λ z. ap (λ (m : ℕ). drop m z) (sym d) ∙ sym (drop-drop (b - (a + k)) (a + k) z) in
         ap (take n) (split (putMid a k xs ys) ∙ ap (drop (b - (a + k))) same ∙ sym (split xs))
+
+-- how many words a section has
+pub part-size : (s : Section) (book : List ℕ) → length book ≡ bookWords → s .start + s .size ≤ bookWords → length (sectionWords s book) ≡ s .size
+part-size s book long fits = length-take-le (s .size) (drop (s .start) book) (simp length-drop (omega arith))

@@ -3,5 +3,4 @@ pub mod Held
 pub mod Finding
 pub mod Steps
 pub mod Declaring
-pub mod TieSteps
-pub mod LineSteps
+pub mod Calls

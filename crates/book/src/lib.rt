@@ -1,10 +1,9 @@
 // The book: the words that hold a state's declarations and ties. Its sections lie one after another; specs/Sections.antt says what they are.
 pub mod declare;
-pub mod file;
 pub mod find;
-pub mod line;
-pub mod rule;
-pub mod tie;
+
+// How many words a table has.
+pub const TABLE_WORDS: usize = 1024;
 
 // How many words a book has, how many bytes the code of all rules has, and that of one.
 pub const BOOK_WORDS: usize = 5240;

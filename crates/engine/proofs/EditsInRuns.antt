@@ -10,11 +10,11 @@ use Rattle.model.specs.State.{State}
 use Rattle.model.specs.Ledger as ledger
 use Rattle.model.specs.Ledger.{Call, outcome}
 use Rattle.model.proofs.Changes.{setChanged}
-use Rattle.engine.specs.Calls.{Gives, Together}
-use Rattle.engine.specs.EditSteps.{SetsElsewhere}
+use Rattle.book.specs.Calls.{Gives, Together}
+use Rattle.edit.specs.EditSteps.{SetsElsewhere}
 use Rattle.engine.specs.Runs.{Memory, Does, Leads}
 use Rattle.engine.proofs.Runs.{does-gives, leads-together}
-use Rattle.engine.proofs.EditedSets.{sets-elsewhere, refused-sets, sets-counted}
+use Rattle.edit.proofs.EditedSets.{sets-elsewhere, refused-sets, sets-counted}
 
 -- an edit, after a list of calls that begins with a load and leads to the ledger's state S
 module _ {first : Memory} {calls : List Call} {S : State} {before after : Memory} {line : Bytes} {number changed : ℕ}

@@ -23,9 +23,9 @@ use Rattle.model.proofs.Ledger.{load-standing}
 use Rattle.book.specs.Sections as section
 use Rattle.book.specs.Sections.{bookWords}
 use Rattle.book.specs.Held.{Holds}
-use Rattle.book.specs.LineSteps.{LoadedAs}
-use Rattle.book.proofs.TieSections.{part-size}
-use Rattle.engine.specs.Calls.{Gives, Loads}
+use Rattle.file.specs.LineSteps.{LoadedAs}
+use Rattle.book.proofs.Sections.{part-size}
+use Rattle.book.specs.Calls.{Gives, Loads}
 use Rattle.engine.specs.LoadSteps.{TableFilled, Cleared}
 
 module _ (file : Bytes) (words : List ℕ) where

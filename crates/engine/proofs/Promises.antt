@@ -11,10 +11,10 @@ use Rattle.model.specs.Bytes.{Bytes}
 use Rattle.model.specs.Table.{table}
 use Rattle.model.specs.Refusals.{wrongTable}
 use Rattle.model.specs.Ledger.{Call, step, withTable, withoutTable, tableAfter}
-use Rattle.engine.specs.declared.Decision.{Decision}
-use Rattle.engine.specs.Decisions.{decisionOf, Decides}
-use Rattle.engine.specs.Calls.{Loads}
-use Rattle.engine.specs.EditSteps.{EditCall}
+use Rattle.request.specs.declared.Decision.{Decision}
+use Rattle.request.specs.Decisions.{decisionOf, Decides}
+use Rattle.book.specs.Calls.{Loads}
+use Rattle.edit.specs.EditSteps.{EditCall}
 use Rattle.engine.specs.Runs.{Memory, Does, loads, edits, decides, AnswersRequest}
 use Rattle.model.specs.Ledger.{loaded, edited, decided}
 

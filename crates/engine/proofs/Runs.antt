@@ -17,7 +17,7 @@ use Rattle.model.specs.Standing.{Standing}
 use Rattle.model.proofs.Standing.{empty-standing}
 use Rattle.model.proofs.Ledger.{step-standing, request-keeps}
 use Rattle.book.specs.Held.{Holds}
-use Rattle.engine.specs.Calls.{Gives, Together}
+use Rattle.book.specs.Calls.{Gives, Together}
 use Rattle.engine.specs.Runs.{Memory, Does, loads, edits, decides, CallSeen, AfterCall, compared, seen, posted, Run, end, next, endState, endWords, Leads, from-load, from-there}
 
 -- a load reads no state

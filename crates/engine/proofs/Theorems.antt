@@ -29,7 +29,7 @@ use Rattle.model.proofs.Loads.{AcceptedFile, RefusedFile}
 use Rattle.model.proofs.Loads
 use Rattle.model.proofs.Reached.{Reached}
 use Rattle.model.proofs.Reached
-use Rattle.engine.specs.EditSteps.{SetsElsewhere}
+use Rattle.edit.specs.EditSteps.{SetsElsewhere}
 use Rattle.engine.specs.Runs.{Memory, Does, CallSeen, seen, posted, Run, Leads}
 use Rattle.engine.proofs.Runs
 use Rattle.engine.proofs.EditsInRuns

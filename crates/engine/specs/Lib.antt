@@ -1,6 +1,2 @@
-pub mod Requests
-pub mod Decisions
-pub mod Calls
-pub mod EditSteps
 pub mod LoadSteps
 pub mod Runs

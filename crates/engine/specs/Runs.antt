@@ -8,7 +8,7 @@ use Rattle.model.specs.Bytes.{Bytes}
 use Rattle.model.specs.State.{State, empty}
 use Rattle.model.specs.Decision.{Decision}
 use Rattle.model.specs.Ledger.{Call, load, edit, request, Answer, loaded, edited, decided, Outcome, outcome}
-use Rattle.engine.specs.Calls.{Together, Loads, Edits}
+use Rattle.book.specs.Calls.{Together, Loads, Edits}
 
 -- what is lent to a call: the book's words, its rules' bytes, and the table
 pub record Memory : Type 0 where

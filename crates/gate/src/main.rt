@@ -5,7 +5,7 @@ ghost use Prim.Native.Nat.{_+_, _*_, _≤_};
 ghost use lib.ListN.{length, take};
 ghost use Rattle.io.specs.Counts.{Counts};
 ghost use Rattle.model.specs.Gate.{gate};
-ghost use Rattle.office.specs.Printing.{answerBytes};
+ghost use Rattle.printing.specs.Printing.{answerBytes};
 use libc::STDIN_FILENO;
 use libc::STDOUT_FILENO;
 

@@ -23,9 +23,9 @@ use Rattle.model.specs.Host.{hostCall, hostTable}
 use Rattle.model.proofs.Table.{table-length}
 use Rattle.model.proofs.Editions.{load-edition}
 use Rattle.model.proofs.Outcomes.{outcomeBy, outcome-by}
-use Rattle.engine.specs.Decisions.{decisionOf, numberAndValuesOf}
-use Rattle.engine.specs.Calls.{Loads}
-use Rattle.engine.specs.EditSteps.{EditCall}
+use Rattle.request.specs.Decisions.{decisionOf, numberAndValuesOf}
+use Rattle.book.specs.Calls.{Loads}
+use Rattle.edit.specs.EditSteps.{EditCall}
 use Rattle.engine.specs.Runs.{Memory, Does, endWords}
 use Rattle.engine.proofs.Promises.{file-loaded, line-edited, request-decided}
 use Rattle.host.specs.AnswerNumbers.{high, carriedValue, RequestNumber}

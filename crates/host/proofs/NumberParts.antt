@@ -4,8 +4,8 @@ use mathlib.Core.Path.{sym, subst}
 use mathlib.Core.List.{List}
 use Rattle.model.specs.Bytes.{Bytes}
 use Rattle.model.specs.Ledger.{Outcome, loaded}
-use Rattle.engine.specs.Calls.{Gives}
-use Rattle.engine.specs.EditSteps.{EditCall}
+use Rattle.book.specs.Calls.{Gives}
+use Rattle.edit.specs.EditSteps.{EditCall}
 use Rattle.writer.specs.WriteCalls.{WriteCall}
 use Rattle.host.specs.AnswerNumbers.{high, Packs}
 

@@ -23,9 +23,9 @@ use Rattle.model.specs.Host.{hostCall, hostTable}
 use Rattle.model.proofs.Editions.{load-edition}
 use Rattle.model.proofs.Outcomes.{outcomeBy, outcome-by}
 use Rattle.model.proofs.Ledger.{load-standing}
-use Rattle.engine.specs.declared.Decision.{Decision}
-use Rattle.engine.specs.Decisions.{numberAndValuesOf, Decides}
-use Rattle.engine.specs.Calls.{Gives, Loads}
+use Rattle.request.specs.declared.Decision.{Decision}
+use Rattle.request.specs.Decisions.{numberAndValuesOf, Decides}
+use Rattle.book.specs.Calls.{Gives, Loads}
 
 module _ (file block : Bytes) (words words′ book : List ℕ) (code : Bytes) (number line : ℕ) (given : Loads file words number line words′ book code) where
   -- whether the table is wrong for the file, and what the load gives then

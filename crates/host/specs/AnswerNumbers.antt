@@ -3,8 +3,8 @@ use Prim.Native.Nat.{ℕ, _/_, _%_}
 use mathlib.Core.Path.{_≡_}
 use mathlib.Core.List.{List, [], _∷_}
 use Rattle.model.specs.Bytes.{Bytes}
-use Rattle.engine.specs.declared.Decision.{Decision}
-use Rattle.engine.specs.Decisions.{numberAndValuesOf, Decides}
+use Rattle.request.specs.declared.Decision.{Decision}
+use Rattle.request.specs.Decisions.{numberAndValuesOf, Decides}
 
 -- where the high bits begin: 2 to the power of 32
 abbrev pub high : ℕ

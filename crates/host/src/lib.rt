@@ -3,9 +3,9 @@ ghost use mathlib.Core.Path.{_≡_};
 ghost use Prim.Native.Nat.{_/_, _%_, _≤_};
 ghost use lib.ListN.{length};
 ghost use Rattle.model.specs.Host.{hostCall, hostTable};
-ghost use Rattle.engine.specs.Decisions.{numberAndValuesOf};
-ghost use Rattle.engine.specs.Calls.{Loads};
-ghost use Rattle.engine.specs.EditSteps.{EditCall};
+ghost use Rattle.request.specs.Decisions.{numberAndValuesOf};
+ghost use Rattle.book.specs.Calls.{Loads};
+ghost use Rattle.edit.specs.EditSteps.{EditCall};
 ghost use Rattle.writer.specs.WriteCalls.{WriteCall, LengthCall};
 ghost use Rattle.host.specs.AnswerNumbers.{high, carriedValue, Packs, RequestNumber};
 use book::BOOK_WORDS;
@@ -13,7 +13,7 @@ use book::RULE_BYTES;
 use codes::DENY;
 use codes::PERMIT;
 use codes::UNDEFINED;
-use engine::Decision;
+use request::Decision;
 
 // "0 permit, 64 deny, 65 undefined, else the refusal."
 fn number_of(d: Decision) -> u32
@@ -54,11 +54,11 @@ pub extern "C" fn zhul_pass(file: &[u8], block: &[u8], table: &mut [u64]) -> u32
 {
     let mut book = [0u64; BOOK_WORDS];
     let mut rules = [0u8; RULE_BYTES];
-    let loaded = engine::load::load(file, &mut book, &mut rules, table);
+    let loaded = engine::load(file, &mut book, &mut rules, table);
     if loaded.number != 0 {
         return loaded.number as u32;
     }
-    number_of(engine::decide(block, &book, &rules, table))
+    number_of(request::decide(block, &book, &rules, table))
 }
 
 // Loads a file into the host's own book: the number, and the line in the high bits.
@@ -71,7 +71,7 @@ pub extern "C" fn zhul_load(
 ) -> u64
     ensures { λ r. ⌜ Loads (now (file .entry)) (now (table .entry)) (r % high) (r / high) (now (table .exit)) (now (book .exit)) (now (rules .exit)) ⌝ }
 {
-    let loaded = engine::load::load(file, book, rules, table);
+    let loaded = engine::load(file, book, rules, table);
     pack(loaded.number as u32, loaded.line)
 }
 
@@ -80,7 +80,7 @@ pub extern "C" fn zhul_load(
 pub extern "C" fn zhul_edit(line: &[u8], book: &mut [u64; BOOK_WORDS], table: &mut [u64]) -> u64
     ensures { λ r. ⌜ EditCall (now (line .entry)) (now (book .entry)) (now (table .entry)) (r % high) (r / high) (now (table .exit)) (now (book .exit)) ⌝ }
 {
-    let edited = engine::edit::edit(line, book, table);
+    let edited = edit::edit(line, book, table);
     pack(edited.number as u32, edited.count)
 }
 
@@ -94,7 +94,7 @@ pub extern "C" fn zhul_decide(
 ) -> u64
     ensures { λ r. ⌜ RequestNumber (now (block .entry)) (now (book .entry)) (now (rules .entry)) (now (table .entry)) r ⌝ }
 {
-    let d = engine::decide(block, book, rules, table);
+    let d = request::decide(block, book, rules, table);
     pack(number_of(d), rule_of(d))
 }
 

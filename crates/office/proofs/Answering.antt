@@ -9,14 +9,14 @@ use Rattle.model.specs.State.{State}
 use Rattle.model.specs.Ledger.{Call, Answer, edited, decided, step, outcome}
 use Rattle.model.specs.Gate.{callOf, printed, output}
 use Rattle.model.specs.Standing.{Standing}
-use Rattle.engine.specs.Calls.{Gives}
-use Rattle.engine.specs.Decisions.{decisionOf}
+use Rattle.book.specs.Calls.{Gives}
+use Rattle.request.specs.Decisions.{decisionOf}
 use Rattle.engine.specs.Runs.{Memory, Does}
 use Rattle.engine.proofs.Runs.{does-gives, together-after}
 use Rattle.engine.proofs.Promises.{line-edited, request-decided}
 use Rattle.office.specs.Command.{CommandTold}
 use Rattle.office.specs.declared.command.Command.{Command}
-use Rattle.office.specs.Printing.{PrintedAt}
+use Rattle.printing.specs.Printing.{PrintedAt}
 use Rattle.office.specs.Answers.{memory, lentWords, MemoryOf, Prints, EditAnswered, RequestAnswered, CommandAnswered}
 
 -- an outcome given: its answer is printed

@@ -14,7 +14,7 @@ use Rattle.model.specs.Gate.{callOf, output}
 use Rattle.engine.specs.Runs.{Memory}
 use Rattle.output.specs.Laid.{far}
 use Rattle.output.proofs.Laying.{laid-none, laid-on, laid-length}
-use Rattle.office.specs.Printing.{answerBytes}
+use Rattle.printing.specs.Printing.{answerBytes}
 use Rattle.office.specs.declared.answer.Reached.{Reached}
 use Rattle.office.specs.Answers.{lentWords, FirstAnswered, AnsweredTo}
 

@@ -1,7 +1,6 @@
 -- Laws about the lines of an input, about commands, and about answers printed one behind the other.
 pub mod InputLines
 pub mod Commands
-pub mod PrintedLines
 pub mod Answering
 pub mod Answers
 pub mod Whole

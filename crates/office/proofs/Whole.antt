@@ -17,13 +17,13 @@ use Rattle.model.specs.Ledger.{Call, loaded}
 use Rattle.model.specs.Gate.{fileOf, commandsOf, callOf, printed, output, gate}
 use Rattle.model.proofs.Standing.{empty-standing}
 use Rattle.model.proofs.Gate.{gate-too-long}
-use Rattle.engine.specs.Calls.{Loads}
+use Rattle.book.specs.Calls.{Loads}
 use Rattle.engine.specs.Runs.{Memory}
 use Rattle.office.specs.declared.input.Places.{Places}
 use Rattle.office.specs.Input.{Split}
 use Rattle.output.specs.Laid.{Laid}
 use Rattle.output.proofs.Laying.{laid-as, laid-on}
-use Rattle.office.specs.Printing.{answerBytes, PrintedAt}
+use Rattle.printing.specs.Printing.{answerBytes, PrintedAt}
 use Rattle.office.specs.Answers.{lentWords, AnsweredTo}
 use Rattle.office.proofs.Answering.{outcome-prints}
 

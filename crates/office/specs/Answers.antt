@@ -11,14 +11,14 @@ use Rattle.model.specs.State.{State}
 use Rattle.model.specs.Ledger.{Call, edited, decided}
 use Rattle.model.specs.Gate.{callOf, printed, output}
 use Rattle.output.specs.Laid.{Laid}
-use Rattle.engine.specs.Calls.{Together}
-use Rattle.engine.specs.EditSteps.{EditCall}
-use Rattle.engine.specs.declared.Decision.{Decision}
-use Rattle.engine.specs.Decisions.{decisionOf, Decides}
+use Rattle.book.specs.Calls.{Together}
+use Rattle.edit.specs.EditSteps.{EditCall}
+use Rattle.request.specs.declared.Decision.{Decision}
+use Rattle.request.specs.Decisions.{decisionOf, Decides}
 use Rattle.engine.specs.Runs.{Memory}
 use Rattle.office.specs.declared.answer.Reached.{Reached}
 use Rattle.office.specs.Input.{LineLength}
-use Rattle.office.specs.Printing.{answerBytes, PrintedAt}
+use Rattle.printing.specs.Printing.{answerBytes, PrintedAt}
 
 abbrev pub memory : List ℕ → Bytes → List ℕ → Memory
 memory book code words = record { book = book; code = code; words = words }

@@ -1,4 +1,3 @@
 pub mod Input
 pub mod Command
-pub mod Printing
 pub mod Answers

@@ -3,12 +3,12 @@ ghost use Prim.Native.Nat.{_+_, _*_, _≤_};
 ghost use lib.ListN.{length};
 ghost use Rattle.model.specs.Limits.{inputBytes};
 ghost use Rattle.output.specs.Laid.{far};
-ghost use Rattle.office.specs.Printing.{answerBytes};
+ghost use Rattle.printing.specs.Printing.{answerBytes};
 ghost use Rattle.office.specs.Answers.{memory, EditAnswered, RequestAnswered, FirstAnswered, AnsweredTo};
 use crate::command::Command;
 use book::BOOK_WORDS;
 use book::RULE_BYTES;
-use engine::TABLE_WORDS;
+use book::TABLE_WORDS;
 
 // The bytes of the longest block that an input has room for.
 const BLOCK_BYTES: usize = 32768;
@@ -29,8 +29,8 @@ pub fn answer_edit(
     requires { ⌜ at + answerBytes ≤ far ⌝ }
     ensures { λ r. ⌜ EditAnswered (now (line .entry)) (now (book .entry)) (now (table .entry)) (now (book .exit)) (now (table .exit)) (now (out .entry)) at (now (out .exit)) r ⌝ }
 {
-    let edited = engine::edit::edit(line, book, table);
-    crate::printing::put_pair(out, at, b"edit=", edited.number as u32, edited.count)
+    let edited = edit::edit(line, book, table);
+    printing::put_pair(out, at, b"edit=", edited.number as u32, edited.count)
 }
 
 pub fn answer_request(
@@ -44,8 +44,8 @@ pub fn answer_request(
     requires { ⌜ at + answerBytes ≤ far ⌝ }
     ensures { λ r. ⌜ RequestAnswered (now (block .entry)) (memory (now (book .entry)) (now (rules .entry)) (now (table .entry))) (now (out .entry)) at (now (out .exit)) r ⌝ }
 {
-    let decision = engine::decide(block, book, rules, table);
-    crate::printing::put_decision(out, at, decision)
+    let decision = request::decide(block, book, rules, table);
+    printing::put_decision(out, at, decision)
 }
 
 // Answers the first of some commands. The buffer is room for its block.

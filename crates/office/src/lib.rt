@@ -3,16 +3,15 @@ ghost use Prim.Native.Nat.{_+_, _*_, _≤_};
 ghost use lib.ListN.{length};
 ghost use Rattle.model.specs.Gate.{gate};
 ghost use Rattle.output.specs.Laid.{Laid};
-ghost use Rattle.office.specs.Printing.{answerBytes};
+ghost use Rattle.printing.specs.Printing.{answerBytes};
 use book::BOOK_WORDS;
 use book::RULE_BYTES;
+use book::TABLE_WORDS;
 use codes::TOO_LONG;
-use engine::TABLE_WORDS;
 
 pub mod answer;
 pub mod command;
 pub mod input;
-pub mod printing;
 
 // "Over 65,536 bytes: `load=2,0` alone."
 pub const INPUT_BYTES: usize = 65536;
@@ -30,7 +29,7 @@ pub fn run(input: &[u8], out: &mut [u8]) -> usize
     let mut book: [u64; BOOK_WORDS] = [0; BOOK_WORDS];
     let mut rules: [u8; RULE_BYTES] = [0; RULE_BYTES];
     let mut table: [u64; TABLE_WORDS] = [0; TABLE_WORDS];
-    let loaded = engine::load::load(&input[..file], &mut book, &mut rules, &mut table);
+    let loaded = engine::load(&input[..file], &mut book, &mut rules, &mut table);
     let at = printing::put_pair(out, 0, b"load=", loaded.number as u32, loaded.line);
     answer::answer_commands(&input[commands..], &mut book, &rules, &mut table, out, at)
 }

@@ -26,7 +26,7 @@ use Rattle.book.specs.Sections as section
 use Rattle.book.specs.Sections.{sectionWords}
 use Rattle.book.specs.Held.{Holds}
 use Rattle.book.proofs.HeldNumbers.{sorted-in-book}
-use Rattle.book.proofs.TieSections.{part-size}
+use Rattle.book.proofs.Sections.{part-size}
 use Rattle.output.specs.Laid.{wordText}
 use Rattle.writer.specs.Texts.{listedText, nameText, rowOfPair, pairAtomText, lineEnd, inMask, hasUp, upLineText, upText, keyOfUps, holderUpsText, ownOf, valueLineText, valueText, valuesText, tiesText}
 use Rattle.writer.proofs.LaidTexts.{each-none, each-same}

@@ -21,7 +21,7 @@ use Rattle.model.proofs.Lengths.{Moves, edit-moves}
 use Rattle.model.proofs.Writer
 use Rattle.model.proofs.Writer.{writtenBytes, TooLong, Fits}
 use Rattle.book.specs.Held.{Holds}
-use Rattle.engine.specs.Calls.{Gives}
+use Rattle.book.specs.Calls.{Gives}
 use Rattle.engine.specs.Runs.{Memory, Does, Leads, endState}
 use Rattle.model.proofs.Outcomes.{edit-by-table}
 use Rattle.engine.proofs.Runs.{does-gives, leads-together, leads-where-the-ledger-ends}

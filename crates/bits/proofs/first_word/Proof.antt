@@ -20,18 +20,6 @@ abbrev μ-loop : tie.MeasureT-loop
 loop-holds : tie.Need-loop-holds Inv-loop μ-loop
 loop-holds c = (omega arith, λ j a b. absurd (omega arith))
 
-mul-word : tie.Need-mul-word Inv-loop μ-loop
-mul-word c = search needs
-
-shared-slice-read-word : tie.Need-shared-slice-read-word Inv-loop μ-loop
-shared-slice-read-word c = search needs
-
-mul-result : tie.Need-mul-result Inv-loop μ-loop
-mul-result c = search needs
-
-lowest-requires : tie.Need-lowest-requires Inv-loop μ-loop
-lowest-requires c κs = search needs
-
 add-result : tie.Need-add-result Inv-loop μ-loop
 add-result c = omega (arith, c .lowest .ensures .held (c .before .if1 .taken))
 
@@ -43,12 +31,6 @@ returns c =
     first-found (start .args .set .now) (64 * start .args .k) (head .loop .at) (head .loop .inv .1) (c .lowest .result) (c .before .before .before .loop-test .taken)
     (held .0) (held .1) (omega (arith, head .loop .inv .0)) (λ j l a. c .lowest .ensures .lower j l)
 
-add-at : tie.Need-add-at Inv-loop μ-loop
-add-at c = search needs
-
-loop-less : tie.Need-loop-less Inv-loop μ-loop
-loop-less c = search needs
-
 loop-again : tie.Need-loop-again Inv-loop μ-loop
 loop-again c =
     let head = c .before .before .before in
@@ -56,9 +38,6 @@ loop-again c =
       omega arith,
       passed-word (start .args .set .now) (64 * start .args .k) (head .loop .at) (head .loop .inv .1) (λ j l a. ap (λ (w : ℕ). bit w j) (c .if1 .left) ∙ bit-none j),
     )
-
-mul-result-2 : tie.Need-mul-result-2 Inv-loop μ-loop
-mul-result-2 c = search needs
 
 returns-2 : tie.Need-returns-2 Inv-loop μ-loop
 returns-2 c =
@@ -70,17 +49,5 @@ pub first-word-spec : {M : Type 1} → statement M
 first-word-spec =
     tie.close
     (tie.spec
-    Inv-loop
-    μ-loop
-    loop-holds
-    mul-word
-    shared-slice-read-word
-    mul-result
-    lowest-requires
-    add-result
-    returns
-    add-at
-    loop-less
-    loop-again
-    mul-result-2
-    returns-2)
+    Inv-loop μ-loop loop-holds (λ c. search needs) (λ c. search needs) (λ c. search needs) (λ c κs. search needs) add-result returns (λ c. search needs)
+    (λ c. search needs) loop-again (λ c. search needs) returns-2)

@@ -4,14 +4,8 @@ use borrow.Author.Needs.{needs}
 use Rattle.bits.proofs.from.Statement.{statement}
 use Rattle.bits.proofs.from.Tie as tie
 
-shr-result : tie.Need-shr-result
-shr-result c = search needs
-
-shl-result : tie.Need-shl-result
-shl-result c = search needs
-
 returns : tie.Need-returns
 returns c j = bit-from (c .args .w) (c .args .i) j (c .fits .w .fits) (c .pre)
 
 pub from-spec : {M : Type 1} → statement M
-from-spec = tie.close (tie.spec shr-result shl-result returns)
+from-spec = tie.close (tie.spec (λ c. search needs) (λ c. search needs) returns)

@@ -4,24 +4,6 @@ use borrow.Author.Needs.{needs}
 use Rattle.bits.proofs.insert.Statement.{statement}
 use Rattle.bits.proofs.insert.Tie as tie
 
-mul-word : tie.Need-mul-word
-mul-word c = search needs
-
-slice-read-word : tie.Need-slice-read-word
-slice-read-word c = search needs
-
-with-requires : tie.Need-with-requires
-with-requires c κs = search needs
-
-mul-set : tie.Need-mul-set
-mul-set c = search needs
-
-slice-write-set : tie.Need-slice-write-set
-slice-write-set c = search needs
-
-same-length : tie.Need-same-length
-same-length c = search needs
-
 returns : tie.Need-returns
 returns c q =
     let start = c .before .before .before in
@@ -30,4 +12,4 @@ returns c q =
 pub insert-spec : {M : Type 1} → statement M
 insert-spec =
     tie.close
-    (tie.spec mul-word slice-read-word with-requires mul-set slice-write-set same-length returns)
+    (tie.spec (λ c. search needs) (λ c. search needs) (λ c κs. search needs) (λ c. search needs) (λ c. search needs) (λ c. search needs) returns)

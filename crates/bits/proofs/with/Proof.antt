@@ -4,11 +4,8 @@ use borrow.Author.Needs.{needs}
 use Rattle.bits.proofs.with.Statement.{statement}
 use Rattle.bits.proofs.with.Tie as tie
 
-shl-result : tie.Need-shl-result
-shl-result c = search needs
-
 returns : tie.Need-returns
 returns c j = bit-with (c .args .w) (c .args .i) j (c .pre)
 
 pub with-spec : {M : Type 1} → statement M
-with-spec = tie.close (tie.spec shl-result returns)
+with-spec = tie.close (tie.spec (λ c. search needs) returns)

@@ -4,11 +4,8 @@ use borrow.Author.Needs.{needs}
 use Rattle.bits.proofs.without.Statement.{statement}
 use Rattle.bits.proofs.without.Tie as tie
 
-shl-result : tie.Need-shl-result
-shl-result c = search needs
-
 returns : tie.Need-returns
 returns c j = bit-without (c .args .w) (c .args .i) j (c .fits .w .fits) (c .pre)
 
 pub without-spec : {M : Type 1} → statement M
-without-spec = tie.close (tie.spec shl-result returns)
+without-spec = tie.close (tie.spec (λ c. search needs) returns)

@@ -8,9 +8,6 @@ use borrow.Author.Needs.{needs}
 use Rattle.fields.proofs.frame_at.Statement.{statement}
 use Rattle.fields.proofs.frame_at.Tie as tie
 
-no-frame-requires : tie.Need-no-frame-requires
-no-frame-requires c κs = search needs
-
 returns : tie.Need-returns
 returns c =
     let start = c .before .before .before in
@@ -18,21 +15,12 @@ returns c =
     let e = start .args .end in
     let first = start .pre in unframed line (c .no-frame .ensures) (no-end line e first (c .before .if1 .taken))
 
-add-next : tie.Need-add-next
-add-next c = search needs
-
-no-frame-requires-2 : tie.Need-no-frame-requires-2
-no-frame-requires-2 c κs = search needs
-
 returns-2 : tie.Need-returns-2
 returns-2 c =
     let start = c .before .before .before .before in
     let line = start .args .line .now in
     let e = start .args .end in
     let first = start .pre in unframed line (c .no-frame2 .ensures) (more-behind line e first (c .before .if2 .taken))
-
-no-frame-requires-3 : tie.Need-no-frame-requires-3
-no-frame-requires-3 c κs = search needs
 
 returns-3 : tie.Need-returns-3
 returns-3 c =
@@ -43,12 +31,6 @@ returns-3 c =
 
 slice-aggregate-content : tie.Need-slice-aggregate-content
 slice-aggregate-content c = let start = c .before .before .before .before .before in sym (length-take-le (start .args .end) (start .args .line .now) (omega arith))
-
-index-of-requires : tie.Need-index-of-requires
-index-of-requires c κs = search needs
-
-no-frame-requires-4 : tie.Need-no-frame-requires-4
-no-frame-requires-4 c κs = search needs
 
 returns-4 : tie.Need-returns-4
 returns-4 c =
@@ -68,12 +50,6 @@ slice-aggregate-key-of c =
     let l = length-take-le e line (omega arith) in
     sym (length-take-le (c .before .before .index-of .result) (take e line) (omega arith))
 
-key-of-requires : tie.Need-key-of-requires
-key-of-requires c κs = search needs
-
-no-frame-requires-5 : tie.Need-no-frame-requires-5
-no-frame-requires-5 c κs = search needs
-
 returns-5 : tie.Need-returns-5
 returns-5 c =
     let start = c .before .before .before .before .before .before .before .before .before .before .before in
@@ -84,9 +60,6 @@ returns-5 c =
     unframed line (c .no-frame5 .ensures)
     (fits line e first (omega arith) (omega arith) (omega arith)
     ∙ no-key (take e line) (c .before .before .before .before .before .index-of .result) (c .before .before .before .before .before .index-of .ensures) (omega arith) (sym (c .before .if5 .taken) ∙ c .before .before .key-of .ensures))
-
-add-t7 : tie.Need-add-t7
-add-t7 c = search needs
 
 returns-6 : tie.Need-returns-6
 returns-6 c =
@@ -103,20 +76,6 @@ pub frame-at-spec : {M : Type 1} → statement M
 frame-at-spec =
     tie.close
     (tie.spec
-    no-frame-requires
-    returns
-    add-next
-    no-frame-requires-2
-    returns-2
-    no-frame-requires-3
-    returns-3
-    slice-aggregate-content
-    index-of-requires
-    no-frame-requires-4
-    returns-4
-    slice-aggregate-key-of
-    key-of-requires
-    no-frame-requires-5
-    returns-5
-    add-t7
+    (λ c κs. search needs) returns (λ c. search needs) (λ c κs. search needs) returns-2 (λ c κs. search needs) returns-3 slice-aggregate-content
+    (λ c κs. search needs) (λ c κs. search needs) returns-4 slice-aggregate-key-of (λ c κs. search needs) (λ c κs. search needs) returns-5 (λ c. search needs)
     returns-6)

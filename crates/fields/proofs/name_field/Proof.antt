@@ -10,9 +10,6 @@ use borrow.Author.Needs.{needs}
 use Rattle.fields.proofs.name_field.Statement.{statement}
 use Rattle.fields.proofs.name_field.Tie as tie
 
-is-name-requires : tie.Need-is-name-requires
-is-name-requires c κs = search needs
-
 returns : tie.Need-returns
 returns c =
     let e : isName (c .before .before .before .args .f .now) ≡ false = sym (c .before .is-name .ensures) ∙ not-true _ (c .if1 .taken) in
@@ -27,4 +24,4 @@ returns-2 c =
     rw e (ap (λ (p : Packed). record { ok = true; low = p .low; high = p .high }) (c .pack .ensures))
 
 pub name-field-spec : {M : Type 1} → statement M
-name-field-spec = tie.close (tie.spec is-name-requires returns pack-requires returns-2)
+name-field-spec = tie.close (tie.spec (λ c κs. search needs) returns pack-requires returns-2)

@@ -10,26 +10,11 @@ use borrow.Author.Needs.{needs}
 use Rattle.fields.proofs.pair_fields.Statement.{statement}
 use Rattle.fields.proofs.pair_fields.Tie as tie
 
-index-of-requires : tie.Need-index-of-requires
-index-of-requires c κs = search needs
-
-no-pair-requires : tie.Need-no-pair-requires
-no-pair-requires c κs = search needs
-
 returns : tie.Need-returns
 returns c = pair-uncut (c .before .before .before .before .args .f .now) (c .no-pair .ensures) (c .before .before .index-of .ensures .absent (c .before .if1 .taken))
 
-add-a : tie.Need-add-a
-add-a c = search needs
-
 slice-aggregate-attribute : tie.Need-slice-aggregate-attribute
 slice-aggregate-attribute c = sym (length-take-le (c .before .before .index-of .result) (c .before .before .before .before .args .f .now) (omega arith))
-
-index-of-requires-2 : tie.Need-index-of-requires-2
-index-of-requires-2 c κs = search needs
-
-no-pair-requires-2 : tie.Need-no-pair-requires-2
-no-pair-requires-2 c κs = search needs
 
 returns-2 : tie.Need-returns-2
 returns-2 c =
@@ -41,39 +26,6 @@ add-b c = omega (arith, length-take-le (c .before .before .before .before .index
 
 slice-aggregate-source-of : tie.Need-slice-aggregate-source-of
 slice-aggregate-source-of c = sym (length-take-le (c .before .before .index-of2 .result) (take (c .before .before .before .before .before .index-of .result) (c .before .before .before .before .before .before .before .args .f .now)) (c .before .before .index-of2 .ensures .within))
-
-source-of-requires : tie.Need-source-of-requires
-source-of-requires c κs = search needs
-
-sub-name-field : tie.Need-sub-name-field
-sub-name-field c = search needs
-
-part-name-field-start : tie.Need-part-name-field-start
-part-name-field-start c = search needs
-
-part-name-field-end : tie.Need-part-name-field-end
-part-name-field-end c = search needs
-
-name-field-requires : tie.Need-name-field-requires
-name-field-requires c κs = search needs
-
-sub-atom-of : tie.Need-sub-atom-of
-sub-atom-of c = search needs
-
-part-atom-of-start : tie.Need-part-atom-of-start
-part-atom-of-start c = search needs
-
-part-atom-of-end : tie.Need-part-atom-of-end
-part-atom-of-end c = search needs
-
-atom-of-requires : tie.Need-atom-of-requires
-atom-of-requires c κs = search needs
-
-all-requires : tie.Need-all-requires
-all-requires c κs = search needs
-
-no-pair-requires-3 : tie.Need-no-pair-requires-3
-no-pair-requires-3 c κs = search needs
 
 returns-3 : tie.Need-returns-3
 returns-3 c =
@@ -95,26 +47,6 @@ pub pair-fields-spec : {M : Type 1} → statement M
 pair-fields-spec =
     tie.close
     (tie.spec
-    index-of-requires
-    no-pair-requires
-    returns
-    add-a
-    slice-aggregate-attribute
-    index-of-requires-2
-    no-pair-requires-2
-    returns-2
-    add-b
-    slice-aggregate-source-of
-    source-of-requires
-    sub-name-field
-    part-name-field-start
-    part-name-field-end
-    name-field-requires
-    sub-atom-of
-    part-atom-of-start
-    part-atom-of-end
-    atom-of-requires
-    all-requires
-    no-pair-requires-3
-    returns-3
-    returns-4)
+    (λ c κs. search needs) (λ c κs. search needs) returns (λ c. search needs) slice-aggregate-attribute (λ c κs. search needs) (λ c κs. search needs) returns-2
+    add-b slice-aggregate-source-of (λ c κs. search needs) (λ c. search needs) (λ c. search needs) (λ c. search needs) (λ c κs. search needs)
+    (λ c. search needs) (λ c. search needs) (λ c. search needs) (λ c κs. search needs) (λ c κs. search needs) (λ c κs. search needs) returns-3 returns-4)

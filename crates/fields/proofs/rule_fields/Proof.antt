@@ -8,31 +8,16 @@ use borrow.Author.Needs.{needs}
 use Rattle.fields.proofs.rule_fields.Statement.{statement}
 use Rattle.fields.proofs.rule_fields.Tie as tie
 
-index-of-requires : tie.Need-index-of-requires
-index-of-requires c κs = search needs
-
-no-rule-requires : tie.Need-no-rule-requires
-no-rule-requires c κs = search needs
-
 returns : tie.Need-returns
 returns c = rule-uncut (c .before .before .before .before .args .f .now) (c .no-rule .ensures) (c .before .before .index-of .ensures .absent (c .before .if1 .taken))
 
 slice-aggregate-name-field : tie.Need-slice-aggregate-name-field
 slice-aggregate-name-field c = sym (length-take-le (c .before .before .index-of .result) (c .before .before .before .before .args .f .now) (omega arith))
 
-name-field-requires : tie.Need-name-field-requires
-name-field-requires c κs = search needs
-
-no-rule-requires-2 : tie.Need-no-rule-requires-2
-no-rule-requires-2 c κs = search needs
-
 returns-2 : tie.Need-returns-2
 returns-2 c =
     let d = c .before .before .before .before .before .before .index-of in
     no-operation (c .before .before .before .before .before .before .before .before .args .f .now) (d .result) (d .ensures .found (c .before .before .before .before .before .if1 .left)) (c .before .before .before .name-field .ensures) (c .no-rule2 .ensures) (not-true _ (c .before .if2 .taken))
-
-add-t4 : tie.Need-add-t4
-add-t4 c = search needs
 
 returns-3 : tie.Need-returns-3
 returns-3 c =
@@ -43,12 +28,5 @@ pub rule-fields-spec : {M : Type 1} → statement M
 rule-fields-spec =
     tie.close
     (tie.spec
-    index-of-requires
-    no-rule-requires
-    returns
-    slice-aggregate-name-field
-    name-field-requires
-    no-rule-requires-2
-    returns-2
-    add-t4
-    returns-3)
+    (λ c κs. search needs) (λ c κs. search needs) returns slice-aggregate-name-field (λ c κs. search needs) (λ c κs. search needs) returns-2
+    (λ c. search needs) returns-3)

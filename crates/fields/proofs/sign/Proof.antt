@@ -8,14 +8,8 @@ use Rattle.fields.proofs.sign.Tie as tie
 returns : tie.Need-returns
 returns c = unsigned _ (c .if1 .taken)
 
-shared-slice-read-if2 : tie.Need-shared-slice-read-if2
-shared-slice-read-if2 c = search needs
-
 returns-2 : tie.Need-returns-2
 returns-2 c = signed-plus (c .before .before .before .args .edit .now) (omega arith) (c .if2 .taken)
-
-shared-slice-read-if3 : tie.Need-shared-slice-read-if3
-shared-slice-read-if3 c = search needs
 
 returns-3 : tie.Need-returns-3
 returns-3 c = signed-minus (c .before .before .before .before .before .args .edit .now) (omega arith) (c .if3 .taken)
@@ -26,4 +20,4 @@ returns-4 c = no-sign (c .before .before .before .before .before .args .edit .no
 pub sign-spec : {M : Type 1} → statement M
 sign-spec =
     tie.close
-    (tie.spec returns shared-slice-read-if2 returns-2 shared-slice-read-if3 returns-3 returns-4)
+    (tie.spec returns (λ c. search needs) returns-2 (λ c. search needs) returns-3 returns-4)

@@ -11,73 +11,22 @@ use borrow.Author.Needs.{needs}
 use Rattle.fields.proofs.value_fields.Statement.{statement}
 use Rattle.fields.proofs.value_fields.Tie as tie
 
-index-of-requires : tie.Need-index-of-requires
-index-of-requires c κs = search needs
-
-no-value-requires : tie.Need-no-value-requires
-no-value-requires c κs = search needs
-
 returns : tie.Need-returns
 returns c = value-uncut (c .before .before .before .before .args .f .now) (c .no-value .ensures) (c .before .before .index-of .ensures .absent (c .before .if1 .taken))
-
-add-a : tie.Need-add-a
-add-a c = search needs
-
-sub-rest : tie.Need-sub-rest
-sub-rest c = search needs
-
-part-rest-start : tie.Need-part-rest-start
-part-rest-start c = search needs
-
-part-rest-end : tie.Need-part-rest-end
-part-rest-end c = search needs
-
-index-of-requires-2 : tie.Need-index-of-requires-2
-index-of-requires-2 c κs = search needs
-
-no-value-requires-2 : tie.Need-no-value-requires-2
-no-value-requires-2 c κs = search needs
 
 returns-2 : tie.Need-returns-2
 returns-2 c =
     let f = c .before .before .before .before .before .before .before .args .f .now in
     value-cut-once f (c .no-value2 .ensures) (cut-there 44 f (c .before .before .before .before .before .index-of .result) (c .before .before .before .before .before .index-of .ensures) (omega arith)) (c .before .before .index-of2 .ensures .absent (c .before .if2 .taken))
 
-add-b : tie.Need-add-b
-add-b c = search needs
-
 slice-aggregate-name-field : tie.Need-slice-aggregate-name-field
 slice-aggregate-name-field c = sym (length-take-le (c .before .before .before .before .before .index-of .result) (c .before .before .before .before .before .before .before .args .f .now) (omega arith))
-
-name-field-requires : tie.Need-name-field-requires
-name-field-requires c κs = search needs
 
 slice-aggregate-name-field-2 : tie.Need-slice-aggregate-name-field-2
 slice-aggregate-name-field-2 c =
     let f = c .before .before .before .before .before .before .before .before .before .args .f .now in
     let a = c .before .before .before .before .before .before .before .index-of .result + 1 in
     sym (length-take-le (c .before .before .before .before .index-of2 .result) (take (length f - a) (drop a f)) (c .before .before .before .before .index-of2 .ensures .within))
-
-name-field-requires-2 : tie.Need-name-field-requires-2
-name-field-requires-2 c κs = search needs
-
-sub-atom-of : tie.Need-sub-atom-of
-sub-atom-of c = search needs
-
-part-atom-of-start : tie.Need-part-atom-of-start
-part-atom-of-start c = search needs
-
-part-atom-of-end : tie.Need-part-atom-of-end
-part-atom-of-end c = search needs
-
-atom-of-requires : tie.Need-atom-of-requires
-atom-of-requires c κs = search needs
-
-all-requires : tie.Need-all-requires
-all-requires c κs = search needs
-
-no-value-requires-3 : tie.Need-no-value-requires-3
-no-value-requires-3 c κs = search needs
 
 returns-3 : tie.Need-returns-3
 returns-3 c =
@@ -87,12 +36,6 @@ returns-3 c =
     let rest = take (length f - (d .result + 1)) (drop (d .result + 1) f) in
     value-refused f (cut-there 44 f (d .result) (d .ensures) (c .before .before .before .before .before .before .before .before .before .before .before .before .before .if1 .left)) (cut-there 44 rest (e .result) (e .ensures) (c .before .before .before .before .before .before .before .before .before .before .if2 .left))
     (c .before .before .before .before .before .before .before .before .name-field .ensures) (c .before .before .before .before .before .before .name-field2 .ensures) (c .before .before .before .before .atom-of .ensures) (c .no-value3 .ensures) (sym (c .before .before .all .ensures) ∙ not-true _ (c .before .if3 .taken))
-
-packed-requires : tie.Need-packed-requires
-packed-requires c κs = search needs
-
-packed-requires-2 : tie.Need-packed-requires-2
-packed-requires-2 c κs = search needs
 
 returns-4 : tie.Need-returns-4
 returns-4 c =
@@ -108,28 +51,7 @@ pub value-fields-spec : {M : Type 1} → statement M
 value-fields-spec =
     tie.close
     (tie.spec
-    index-of-requires
-    no-value-requires
-    returns
-    add-a
-    sub-rest
-    part-rest-start
-    part-rest-end
-    index-of-requires-2
-    no-value-requires-2
-    returns-2
-    add-b
-    slice-aggregate-name-field
-    name-field-requires
-    slice-aggregate-name-field-2
-    name-field-requires-2
-    sub-atom-of
-    part-atom-of-start
-    part-atom-of-end
-    atom-of-requires
-    all-requires
-    no-value-requires-3
-    returns-3
-    packed-requires
-    packed-requires-2
-    returns-4)
+    (λ c κs. search needs) (λ c κs. search needs) returns (λ c. search needs) (λ c. search needs) (λ c. search needs) (λ c. search needs)
+    (λ c κs. search needs) (λ c κs. search needs) returns-2 (λ c. search needs) slice-aggregate-name-field (λ c κs. search needs) slice-aggregate-name-field-2
+    (λ c κs. search needs) (λ c. search needs) (λ c. search needs) (λ c. search needs) (λ c κs. search needs) (λ c κs. search needs) (λ c κs. search needs)
+    returns-3 (λ c κs. search needs) (λ c κs. search needs) returns-4)

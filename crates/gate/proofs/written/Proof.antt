@@ -16,14 +16,8 @@ use Rattle.gate.proofs.written.Tie as tie
 counted : {before after text : List ℕ} {r n : ℕ} → Laid before 0 text after r → r ≤ n → n ≤ length before → Counts r after × (take r after ≡ text)
 counted p short room = let l = laid-length p in ((omega arith, sym (length-take-le _ _ (omega arith))), laid-front p (omega (arith, p .behind)))
 
-run-requires : tie.Need-run-requires
-run-requires c κs = search needs
-
-same-length : tie.Need-same-length
-same-length c = search needs
-
 returns : tie.Need-returns
 returns c = let r = c .before .before .run .ensures in counted (r .0) (r .1) (c .before .before .before .before .before .before .pre)
 
 pub written-spec : {M : Type 1} → statement M
-written-spec = tie.close (tie.spec run-requires same-length returns)
+written-spec = tie.close (tie.spec (λ c κs. search needs) (λ c. search needs) returns)

@@ -4,18 +4,6 @@ use borrow.Author.Needs.{needs}
 use Rattle.host.proofs.zhul_decide.Statement.{statement}
 use Rattle.host.proofs.zhul_decide.Tie as tie
 
-decide-requires : tie.Need-decide-requires
-decide-requires c κs = search needs
-
-number-of-requires : tie.Need-number-of-requires
-number-of-requires c κs = search needs
-
-rule-of-requires : tie.Need-rule-of-requires
-rule-of-requires c κs = search needs
-
-pack-requires : tie.Need-pack-requires
-pack-requires c κs = search needs
-
 returns : tie.Need-returns
 returns c = record {
   decision = c .before .before .before .decide .result;
@@ -26,4 +14,4 @@ returns c = record {
 
 pub zhul-decide-spec : {M : Type 1} → statement M
 zhul-decide-spec =
-    tie.close (tie.spec decide-requires number-of-requires rule-of-requires pack-requires returns)
+    tie.close (tie.spec (λ c κs. search needs) (λ c κs. search needs) (λ c κs. search needs) (λ c κs. search needs) returns)

@@ -6,15 +6,6 @@ use borrow.Author.Needs.{needs}
 use Rattle.host.proofs.zhul_pass.Statement.{statement}
 use Rattle.host.proofs.zhul_pass.Tie as tie
 
-load-requires : tie.Need-load-requires
-load-requires c κs = search needs
-
-cast-result : tie.Need-cast-result
-cast-result c = search needs
-
-same-length : tie.Need-same-length
-same-length c = search needs
-
 returns : tie.Need-returns
 returns c =
     let start = c .before .before .before .before .before .before .before .before .before .before .before .before in
@@ -22,15 +13,6 @@ returns c =
       pass-refused (start .args .file .now) (start .args .block .now) (start .args .table .now) _ _ _ (given .result .number) (given .result .line) (given .ensures) (c .before .if1 .taken),
       pass-table (start .args .file .now) (start .args .block .now) (start .args .table .now) _ _ _ (given .result .number) (given .result .line) (given .ensures),
     )
-
-decide-requires : tie.Need-decide-requires
-decide-requires c κs = search needs
-
-number-of-requires : tie.Need-number-of-requires
-number-of-requires c κs = search needs
-
-same-length-2 : tie.Need-same-length-2
-same-length-2 c = search needs
 
 returns-2 : tie.Need-returns-2
 returns-2 c =
@@ -45,11 +27,4 @@ pub zhul-pass-spec : {M : Type 1} → statement M
 zhul-pass-spec =
     tie.close
     (tie.spec
-    load-requires
-    cast-result
-    same-length
-    returns
-    decide-requires
-    number-of-requires
-    same-length-2
-    returns-2)
+    (λ c κs. search needs) (λ c. search needs) (λ c. search needs) returns (λ c κs. search needs) (λ c κs. search needs) (λ c. search needs) returns-2)

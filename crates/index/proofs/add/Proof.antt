@@ -7,47 +7,8 @@ use borrow.Author.Needs.{needs}
 use Rattle.index.proofs.add.Statement.{statement}
 use Rattle.index.proofs.add.Tie as tie
 
-rows-in-requires : tie.Need-rows-in-requires
-rows-in-requires c κs = search needs
-
-hash-requires : tie.Need-hash-requires
-hash-requires c κs = search needs
-
-link-place-requires : tie.Need-link-place-requires
-link-place-requires c κs = search needs
-
-mul-before : tie.Need-mul-before
-mul-before c = search needs
-
-slice-read-before : tie.Need-slice-read-before
-slice-read-before c = search needs
-
-add-section : tie.Need-add-section
-add-section c = search needs
-
-mul-section : tie.Need-mul-section
-mul-section c = search needs
-
-slice-write-section : tie.Need-slice-write-section
-slice-write-section c = search needs
-
-add-section-2 : tie.Need-add-section-2
-add-section-2 c = search needs
-
-mul-section-2 : tie.Need-mul-section-2
-mul-section-2 c = search needs
-
 slice-write-section-2 : tie.Need-slice-write-section-2
 slice-write-section-2 c = rw length-set (omega (arith, c .before .link-place .ensures .within, c .before .before .before .before .before .before .pre))
-
-add-put-row : tie.Need-add-put-row
-add-put-row c = search needs
-
-mul-put-row : tie.Need-mul-put-row
-mul-put-row c = search needs
-
-add-put-row-2 : tie.Need-add-put-row-2
-add-put-row-2 c = search needs
 
 put-row-requires : tie.Need-put-row-requires
 put-row-requires c κs = rw (length-set, length-set) (omega (arith, c .before .before .before .before .before .rows-in .ensures, c .before .before .before .before .before .before .before .pre))
@@ -66,20 +27,6 @@ pub add-spec : {M : Type 1} → statement M
 add-spec =
     tie.close
     (tie.spec
-    rows-in-requires
-    hash-requires
-    link-place-requires
-    mul-before
-    slice-read-before
-    add-section
-    mul-section
-    slice-write-section
-    add-section-2
-    mul-section-2
-    slice-write-section-2
-    add-put-row
-    mul-put-row
-    add-put-row-2
-    put-row-requires
-    same-length
-    returns)
+    (λ c κs. search needs) (λ c κs. search needs) (λ c κs. search needs) (λ c. search needs) (λ c. search needs) (λ c. search needs) (λ c. search needs)
+    (λ c. search needs) (λ c. search needs) (λ c. search needs) slice-write-section-2 (λ c. search needs) (λ c. search needs) (λ c. search needs)
+    put-row-requires same-length returns)

@@ -12,24 +12,6 @@ Inv-loop section a b c d n rows chain v₀ v = (v ≤ n) × Walks section (a, b,
 abbrev μ-loop : tie.MeasureT-loop
 μ-loop section a b c d n rows chain v₀ v = v
 
-rows-in-requires : tie.Need-rows-in-requires Inv-loop μ-loop
-rows-in-requires c κs = search needs
-
-add-rows : tie.Need-add-rows Inv-loop μ-loop
-add-rows c = search needs
-
-hash-requires : tie.Need-hash-requires Inv-loop μ-loop
-hash-requires c κs = search needs
-
-mul-link : tie.Need-mul-link Inv-loop μ-loop
-mul-link c = search needs
-
-shared-slice-read-link : tie.Need-shared-slice-read-link Inv-loop μ-loop
-shared-slice-read-link c = search needs
-
-link-requires : tie.Need-link-requires Inv-loop μ-loop
-link-requires c κs = search needs
-
 loop-holds : tie.Need-loop-holds Inv-loop μ-loop
 loop-holds c =
     let e = c .link .ensures in
@@ -38,18 +20,6 @@ loop-holds c =
       e .1,
       walks-start _ _ (m .result) (m .ensures) _ _ (h .0) (e .0),
     )
-
-sub-k : tie.Need-sub-k Inv-loop μ-loop
-sub-k c = search needs
-
-mul-is-at : tie.Need-mul-is-at Inv-loop μ-loop
-mul-is-at c = search needs
-
-add-is-at : tie.Need-add-is-at Inv-loop μ-loop
-add-is-at c = search needs
-
-is-at-requires : tie.Need-is-at-requires Inv-loop μ-loop
-is-at-requires c κs = search needs
 
 returns : tie.Need-returns Inv-loop μ-loop
 returns c =
@@ -60,18 +30,6 @@ returns c =
       exact = walks-found _ _ (m .result) (m .ensures) (l .v) (c .before .before .loop-test .taken) (l .inv .1) _
           (c .before .is-at .ensures) (c .if1 .taken);
     }
-
-add-link : tie.Need-add-link Inv-loop μ-loop
-add-link c = search needs
-
-mul-link-2 : tie.Need-mul-link-2 Inv-loop μ-loop
-mul-link-2 c = search needs
-
-shared-slice-read-link-2 : tie.Need-shared-slice-read-link-2 Inv-loop μ-loop
-shared-slice-read-link-2 c = search needs
-
-link-requires-2 : tie.Need-link-requires-2 Inv-loop μ-loop
-link-requires-2 c κs = search needs
 
 loop-less : tie.Need-loop-less Inv-loop μ-loop
 loop-less c = let h = c .link2 .ensures .1 in omega (arith, h, c .before .before .before .before .loop-test .taken)
@@ -96,24 +54,6 @@ pub find-spec : {M : Type 1} → statement M
 find-spec =
     tie.close
     (tie.spec
-    Inv-loop
-    μ-loop
-    rows-in-requires
-    add-rows
-    hash-requires
-    mul-link
-    shared-slice-read-link
-    link-requires
-    loop-holds
-    sub-k
-    mul-is-at
-    add-is-at
-    is-at-requires
-    returns
-    add-link
-    mul-link-2
-    shared-slice-read-link-2
-    link-requires-2
-    loop-less
-    loop-again
-    returns-2)
+    Inv-loop μ-loop (λ c κs. search needs) (λ c. search needs) (λ c κs. search needs) (λ c. search needs) (λ c. search needs) (λ c κs. search needs) loop-holds
+    (λ c. search needs) (λ c. search needs) (λ c. search needs) (λ c κs. search needs) returns (λ c. search needs) (λ c. search needs) (λ c. search needs)
+    (λ c κs. search needs) loop-less loop-again returns-2)

@@ -14,18 +14,6 @@ Inv-loop section chain number place₀ v₀ place v = (v ≤ rowsIn (length sect
 abbrev μ-loop : tie.MeasureT-loop
 μ-loop section chain number place₀ v₀ place v = v
 
-mul-link : tie.Need-mul-link Inv-loop μ-loop
-mul-link c = search needs
-
-shared-slice-read-link : tie.Need-shared-slice-read-link Inv-loop μ-loop
-shared-slice-read-link c = search needs
-
-rows-in-requires : tie.Need-rows-in-requires Inv-loop μ-loop
-rows-in-requires c κs = search needs
-
-link-requires : tie.Need-link-requires Inv-loop μ-loop
-link-requires c κs = search needs
-
 loop-holds : tie.Need-loop-holds Inv-loop μ-loop
 loop-holds c =
     let start = c .before .before .before .before in
@@ -35,27 +23,6 @@ loop-holds c =
       omega (arith, start .pre),
       passes-start _ _ _ (m .result) _ (start .pre .1) (m .ensures) (e .0),
     )
-
-add-loop : tie.Need-add-loop Inv-loop μ-loop
-add-loop c = search needs
-
-sub-k : tie.Need-sub-k Inv-loop μ-loop
-sub-k c = search needs
-
-add-place : tie.Need-add-place Inv-loop μ-loop
-add-place c = search needs
-
-add-link : tie.Need-add-link Inv-loop μ-loop
-add-link c = search needs
-
-mul-link-2 : tie.Need-mul-link-2 Inv-loop μ-loop
-mul-link-2 c = search needs
-
-shared-slice-read-link-2 : tie.Need-shared-slice-read-link-2 Inv-loop μ-loop
-shared-slice-read-link-2 c = search needs
-
-link-requires-2 : tie.Need-link-requires-2 Inv-loop μ-loop
-link-requires-2 c κs = search needs
 
 loop-less : tie.Need-loop-less Inv-loop μ-loop
 loop-less c = let e = c .link2 .ensures .1 in omega (arith, e, c .before .before .loop-test .taken)
@@ -79,20 +46,5 @@ pub link-place-spec : {M : Type 1} → statement M
 link-place-spec =
     tie.close
     (tie.spec
-    Inv-loop
-    μ-loop
-    mul-link
-    shared-slice-read-link
-    rows-in-requires
-    link-requires
-    loop-holds
-    add-loop
-    sub-k
-    add-place
-    add-link
-    mul-link-2
-    shared-slice-read-link-2
-    link-requires-2
-    loop-less
-    loop-again
-    returns)
+    Inv-loop μ-loop (λ c. search needs) (λ c. search needs) (λ c κs. search needs) (λ c κs. search needs) loop-holds (λ c. search needs) (λ c. search needs)
+    (λ c. search needs) (λ c. search needs) (λ c. search needs) (λ c. search needs) (λ c κs. search needs) loop-less loop-again returns)

@@ -11,24 +11,9 @@ use borrow.Author.Needs.{needs}
 use Rattle.office.proofs.run.Statement.{statement}
 use Rattle.office.proofs.run.Tie as tie
 
-slice-aggregate-put-pair : tie.Need-slice-aggregate-put-pair
-slice-aggregate-put-pair c = search needs
-
-cast-put-pair : tie.Need-cast-put-pair
-cast-put-pair c = search needs
-
-put-pair-requires : tie.Need-put-pair-requires
-put-pair-requires c κs = search needs
-
-same-length : tie.Need-same-length
-same-length c = search needs
-
 returns : tie.Need-returns
 unfolding printed
 returns c = too-long (c .before .before .before .before .before .before .before .before .args .input .now) (c .before .before .before .before .before .if1 .taken) (c .before .before .put-pair .ensures)
-
-split-requires : tie.Need-split-requires
-split-requires c κs = search needs
 
 slice-aggregate-load : tie.Need-slice-aggregate-load
 slice-aggregate-load c =
@@ -37,33 +22,6 @@ slice-aggregate-load c =
 
 slice-aggregate-load-2 : tie.Need-slice-aggregate-load-2
 slice-aggregate-load-2 c = search needs
-
-load-requires : tie.Need-load-requires
-load-requires c κs = search needs
-
-slice-aggregate-put-pair-2 : tie.Need-slice-aggregate-put-pair-2
-slice-aggregate-put-pair-2 c = search needs
-
-cast-put-pair-2 : tie.Need-cast-put-pair-2
-cast-put-pair-2 c = search needs
-
-put-pair-requires-2 : tie.Need-put-pair-requires-2
-put-pair-requires-2 c κs = search needs
-
-sub-answer-commands : tie.Need-sub-answer-commands
-sub-answer-commands c = search needs
-
-part-answer-commands-start : tie.Need-part-answer-commands-start
-part-answer-commands-start c = search needs
-
-part-answer-commands-end : tie.Need-part-answer-commands-end
-part-answer-commands-end c = search needs
-
-answer-commands-requires : tie.Need-answer-commands-requires
-answer-commands-requires c κs = search needs
-
-same-length-2 : tie.Need-same-length-2
-same-length-2 c = search needs
 
 returns-2 : tie.Need-returns-2
 unfolding printed
@@ -79,21 +37,6 @@ pub run-spec : {M : Type 1} → statement M
 run-spec =
     tie.close
     (tie.spec
-    slice-aggregate-put-pair
-    cast-put-pair
-    put-pair-requires
-    same-length
-    returns
-    split-requires
-    slice-aggregate-load
-    slice-aggregate-load-2
-    load-requires
-    slice-aggregate-put-pair-2
-    cast-put-pair-2
-    put-pair-requires-2
-    sub-answer-commands
-    part-answer-commands-start
-    part-answer-commands-end
-    answer-commands-requires
-    same-length-2
-    returns-2)
+    (λ c. search needs) (λ c. search needs) (λ c κs. search needs) (λ c. search needs) returns (λ c κs. search needs) slice-aggregate-load slice-aggregate-load-2
+    (λ c κs. search needs) (λ c. search needs) (λ c. search needs) (λ c κs. search needs) (λ c. search needs) (λ c. search needs) (λ c. search needs)
+    (λ c κs. search needs) (λ c. search needs) returns-2)

@@ -55,15 +55,4 @@ pub fill-spec : {M : Type 1} → statement M
 fill-spec =
     tie.close
     (tie.spec
-    Inv-loop
-    μ-loop
-    sub-i
-    loop-holds
-    digit-requires
-    element-write-digits
-    sub-i-2
-    loop-less
-    loop-again
-    digit-requires-2
-    element-write-digits-2
-    returns)
+    Inv-loop μ-loop sub-i loop-holds digit-requires element-write-digits sub-i-2 loop-less loop-again digit-requires-2 element-write-digits-2 returns)

@@ -19,16 +19,10 @@ loop-holds c =
     let a = c .before .args in
     record { most = 8; laid = []; few = omega arith; small = omega (arith, c .before .fits .word); near = omega arith; text = refl; so-far = laid-none (a .out .now) (a .at) }
 
-cast-put-byte : tie.Need-cast-put-byte Inv-loop μ-loop
-cast-put-byte c = search needs
-
 put-byte-requires : tie.Need-put-byte-requires Inv-loop μ-loop
 put-byte-requires c κs =
     let l = c .before .before .loop in
     omega (arith, word-near (l .inv) (λ e. c .before .loop-test .taken e))
-
-loop-less : tie.Need-loop-less Inv-loop μ-loop
-loop-less c = search needs
 
 loop-again : tie.Need-loop-again Inv-loop μ-loop
 loop-again c =
@@ -45,12 +39,4 @@ pub put-bytes-spec : {M : Type 1} → statement M
 put-bytes-spec =
     tie.close
     (tie.spec
-    Inv-loop
-    μ-loop
-    loop-holds
-    cast-put-byte
-    put-byte-requires
-    loop-less
-    loop-again
-    same-length
-    returns)
+    Inv-loop μ-loop loop-holds (λ c. search needs) put-byte-requires (λ c. search needs) loop-again same-length returns)

@@ -14,32 +14,14 @@ Inv-loop out₀ at word n left₀ i₀ out left i = Turns out₀ at word out lef
 abbrev μ-loop : tie.MeasureT-loop
 μ-loop out₀ at word n left₀ i₀ out left i = 8 - i
 
-width-requires : tie.Need-width-requires Inv-loop μ-loop
-width-requires c κs = search needs
-
 loop-holds : tie.Need-loop-holds Inv-loop μ-loop
 loop-holds c = record { within = omega arith; laid = record { is = refl; behind = refl }; rest = refl }
-
-add-old : tie.Need-add-old Inv-loop μ-loop
-add-old c = search needs
 
 slice-read-old : tie.Need-slice-read-old Inv-loop μ-loop
 slice-read-old c = omega (arith, laid-length (c .before .before .loop .inv .laid))
 
-cast-kept : tie.Need-cast-kept Inv-loop μ-loop
-cast-kept c = search needs
-
-kept-requires : tie.Need-kept-requires Inv-loop μ-loop
-kept-requires c κs = search needs
-
-add-out : tie.Need-add-out Inv-loop μ-loop
-add-out c = search needs
-
 slice-write-out : tie.Need-slice-write-out Inv-loop μ-loop
 slice-write-out c = omega (arith, laid-length (c .before .before .before .loop .inv .laid))
-
-add-i : tie.Need-add-i Inv-loop μ-loop
-add-i c = search needs
 
 loop-less : tie.Need-loop-less Inv-loop μ-loop
 loop-less c = omega arith
@@ -48,9 +30,6 @@ loop-again : tie.Need-loop-again Inv-loop μ-loop
 loop-again c =
     let w = c .before .before .before .before .width in
     turn (w .result) (c .kept .result) (c .before .before .before .loop .inv) (c .before .before .loop-test .taken) (w .ensures .0) (c .kept .ensures)
-
-add-result : tie.Need-add-result Inv-loop μ-loop
-add-result c = search needs
 
 same-length : tie.Need-same-length Inv-loop μ-loop
 same-length c = laid-length (c .before .loop .inv .laid)
@@ -64,19 +43,5 @@ pub put-eight-spec : {M : Type 1} → statement M
 put-eight-spec =
     tie.close
     (tie.spec
-    Inv-loop
-    μ-loop
-    width-requires
-    loop-holds
-    add-old
-    slice-read-old
-    cast-kept
-    kept-requires
-    add-out
-    slice-write-out
-    add-i
-    loop-less
-    loop-again
-    add-result
-    same-length
-    returns)
+    Inv-loop μ-loop (λ c κs. search needs) loop-holds (λ c. search needs) slice-read-old (λ c. search needs) (λ c κs. search needs) (λ c. search needs)
+    slice-write-out (λ c. search needs) loop-less loop-again (λ c. search needs) same-length returns)

@@ -9,12 +9,6 @@ returns c =
     let a = c .before .before .before .before .before .args in
     alone-none (a .code .now) (a .pairs .now) (a .session .now) (a .entries .now) (a .v) (c .if1 .taken)
 
-lone-requires : tie.Need-lone-requires
-lone-requires c κs = search needs
-
-leaf-requires : tie.Need-leaf-requires
-leaf-requires c κs = search needs
-
 returns-2 : tie.Need-returns-2
 returns-2 c =
     let a = c .before .before .before .before .before .before .before .before .args in
@@ -27,7 +21,4 @@ pub alone-spec : {M : Type 1} → statement M
 alone-spec =
     tie.close
     (tie.spec
-    returns
-    lone-requires
-    leaf-requires
-    returns-2)
+    returns (λ c κs. search needs) (λ c κs. search needs) returns-2)

@@ -18,8 +18,5 @@ add-result c =
 returns : tie.Need-returns
 returns c = sym (rw (c .if1 .taken))
 
-returns-2 : tie.Need-returns-2
-returns-2 c = search needs
-
 pub behind-not-spec : {M : Type 1} → statement M
-behind-not-spec = tie.close (tie.spec add-result returns returns-2)
+behind-not-spec = tie.close (tie.spec add-result returns (λ c. search needs))

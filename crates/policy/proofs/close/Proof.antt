@@ -5,15 +5,6 @@ use borrow.Author.Needs.{needs}
 use Rattle.policy.proofs.close.Statement.{statement}
 use Rattle.policy.proofs.close.Tie as tie
 
-enum-told : tie.Need-enum-told
-enum-told c = search needs
-
-enum-known-r : tie.Need-enum-known-r
-enum-known-r c = search needs
-
-kind-at-requires : tie.Need-kind-at-requires
-kind-at-requires c κs = search needs
-
 add-closed-part : tie.Need-add-closed-part
 add-closed-part c =
     let a = c .before .before .before .before .before .before .before .args in
@@ -21,9 +12,6 @@ add-closed-part c =
     let x = c .before .before .before .before .r .given in
     let w = close-within (a .code .now) (a .negated) (a .r) (x .0 .0) (the-kind-at .result) (x .1) (the-kind-at .ensures) (c .before .if1 .taken) in
     omega (arith, w)
-
-closed-part-requires : tie.Need-closed-part-requires
-closed-part-requires c κs = search needs
 
 returns : tie.Need-returns
 returns c =
@@ -50,11 +38,4 @@ pub close-spec : {M : Type 1} → statement M
 close-spec =
     tie.close
     (tie.spec
-    enum-told
-    enum-known-r
-    kind-at-requires
-    add-closed-part
-    closed-part-requires
-    returns
-    returns-2
-    returns-3)
+    (λ c. search needs) (λ c. search needs) (λ c κs. search needs) add-closed-part (λ c κs. search needs) returns returns-2 returns-3)

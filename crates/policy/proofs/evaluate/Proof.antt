@@ -8,15 +8,6 @@ use Rattle.policy.proofs.evaluate.Tie as tie
 policy-requires : tie.Need-policy-requires
 policy-requires c κs = c .before .before .before .before .pre
 
-whole-requires : tie.Need-whole-requires
-whole-requires c κs = search needs
-
-enum-told : tie.Need-enum-told
-enum-told c = search needs
-
-enum-known-x : tie.Need-enum-known-x
-enum-known-x c = search needs
-
 returns : tie.Need-returns
 returns c =
     let a = c .before .before .before .before .before .before .before .before .args in
@@ -40,9 +31,4 @@ pub evaluate-spec : {M : Type 1} → statement M
 evaluate-spec =
     tie.close
     (tie.spec
-    policy-requires
-    whole-requires
-    enum-told
-    enum-known-x
-    returns
-    returns-2)
+    policy-requires (λ c κs. search needs) (λ c. search needs) (λ c. search needs) returns returns-2)

@@ -22,6 +22,4 @@ pub is-large-spec : {M : Type 1} → statement M
 is-large-spec =
     tie.close
     (tie.spec
-    returns
-    returns-2
-    returns-3)
+    returns returns-2 returns-3)

@@ -6,11 +6,8 @@ use borrow.Author.Needs.{needs}
 use Rattle.policy.proofs.is_not.Statement.{statement}
 use Rattle.policy.proofs.is_not.Tie as tie
 
-kind-at-requires : tie.Need-kind-at-requires
-kind-at-requires c κs = search needs
-
 returns : tie.Need-returns
 returns c = ap (λ (k : ℕ). eqb k 12) (c .kind-at .ensures)
 
 pub is-not-spec : {M : Type 1} → statement M
-is-not-spec = tie.close (tie.spec kind-at-requires returns)
+is-not-spec = tie.close (tie.spec (λ c κs. search needs) returns)

@@ -4,15 +4,6 @@ use borrow.Author.Needs.{needs}
 use Rattle.policy.proofs.join.Statement.{statement}
 use Rattle.policy.proofs.join.Tie as tie
 
-enum-told : tie.Need-enum-told
-enum-told c = search needs
-
-enum-known-r : tie.Need-enum-known-r
-enum-known-r c = search needs
-
-joined-part-requires : tie.Need-joined-part-requires
-joined-part-requires c κs = search needs
-
 returns : tie.Need-returns
 returns c = let a = c .before .before .args in join-none (a .both) (a .x) (a .r) (c .enum-told .given .1)
 
@@ -23,4 +14,4 @@ returns-2 c =
     join-on (a .both) (a .x) (a .r) (y .0 .0) (c .joined-part .result) (y .1) (c .joined-part .ensures)
 
 pub join-spec : {M : Type 1} → statement M
-join-spec = tie.close (tie.spec enum-told enum-known-r joined-part-requires returns returns-2)
+join-spec = tie.close (tie.spec (λ c. search needs) (λ c. search needs) (λ c κs. search needs) returns returns-2)

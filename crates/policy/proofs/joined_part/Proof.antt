@@ -7,21 +7,6 @@ use borrow.Author.Needs.{needs}
 use Rattle.policy.proofs.joined_part.Statement.{statement}
 use Rattle.policy.proofs.joined_part.Tie as tie
 
-add-terms-requires : tie.Need-add-terms-requires
-add-terms-requires c κs = search needs
-
-larger-requires : tie.Need-larger-requires
-larger-requires c κs = search needs
-
-larger-requires-2 : tie.Need-larger-requires-2
-larger-requires-2 c κs = search needs
-
-and-requires : tie.Need-and-requires
-and-requires c κs = search needs
-
-or-requires : tie.Need-or-requires
-or-requires c κs = search needs
-
 returns : tie.Need-returns
 returns c =
     let a = c .before .before .before .before .before .args in
@@ -48,10 +33,4 @@ pub joined-part-spec : {M : Type 1} → statement M
 joined-part-spec =
     tie.close
     (tie.spec
-    add-terms-requires
-    larger-requires
-    larger-requires-2
-    and-requires
-    or-requires
-    returns
-    returns-2)
+    (λ c κs. search needs) (λ c κs. search needs) (λ c κs. search needs) (λ c κs. search needs) (λ c κs. search needs) returns returns-2)

@@ -7,32 +7,11 @@ use Rattle.policy.proofs.judge.Tie as tie
 encode-requires : tie.Need-encode-requires
 encode-requires c κs = c .before .before .before .before .pre
 
-same-length : tie.Need-same-length
-same-length c = search needs
-
 returns : tie.Need-returns
 returns c =
     let a = c .before .before .before .before .before .before .before .before .args in
     let the-encode = c .before .before .before .encode in
     judge-bad (a .s .now) (a .attributes .now) (a .code .now) (the-encode .last .1 .1 .0) (the-encode .result) (the-encode .ensures) (c .if1 .taken)
-
-slice-aggregate-policy : tie.Need-slice-aggregate-policy
-slice-aggregate-policy c = search needs
-
-slice-aggregate-policy-2 : tie.Need-slice-aggregate-policy-2
-slice-aggregate-policy-2 c = search needs
-
-policy-requires : tie.Need-policy-requires
-policy-requires c κs = search needs
-
-whole-requires : tie.Need-whole-requires
-whole-requires c κs = search needs
-
-refusal-requires : tie.Need-refusal-requires
-refusal-requires c κs = search needs
-
-same-length-2 : tie.Need-same-length-2
-same-length-2 c = search needs
 
 returns-2 : tie.Need-returns-2
 returns-2 c =
@@ -49,13 +28,5 @@ pub judge-spec : {M : Type 1} → statement M
 judge-spec =
     tie.close
     (tie.spec
-    encode-requires
-    same-length
-    returns
-    slice-aggregate-policy
-    slice-aggregate-policy-2
-    policy-requires
-    whole-requires
-    refusal-requires
-    same-length-2
-    returns-2)
+    encode-requires (λ c. search needs) returns (λ c. search needs) (λ c. search needs) (λ c κs. search needs) (λ c κs. search needs) (λ c κs. search needs)
+    (λ c. search needs) returns-2)

@@ -10,11 +10,5 @@ returns c =
     let a = c .before .args in
     sym (List·getD-eq-default (a .code .now) 0 (c .if1 .taken))
 
-shared-slice-read-result : tie.Need-shared-slice-read-result
-shared-slice-read-result c = search needs
-
-returns-2 : tie.Need-returns-2
-returns-2 c = search needs
-
 pub kind-at-spec : {M : Type 1} → statement M
-kind-at-spec = tie.close (tie.spec returns shared-slice-read-result returns-2)
+kind-at-spec = tie.close (tie.spec returns (λ c. search needs) (λ c. search needs))

@@ -5,18 +5,6 @@ use borrow.Author.Needs.{needs}
 use Rattle.policy.proofs.not_head.Statement.{statement}
 use Rattle.policy.proofs.not_head.Tie as tie
 
-enum-known-h : tie.Need-enum-known-h
-enum-known-h c = search needs
-
-not-requires : tie.Need-not-requires
-not-requires c κs = search needs
-
-enum-known-h-2 : tie.Need-enum-known-h-2
-enum-known-h-2 c = search needs
-
-enum-told : tie.Need-enum-told
-enum-told c = search needs
-
 returns : tie.Need-returns
 returns c =
     let x = c .before .before .h .given in
@@ -32,4 +20,4 @@ returns-3 c = not-neither (c .before .before .args .h) (c .enum-told .given .1)
 pub not-head-spec : {M : Type 1} → statement M
 not-head-spec =
     tie.close
-    (tie.spec enum-known-h not-requires enum-known-h-2 enum-told returns returns-2 returns-3)
+    (tie.spec (λ c. search needs) (λ c κs. search needs) (λ c. search needs) (λ c. search needs) returns returns-2 returns-3)

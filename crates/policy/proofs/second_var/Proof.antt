@@ -9,24 +9,12 @@ use borrow.Author.Needs.{needs}
 use Rattle.policy.proofs.second_var.Statement.{statement}
 use Rattle.policy.proofs.second_var.Tie as tie
 
-no-var-requires : tie.Need-no-var-requires
-no-var-requires c κs = search needs
-
 returns : tie.Need-returns
 returns c =
     let a = c .before .before .before .before .args in
     let code = a .code .now in
     no-second-var code (a .attributes .now) (a .at) (a .negated) (c .no-var .result) (c .no-var .ensures .0)
     (λ f x y. true≢false (sym (c .before .if1 .taken) ∙ f))
-
-kind-at-requires : tie.Need-kind-at-requires
-kind-at-requires c κs = search needs
-
-is-operator-requires : tie.Need-is-operator-requires
-is-operator-requires c κs = search needs
-
-no-var-requires-2 : tie.Need-no-var-requires-2
-no-var-requires-2 c κs = search needs
 
 returns-2 : tie.Need-returns-2
 returns-2 c =
@@ -45,12 +33,6 @@ add-n c =
     let o = an-operator (the-kind-at .result) (sym (c .before .is-operator .ensures) ∙ not-false _ (c .if2 .left)) in
     let w = inside code (a .at) (omega (arith, o, the-kind-at .ensures)) in omega (arith, w)
 
-kind-at-requires-2 : tie.Need-kind-at-requires-2
-kind-at-requires-2 c κs = search needs
-
-var-at-requires : tie.Need-var-at-requires
-var-at-requires c κs = search needs
-
 returns-3 : tie.Need-returns-3
 returns-3 c =
     let a = c .before .before .before .before .before .before .before .before .args in
@@ -63,13 +45,5 @@ pub second-var-spec : {M : Type 1} → statement M
 second-var-spec =
     tie.close
     (tie.spec
-    no-var-requires
-    returns
-    kind-at-requires
-    is-operator-requires
-    no-var-requires-2
-    returns-2
-    add-n
-    kind-at-requires-2
-    var-at-requires
-    returns-3)
+    (λ c κs. search needs) returns (λ c κs. search needs) (λ c κs. search needs) (λ c κs. search needs) returns-2 add-n (λ c κs. search needs)
+    (λ c κs. search needs) returns-3)

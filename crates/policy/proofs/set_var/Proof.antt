@@ -7,15 +7,6 @@ use borrow.Author.Needs.{needs}
 use Rattle.policy.proofs.set_var.Statement.{statement}
 use Rattle.policy.proofs.set_var.Tie as tie
 
-kind-at-requires : tie.Need-kind-at-requires
-kind-at-requires c κs = search needs
-
-items-requires : tie.Need-items-requires
-items-requires c κs = search needs
-
-no-var-requires : tie.Need-no-var-requires
-no-var-requires c κs = search needs
-
 returns : tie.Need-returns
 returns c =
     let a = c .before .before .before .before .before .before .before .before .args in
@@ -26,14 +17,8 @@ returns c =
     (omega (arith, c .before .before .before .before .if2 .taken)) (the-items .result) (the-items .ensures) (the-no-var .result) (the-no-var .ensures)
     (not-true _ (c .before .if3 .taken))
 
-constant-requires : tie.Need-constant-requires
-constant-requires c κs = search needs
-
 add-t9 : tie.Need-add-t9
 add-t9 c = let w = c .before .before .before .before .items .ensures .further (not-false _ (c .before .before .if3 .left)) in omega (arith, w .1)
-
-no-var-requires-2 : tie.Need-no-var-requires-2
-no-var-requires-2 c κs = search needs
 
 returns-2 : tie.Need-returns-2
 returns-2 c =
@@ -58,12 +43,4 @@ pub set-var-spec : {M : Type 1} → statement M
 set-var-spec =
     tie.close
     (tie.spec
-    kind-at-requires
-    items-requires
-    no-var-requires
-    returns
-    constant-requires
-    add-t9
-    no-var-requires-2
-    returns-2
-    returns-3)
+    (λ c κs. search needs) (λ c κs. search needs) (λ c κs. search needs) returns (λ c κs. search needs) add-t9 (λ c κs. search needs) returns-2 returns-3)

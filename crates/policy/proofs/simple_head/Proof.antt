@@ -12,17 +12,11 @@ add-t5 c =
     let code = a .code .now in
     let w = inside code (a .at) (omega (arith, c .match .keys1, c .before .before .pre)) in omega (arith, w)
 
-truth-of-requires : tie.Need-truth-of-requires
-truth-of-requires c κs = search needs
-
 add-leaf : tie.Need-add-leaf
 add-leaf c =
     let a = c .before .before .before .before .before .args in
     let code = a .code .now in
     let w = inside code (a .at) (omega (arith, c .before .before .if1 .left, c .before .before .before .before .before .pre)) in omega (arith, w)
-
-leaf-requires : tie.Need-leaf-requires
-leaf-requires c κs = search needs
 
 returns : tie.Need-returns
 returns c =
@@ -55,11 +49,4 @@ pub simple-head-spec : {M : Type 1} → statement M
 simple-head-spec =
     tie.close
     (tie.spec
-    add-t5
-    truth-of-requires
-    add-leaf
-    leaf-requires
-    returns
-    returns-2
-    returns-3
-    returns-4)
+    add-t5 (λ c κs. search needs) add-leaf (λ c κs. search needs) returns returns-2 returns-3 returns-4)

@@ -5,21 +5,6 @@ use borrow.Author.Needs.{needs}
 use Rattle.policy.proofs.term_head.Statement.{statement}
 use Rattle.policy.proofs.term_head.Tie as tie
 
-is-not-requires : tie.Need-is-not-requires
-is-not-requires c κs = search needs
-
-behind-not-requires : tie.Need-behind-not-requires
-behind-not-requires c κs = search needs
-
-kind-at-requires : tie.Need-kind-at-requires
-kind-at-requires c κs = search needs
-
-var-at-requires : tie.Need-var-at-requires
-var-at-requires c κs = search needs
-
-var-head-requires : tie.Need-var-head-requires
-var-head-requires c κs = search needs
-
 returns : tie.Need-returns
 returns c =
     let a = c .before .before .before .before .before .before .before .before .before .before .args in
@@ -31,12 +16,6 @@ returns c =
     let the-var-head = c .var-head in
     term-signed code L (a .at) (the-is-not .result) (the-is-not .ensures) (the-behind-not .result) (the-behind-not .ensures) (the-var-head .result)
     (the-var-head .ensures (the-behind-not .result) (the-var-at .ensures) (c .before .if1 .taken))
-
-simple-head-requires : tie.Need-simple-head-requires
-simple-head-requires c κs = search needs
-
-signed-head-requires : tie.Need-signed-head-requires
-signed-head-requires c κs = search needs
 
 returns-2 : tie.Need-returns-2
 returns-2 c =
@@ -57,12 +36,5 @@ pub term-head-spec : {M : Type 1} → statement M
 term-head-spec =
     tie.close
     (tie.spec
-    is-not-requires
-    behind-not-requires
-    kind-at-requires
-    var-at-requires
-    var-head-requires
-    returns
-    simple-head-requires
-    signed-head-requires
-    returns-2)
+    (λ c κs. search needs) (λ c κs. search needs) (λ c κs. search needs) (λ c κs. search needs) (λ c κs. search needs) returns (λ c κs. search needs)
+    (λ c κs. search needs) returns-2)

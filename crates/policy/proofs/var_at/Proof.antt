@@ -13,15 +13,6 @@ add-kind-at c =
     let w = var-within (a .code .now) (a .attributes .now) (a .at) (a .kind) (c .before .before .before .pre .1) (omega (arith, c .match .keys1)) in
     omega (arith, w)
 
-kind-at-requires : tie.Need-kind-at-requires
-kind-at-requires c κs = search needs
-
-place-requires : tie.Need-place-requires
-place-requires c κs = search needs
-
-attribute-requires : tie.Need-attribute-requires
-attribute-requires c κs = search needs
-
 add-t11 : tie.Need-add-t11
 add-t11 c =
     let a = c .before .before .before .before .before .before .args in
@@ -34,20 +25,11 @@ add-set-var c =
     let w = var-within (a .code .now) (a .attributes .now) (a .at) (a .kind) (c .before .before .before .pre .1) (omega (arith, c .match .keys2)) in
     omega (arith, w)
 
-set-var-requires : tie.Need-set-var-requires
-set-var-requires c κs = search needs
-
 constant-end-requires : tie.Need-constant-end-requires
 constant-end-requires c κs =
     let a = c .before .before .before .before .before .args in
     var-within (a .code .now) (a .attributes .now) (a .at) (a .kind) (c .before .before .before .before .before .pre .1)
     (omega (arith, c .before .if1 .left))
-
-constant-requires : tie.Need-constant-requires
-constant-requires c κs = search needs
-
-no-var-requires : tie.Need-no-var-requires
-no-var-requires c κs = search needs
 
 returns : tie.Need-returns
 returns c =
@@ -87,17 +69,5 @@ pub var-at-spec : {M : Type 1} → statement M
 var-at-spec =
     tie.close
     (tie.spec
-    add-kind-at
-    kind-at-requires
-    place-requires
-    attribute-requires
-    add-t11
-    add-set-var
-    set-var-requires
-    constant-end-requires
-    constant-requires
-    no-var-requires
-    returns
-    returns-2
-    returns-3
-    returns-4)
+    add-kind-at (λ c κs. search needs) (λ c κs. search needs) (λ c κs. search needs) add-t11 add-set-var (λ c κs. search needs) constant-end-requires
+    (λ c κs. search needs) (λ c κs. search needs) returns returns-2 returns-3 returns-4)

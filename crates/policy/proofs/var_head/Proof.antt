@@ -6,15 +6,6 @@ use borrow.Author.Needs.{needs}
 use Rattle.policy.proofs.var_head.Statement.{statement}
 use Rattle.policy.proofs.var_head.Tie as tie
 
-second-var-requires : tie.Need-second-var-requires
-second-var-requires c κs = search needs
-
-alone-requires : tie.Need-alone-requires
-alone-requires c κs = search needs
-
-signed-head-requires : tie.Need-signed-head-requires
-signed-head-requires c κs = search needs
-
 returns : tie.Need-returns
 returns c =
     let a = c .before .before .before .before .before .before .before .before .before .args in
@@ -25,18 +16,6 @@ returns c =
     let the-signed-head = c .signed-head in
     not-second code L (a .v) (the-second-var .result) (a .negated) (the-second-var .ensures) (not-true _ (c .before .before .if1 .taken))
     (the-alone .result) (the-signed-head .result) (the-alone .ensures) (the-signed-head .ensures)
-
-kind-at-requires : tie.Need-kind-at-requires
-kind-at-requires c κs = search needs
-
-compare-requires : tie.Need-compare-requires
-compare-requires c κs = search needs
-
-larger-requires : tie.Need-larger-requires
-larger-requires c κs = search needs
-
-leaf-requires : tie.Need-leaf-requires
-leaf-requires c κs = search needs
 
 returns-2 : tie.Need-returns-2
 returns-2 c =
@@ -56,12 +35,5 @@ pub var-head-spec : {M : Type 1} → statement M
 var-head-spec =
     tie.close
     (tie.spec
-    second-var-requires
-    alone-requires
-    signed-head-requires
-    returns
-    kind-at-requires
-    compare-requires
-    larger-requires
-    leaf-requires
-    returns-2)
+    (λ c κs. search needs) (λ c κs. search needs) (λ c κs. search needs) returns (λ c κs. search needs) (λ c κs. search needs) (λ c κs. search needs)
+    (λ c κs. search needs) returns-2)

@@ -41,12 +41,4 @@ pub attribute-number-spec : {M : Type 1} → statement M
 attribute-number-spec =
     tie.close
     (tie.spec
-    Inv-loop
-    μ-loop
-    loop-holds
-    is-named-requires
-    returns
-    add-i
-    loop-less
-    loop-again
-    returns-2)
+    Inv-loop μ-loop loop-holds is-named-requires returns add-i loop-less loop-again returns-2)

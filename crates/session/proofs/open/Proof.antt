@@ -53,13 +53,4 @@ pub open-spec : {M : Type 1} → statement M
 open-spec =
     tie.close
     (tie.spec
-    Inv-loop
-    μ-loop
-    loop-holds
-    holder-for-requires
-    words-of-requires
-    write-requires
-    add-k
-    loop-less
-    loop-again
-    returns)
+    Inv-loop μ-loop loop-holds holder-for-requires words-of-requires write-requires add-k loop-less loop-again returns)

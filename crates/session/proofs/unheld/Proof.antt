@@ -30,9 +30,6 @@ loop-holds c = (λ j e. go j e (decLt j 32), refl)
     go j e (yes l) = l
     go j e (no l) = absurd (true≢false (sym e ∙ bit-high 32 (c .before .args .mask) j (omega arith) (omega arith)))
 
-lowest-requires : tie.Need-lowest-requires Inv-loop μ-loop
-lowest-requires c κs = search needs
-
 is-held-requires : tie.Need-is-held-requires Inv-loop μ-loop
 is-held-requires c κs =
     let held = c .lowest .ensures .held (c .before .loop-test .taken) in
@@ -79,13 +76,4 @@ pub unheld-spec : {M : Type 1} → statement M
 unheld-spec =
     tie.close
     (tie.spec
-    Inv-loop
-    μ-loop
-    loop-holds
-    lowest-requires
-    is-held-requires
-    returns
-    without-requires
-    loop-less
-    loop-again
-    returns-2)
+    Inv-loop μ-loop loop-holds (λ c κs. search needs) is-held-requires returns without-requires loop-less loop-again returns-2)

@@ -8,24 +8,6 @@ use Rattle.sets.proofs.Solving.{filled}
 use Rattle.sets.proofs.fill.Statement.{statement}
 use Rattle.sets.proofs.fill.Tie as tie
 
-copy-own-requires : tie.Need-copy-own-requires
-copy-own-requires c κs = search needs
-
-numbered-requires : tie.Need-numbered-requires
-numbered-requires c κs = search needs
-
-slice-aggregate-settle-groups : tie.Need-slice-aggregate-settle-groups
-slice-aggregate-settle-groups c = search needs
-
-settle-groups-requires : tie.Need-settle-groups-requires
-settle-groups-requires c κs = search needs
-
-store-tied-requires : tie.Need-store-tied-requires
-store-tied-requires c κs = search needs
-
-same-length : tie.Need-same-length
-same-length c = search needs
-
 returns : tie.Need-returns
 returns c =
     let start = c .before .before .before .before .before .before .before .before .before .before .before .before .before .before .before .before .before .before .before in
@@ -43,10 +25,4 @@ pub fill-spec : {M : Type 1} → statement M
 fill-spec =
     tie.close
     (tie.spec
-    copy-own-requires
-    numbered-requires
-    slice-aggregate-settle-groups
-    settle-groups-requires
-    store-tied-requires
-    same-length
-    returns)
+    (λ c κs. search needs) (λ c κs. search needs) (λ c. search needs) (λ c κs. search needs) (λ c κs. search needs) (λ c. search needs) returns)

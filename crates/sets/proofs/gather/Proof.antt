@@ -25,14 +25,8 @@ loop-holds c p h =
     let a = c .before .before .args in
     ap (λ (b : Bool). b || anyBelow 64 (λ q. bit (a .mask) q && holds (a .table .now) (getD (a .slots .now) q 0) p)) (member-none p h)
 
-lowest-requires : tie.Need-lowest-requires Inv-loop μ-loop
-lowest-requires c κs = search needs
-
 holder-at-requires : tie.Need-holder-at-requires Inv-loop μ-loop
 holder-at-requires c κs = omega (arith, c .lowest .ensures .held (c .before .loop-test .taken), c .before .before .before .before .before .pre .1)
-
-inherit-requires : tie.Need-inherit-requires Inv-loop μ-loop
-inherit-requires c κs = search needs
 
 without-requires : tie.Need-without-requires Inv-loop μ-loop
 without-requires c κs = c .before .before .lowest .ensures .held (c .before .before .before .loop-test .taken) .0
@@ -66,13 +60,4 @@ pub gather-spec : {M : Type 1} → statement M
 gather-spec =
     tie.close
     (tie.spec
-    Inv-loop
-    μ-loop
-    loop-holds
-    lowest-requires
-    holder-at-requires
-    inherit-requires
-    without-requires
-    loop-less
-    loop-again
-    returns)
+    Inv-loop μ-loop loop-holds (λ c κs. search needs) holder-at-requires (λ c κs. search needs) without-requires loop-less loop-again returns)

@@ -14,27 +14,6 @@ returns c p h =
     let start = c .before .before in
     sym (ap (λ (b : Bool). member (start .args .sum) p || b) (holds-past (start .args .table .now) (start .args .k) p (omega arith)) ∙ or-false (member (start .args .sum) p))
 
-mul-at : tie.Need-mul-at
-mul-at c = search needs
-
-add-end : tie.Need-add-end
-add-end c = search needs
-
-mul-joined : tie.Need-mul-joined
-mul-joined c = search needs
-
-sub-joined : tie.Need-sub-joined
-sub-joined c = search needs
-
-part-joined-start : tie.Need-part-joined-start
-part-joined-start c = search needs
-
-part-joined-end : tie.Need-part-joined-end
-part-joined-end c = search needs
-
-joined-requires : tie.Need-joined-requires
-joined-requires c κs = search needs
-
 returns-2 : tie.Need-returns-2
 returns-2 c p h =
     let start = c .before .before .before .before in
@@ -44,12 +23,5 @@ pub inherit-spec : {M : Type 1} → statement M
 inherit-spec =
     tie.close
     (tie.spec
-    returns
-    mul-at
-    add-end
-    mul-joined
-    sub-joined
-    part-joined-start
-    part-joined-end
-    joined-requires
+    returns (λ c. search needs) (λ c. search needs) (λ c. search needs) (λ c. search needs) (λ c. search needs) (λ c. search needs) (λ c κs. search needs)
     returns-2)

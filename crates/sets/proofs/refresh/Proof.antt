@@ -7,21 +7,6 @@ use borrow.Author.Needs.{needs}
 use Rattle.sets.proofs.refresh.Statement.{statement}
 use Rattle.sets.proofs.refresh.Tie as tie
 
-slice-aggregate-rewrite-below : tie.Need-slice-aggregate-rewrite-below
-slice-aggregate-rewrite-below c = search needs
-
-rewrite-below-requires : tie.Need-rewrite-below-requires
-rewrite-below-requires c κs = search needs
-
-slice-aggregate-count : tie.Need-slice-aggregate-count
-slice-aggregate-count c = search needs
-
-count-requires : tie.Need-count-requires
-count-requires c κs = search needs
-
-same-length : tie.Need-same-length
-same-length c = search needs
-
 returns : tie.Need-returns
 returns c =
     let start = c .before .before .before .before .before .before .before .before .before .before .before .before in
@@ -34,9 +19,4 @@ pub refresh-spec : {M : Type 1} → statement M
 refresh-spec =
     tie.close
     (tie.spec
-    slice-aggregate-rewrite-below
-    rewrite-below-requires
-    slice-aggregate-count
-    count-requires
-    same-length
-    returns)
+    (λ c. search needs) (λ c κs. search needs) (λ c. search needs) (λ c κs. search needs) (λ c. search needs) returns)

@@ -6,42 +6,6 @@ use borrow.Author.Needs.{needs}
 use Rattle.sets.proofs.rewrite.Statement.{statement}
 use Rattle.sets.proofs.rewrite.Tie as tie
 
-joined-requires : tie.Need-joined-requires
-joined-requires c κs = search needs
-
-slice-aggregate-differs : tie.Need-slice-aggregate-differs
-slice-aggregate-differs c = search needs
-
-differs-requires : tie.Need-differs-requires
-differs-requires c κs = search needs
-
-array-read-set : tie.Need-array-read-set
-array-read-set c = search needs
-
-slice-write-set : tie.Need-slice-write-set
-slice-write-set c = search needs
-
-array-read-set-2 : tie.Need-array-read-set-2
-array-read-set-2 c = search needs
-
-slice-write-set-2 : tie.Need-slice-write-set-2
-slice-write-set-2 c = search needs
-
-array-read-set-3 : tie.Need-array-read-set-3
-array-read-set-3 c = search needs
-
-slice-write-set-3 : tie.Need-slice-write-set-3
-slice-write-set-3 c = search needs
-
-array-read-set-4 : tie.Need-array-read-set-4
-array-read-set-4 c = search needs
-
-slice-write-set-4 : tie.Need-slice-write-set-4
-slice-write-set-4 c = search needs
-
-same-length : tie.Need-same-length
-same-length c = search needs
-
 returns : tie.Need-returns
 returns c =
     let start = c .before .before .before .before .before .before in
@@ -54,16 +18,5 @@ pub rewrite-spec : {M : Type 1} → statement M
 rewrite-spec =
     tie.close
     (tie.spec
-    joined-requires
-    slice-aggregate-differs
-    differs-requires
-    array-read-set
-    slice-write-set
-    array-read-set-2
-    slice-write-set-2
-    array-read-set-3
-    slice-write-set-3
-    array-read-set-4
-    slice-write-set-4
-    same-length
-    returns)
+    (λ c κs. search needs) (λ c. search needs) (λ c κs. search needs) (λ c. search needs) (λ c. search needs) (λ c. search needs) (λ c. search needs)
+    (λ c. search needs) (λ c. search needs) (λ c. search needs) (λ c. search needs) (λ c. search needs) returns)

@@ -7,21 +7,6 @@ use borrow.Author.Needs.{needs}
 use Rattle.sets.proofs.rewrite_below.Statement.{statement}
 use Rattle.sets.proofs.rewrite_below.Tie as tie
 
-is-group-requires : tie.Need-is-group-requires
-is-group-requires c κs = search needs
-
-ties-up-requires : tie.Need-ties-up-requires
-ties-up-requires c κs = search needs
-
-store-marked-requires : tie.Need-store-marked-requires
-store-marked-requires c κs = search needs
-
-same-length : tie.Need-same-length
-same-length c = search needs
-
-same-length-2 : tie.Need-same-length-2
-same-length-2 c = search needs
-
 returns : tie.Need-returns
 returns c =
     let start = c .before .before .before .before .before .before .before .before .before .before .before .before .before .before .before in
@@ -31,36 +16,6 @@ returns c =
     rewritten-alone (start .args .ups .now) (start .args .own .now) (start .args .slots .now) (start .args .edited) (up .result) (start .args .table .now) (stored .last .0)
     (start .args .marks .now) (stored .last .1 .0) (none-below (start .args .ups .now) (start .args .slots .now) (start .args .edited) (sym (group .ensures) ∙ not-true (group .result) (c .before .before .before .before .before .before .before .before .if1 .taken)))
     (start .pre .0 .table-long) (up .ensures) (stored .ensures .0) (stored .ensures .1)
-
-groups-below-requires : tie.Need-groups-below-requires
-groups-below-requires c κs = search needs
-
-slice-aggregate-holders-below : tie.Need-slice-aggregate-holders-below
-slice-aggregate-holders-below c = search needs
-
-holders-below-requires : tie.Need-holders-below-requires
-holders-below-requires c κs = search needs
-
-slice-aggregate-drop-groups : tie.Need-slice-aggregate-drop-groups
-slice-aggregate-drop-groups c = search needs
-
-drop-groups-requires : tie.Need-drop-groups-requires
-drop-groups-requires c κs = search needs
-
-settle-groups-requires : tie.Need-settle-groups-requires
-settle-groups-requires c κs = search needs
-
-slice-aggregate-store-each : tie.Need-slice-aggregate-store-each
-slice-aggregate-store-each c = search needs
-
-store-each-requires : tie.Need-store-each-requires
-store-each-requires c κs = search needs
-
-same-length-3 : tie.Need-same-length-3
-same-length-3 c = search needs
-
-same-length-4 : tie.Need-same-length-4
-same-length-4 c = search needs
 
 returns-2 : tie.Need-returns-2
 returns-2 c =
@@ -78,20 +33,6 @@ pub rewrite-below-spec : {M : Type 1} → statement M
 rewrite-below-spec =
     tie.close
     (tie.spec
-    is-group-requires
-    ties-up-requires
-    store-marked-requires
-    same-length
-    same-length-2
-    returns
-    groups-below-requires
-    slice-aggregate-holders-below
-    holders-below-requires
-    slice-aggregate-drop-groups
-    drop-groups-requires
-    settle-groups-requires
-    slice-aggregate-store-each
-    store-each-requires
-    same-length-3
-    same-length-4
-    returns-2)
+    (λ c κs. search needs) (λ c κs. search needs) (λ c κs. search needs) (λ c. search needs) (λ c. search needs) returns (λ c κs. search needs)
+    (λ c. search needs) (λ c κs. search needs) (λ c. search needs) (λ c κs. search needs) (λ c κs. search needs) (λ c. search needs) (λ c κs. search needs)
+    (λ c. search needs) (λ c. search needs) returns-2)

@@ -28,9 +28,6 @@ loop-holds c =
     let done = start .args .done in
     (start .pre .0 .table-long, refl, settled-none _ _ _ _ _ (λ dp g l u w. not-false (bit done g) (sym (bit-not 64 done g (start .fits .done .fits) l) ∙ w .1)))
 
-lowest-requires : tie.Need-lowest-requires Inv-loop μ-loop
-lowest-requires c κs = search needs
-
 settle-requires : tie.Need-settle-requires Inv-loop μ-loop
 settle-requires c κs =
     let shape = c .before .before .before .before .before .before .before .before .before .before .pre .0 in
@@ -74,14 +71,4 @@ pub settle-groups-spec : {M : Type 1} → statement M
 settle-groups-spec =
     tie.close
     (tie.spec
-    Inv-loop
-    μ-loop
-    loop-holds
-    lowest-requires
-    settle-requires
-    without-requires
-    loop-less
-    loop-again
-    same-length
-    same-length-2
-    returns)
+    Inv-loop μ-loop loop-holds (λ c κs. search needs) settle-requires without-requires loop-less loop-again same-length same-length-2 returns)

@@ -16,45 +16,6 @@ returns c =
     let start = c .before .before .before .before in
     (record { pairs = λ few p h. absurd (omega arith); others = λ j n. refl }, sym (unlike-same (start .args .table .now) (start .args .table .now) (start .args .k) (λ j e. refl)))
 
-gather-requires : tie.Need-gather-requires
-gather-requires c κs = search needs
-
-mul-at : tie.Need-mul-at
-mul-at c = search needs
-
-add-end : tie.Need-add-end
-add-end c = search needs
-
-mul-rewrite : tie.Need-mul-rewrite
-mul-rewrite c = search needs
-
-sub-rewrite : tie.Need-sub-rewrite
-sub-rewrite c = search needs
-
-part-rewrite-start : tie.Need-part-rewrite-start
-part-rewrite-start c = search needs
-
-part-rewrite-end : tie.Need-part-rewrite-end
-part-rewrite-end c = search needs
-
-mul-rewrite-2 : tie.Need-mul-rewrite-2
-mul-rewrite-2 c = search needs
-
-sub-rewrite-2 : tie.Need-sub-rewrite-2
-sub-rewrite-2 c = search needs
-
-part-rewrite-start-2 : tie.Need-part-rewrite-start-2
-part-rewrite-start-2 c = search needs
-
-part-rewrite-end-2 : tie.Need-part-rewrite-end-2
-part-rewrite-end-2 c = search needs
-
-rewrite-requires : tie.Need-rewrite-requires
-rewrite-requires c κs = search needs
-
-same-length : tie.Need-same-length
-same-length c = search needs
-
 returns-2 : tie.Need-returns-2
 returns-2 c =
     let called = c .before .before in
@@ -77,18 +38,5 @@ pub store-spec : {M : Type 1} → statement M
 store-spec =
     tie.close
     (tie.spec
-    returns
-    gather-requires
-    mul-at
-    add-end
-    mul-rewrite
-    sub-rewrite
-    part-rewrite-start
-    part-rewrite-end
-    mul-rewrite-2
-    sub-rewrite-2
-    part-rewrite-start-2
-    part-rewrite-end-2
-    rewrite-requires
-    same-length
-    returns-2)
+    returns (λ c κs. search needs) (λ c. search needs) (λ c. search needs) (λ c. search needs) (λ c. search needs) (λ c. search needs) (λ c. search needs)
+    (λ c. search needs) (λ c. search needs) (λ c. search needs) (λ c. search needs) (λ c κs. search needs) (λ c. search needs) returns-2)

@@ -29,9 +29,6 @@ Inv-loop table₀ marks₀ own ups slots wanted k₀ table marks k =
 abbrev μ-loop : tie.MeasureT-loop
 μ-loop table₀ marks₀ own ups slots wanted k₀ table marks k = length ups - k
 
-first-from-requires : tie.Need-first-from-requires Inv-loop μ-loop
-first-from-requires c κs = search needs
-
 loop-holds : tie.Need-loop-holds Inv-loop μ-loop
 loop-holds c =
     let start = c .before .before .before .before .before .before .before in
@@ -43,23 +40,11 @@ loop-holds c =
           (first .ensures .lower),
     )
 
-mul-store-marked : tie.Need-mul-store-marked Inv-loop μ-loop
-mul-store-marked c = search needs
-
-shared-slice-read-store-marked : tie.Need-shared-slice-read-store-marked Inv-loop μ-loop
-shared-slice-read-store-marked c = search needs
-
 store-marked-requires : tie.Need-store-marked-requires Inv-loop μ-loop
 store-marked-requires c κs =
     let start = c .before .before .before .before .before .before .before .before .before .before .before .before in
     let inv = c .before .before .before .before .loop .inv in
     omega (arith, start .pre .0 .own-long, start .pre .0 .slots-long, start .pre .1, inv .0, inv .1)
-
-add-first-from : tie.Need-add-first-from Inv-loop μ-loop
-add-first-from c = search needs
-
-first-from-requires-2 : tie.Need-first-from-requires-2 Inv-loop μ-loop
-first-from-requires-2 c κs = search needs
 
 loop-less : tie.Need-loop-less Inv-loop μ-loop
 loop-less c =
@@ -97,17 +82,5 @@ pub store-each-spec : {M : Type 1} → statement M
 store-each-spec =
     tie.close
     (tie.spec
-    Inv-loop
-    μ-loop
-    first-from-requires
-    loop-holds
-    mul-store-marked
-    shared-slice-read-store-marked
-    store-marked-requires
-    add-first-from
-    first-from-requires-2
-    loop-less
-    loop-again
-    same-length
-    same-length-2
-    returns)
+    Inv-loop μ-loop (λ c κs. search needs) loop-holds (λ c. search needs) (λ c. search needs) store-marked-requires (λ c. search needs) (λ c κs. search needs)
+    loop-less loop-again same-length same-length-2 returns)

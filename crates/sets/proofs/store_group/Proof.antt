@@ -10,18 +10,6 @@ use Rattle.sets.proofs.Telling.{told-changed, told-unchanged, changed-l
 use Rattle.sets.proofs.store_group.Statement.{statement}
 use Rattle.sets.proofs.store_group.Tie as tie
 
-holder-at-requires : tie.Need-holder-at-requires
-holder-at-requires c κs = search needs
-
-with-requires : tie.Need-with-requires
-with-requires c κs = search needs
-
-store-requires : tie.Need-store-requires
-store-requires c κs = search needs
-
-same-length : tie.Need-same-length
-same-length c = search needs
-
 returns : tie.Need-returns
 returns c =
     let start = c .before .before .before .before .before .before .before .before .before .before .before in
@@ -42,12 +30,6 @@ insert-requires c κs =
     let on : unlike (start .args .table .now) (stored .last .0) (k .result) ≡ true = sym (stored .ensures .1) ∙ not-false (stored .result) (c .before .if1 .left) in
     omega (arith, changed-lt (stored .ensures .0) on (stored .kept .0), start .pre .3)
 
-same-length-2 : tie.Need-same-length-2
-same-length-2 c = search needs
-
-same-length-3 : tie.Need-same-length-3
-same-length-3 c = search needs
-
 returns-2 : tie.Need-returns-2
 returns-2 c =
     let start = c .before .before .before .before .before .before .before .before .before .before .before .before .before .before .before in
@@ -64,12 +46,5 @@ pub store-group-spec : {M : Type 1} → statement M
 store-group-spec =
     tie.close
     (tie.spec
-    holder-at-requires
-    with-requires
-    store-requires
-    same-length
-    returns
-    insert-requires
-    same-length-2
-    same-length-3
+    (λ c κs. search needs) (λ c κs. search needs) (λ c κs. search needs) (λ c. search needs) returns insert-requires (λ c. search needs) (λ c. search needs)
     returns-2)

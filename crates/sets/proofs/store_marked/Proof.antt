@@ -8,9 +8,6 @@ use borrow.Author.Needs.{needs}
 use Rattle.sets.proofs.store_marked.Statement.{statement}
 use Rattle.sets.proofs.store_marked.Tie as tie
 
-store-requires : tie.Need-store-requires
-store-requires c κs = search needs
-
 insert-requires : tie.Need-insert-requires
 insert-requires c κs =
     let stored = c .before .before .before .before in
@@ -18,21 +15,12 @@ insert-requires c κs =
     let on : unlike (start .args .table .now) (stored .store .last .0) (start .args .k) ≡ true = sym (stored .store .ensures .1) ∙ c .before .if1 .taken in
     omega (arith, changed-lt (stored .store .ensures .0) on (stored .store .kept .0), start .pre .3)
 
-same-length : tie.Need-same-length
-same-length c = search needs
-
-same-length-2 : tie.Need-same-length-2
-same-length-2 c = search needs
-
 returns : tie.Need-returns
 returns c =
     let stored = c .before .before .before .before .before .before .before in
     let start = c .before .before .before .before .before .before .before .before .before .before .before .before .before in
     let on : unlike (start .args .table .now) (stored .store .last .0) (start .args .k) ≡ true = sym (stored .store .ensures .1) ∙ c .before .before .before .before .if1 .taken in
     (stored .store .ensures .0, told-changed (stored .store .ensures .0) (start .args .marks .now) _ on (c .before .before .insert .ensures))
-
-same-length-3 : tie.Need-same-length-3
-same-length-3 c = search needs
 
 returns-2 : tie.Need-returns-2
 returns-2 c =
@@ -45,10 +33,4 @@ pub store-marked-spec : {M : Type 1} → statement M
 store-marked-spec =
     tie.close
     (tie.spec
-    store-requires
-    insert-requires
-    same-length
-    same-length-2
-    returns
-    same-length-3
-    returns-2)
+    (λ c κs. search needs) insert-requires (λ c. search needs) (λ c. search needs) returns (λ c. search needs) returns-2)

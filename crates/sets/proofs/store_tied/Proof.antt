@@ -22,9 +22,6 @@ loop-holds c =
     let start = c .before .before .before .before in
     (omega arith, refl, start .pre .table-long, tied-none (start .args .ups .now) (start .args .own .now) (start .args .slots .now) (start .args .table .now))
 
-mul-up : tie.Need-mul-up Inv-loop μ-loop
-mul-up c = search needs
-
 shared-slice-read-up : tie.Need-shared-slice-read-up Inv-loop μ-loop
 shared-slice-read-up c = omega arith
 
@@ -33,9 +30,6 @@ store-requires c κs =
     let start = c .before .before .before .before .before .before .before .before .before in
     let inv = c .before .before .before .before .loop .inv in
     omega (arith, start .pre .own-long, start .pre .slots-long, inv .2)
-
-add-k : tie.Need-add-k Inv-loop μ-loop
-add-k c = search needs
 
 loop-less : tie.Need-loop-less Inv-loop μ-loop
 loop-less c = omega arith
@@ -67,14 +61,4 @@ pub store-tied-spec : {M : Type 1} → statement M
 store-tied-spec =
     tie.close
     (tie.spec
-    Inv-loop
-    μ-loop
-    loop-holds
-    mul-up
-    shared-slice-read-up
-    store-requires
-    add-k
-    loop-less
-    loop-again
-    same-length
-    returns)
+    Inv-loop μ-loop loop-holds (λ c. search needs) shared-slice-read-up store-requires (λ c. search needs) loop-less loop-again same-length returns)

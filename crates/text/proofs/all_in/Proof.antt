@@ -53,13 +53,4 @@ pub all-in-spec : {M : Type 1} → statement M
 all-in-spec =
     tie.close
     (tie.spec
-    Inv-loop
-    μ-loop
-    loop-holds
-    shared-slice-read-in-class
-    in-class-requires
-    returns
-    add-i
-    loop-less
-    loop-again
-    returns-2)
+    Inv-loop μ-loop loop-holds shared-slice-read-in-class in-class-requires returns add-i loop-less loop-again returns-2)

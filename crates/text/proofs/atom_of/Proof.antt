@@ -18,28 +18,10 @@ bit : (t : Bool) {n : ℕ} → n ≡ boolCode t → n - 1 ≡ truthBit t
 bit false e = omega arith
 bit true e = omega arith
 
-int-of-requires : tie.Need-int-of-requires
-int-of-requires c κs = search needs
-
-enum-known-i : tie.Need-enum-known-i
-enum-known-i c = search needs
-
-cast-single : tie.Need-cast-single
-cast-single c = search needs
-
-single-requires : tie.Need-single-requires
-single-requires c κs = search needs
-
 returns : tie.Need-returns
 returns c =
     let s = c .before .before .before .before .before .before .args .s .now in
     c .single .ensures ∙ sym (read-int s (c .before .before .i .given .0 .0) (sym (c .before .before .before .before .int-of .ensures) ∙ c .before .before .i .given .1))
-
-enum-told : tie.Need-enum-told
-enum-told c = search needs
-
-is-str-requires : tie.Need-is-str-requires
-is-str-requires c κs = search needs
 
 sub-e : tie.Need-sub-e
 sub-e c = omega (arith, c .before .is-str .ensures .long (c .if1 .taken))
@@ -49,9 +31,6 @@ sub-words-of c = omega (arith, c .before .is-str .ensures .long (c .if1 .taken))
 
 part-words-of-start : tie.Need-part-words-of-start
 part-words-of-start c = omega (arith, c .before .is-str .ensures .long (c .if1 .taken))
-
-part-words-of-end : tie.Need-part-words-of-end
-part-words-of-end c = search needs
 
 words-of-requires : tie.Need-words-of-requires
 words-of-requires c κs =
@@ -64,26 +43,11 @@ returns-2 c =
     let i : readInt s ≡ none = no-int s (sym (c .before .before .before .before .before .before .int-of .ensures) ∙ c .before .before .before .before .enum-told .given .1) in
     ap (value 2) (c .words-of .ensures) ∙ sym (read-str s (inside s) i (c .before .before .before .is-str .ensures .text (c .before .before .if1 .taken)))
 
-bool-of-requires : tie.Need-bool-of-requires
-bool-of-requires c κs = search needs
-
-single-requires-2 : tie.Need-single-requires-2
-single-requires-2 c κs = search needs
-
 returns-3 : tie.Need-returns-3
 returns-3 c =
     let s = c .before .before .before .before .before .before .before .before .before .args .s .now in
     let i : readInt s ≡ none = no-int s (sym (c .before .before .before .before .before .before .before .int-of .ensures) ∙ c .before .before .before .before .before .enum-told .given .1) in
     c .single2 .ensures ∙ sym (read-none s i (c .before .before .before .before .is-str .ensures .other (c .before .before .before .if1 .left)) (sym (c .before .if2 .taken) ∙ c .before .before .bool-of .ensures))
-
-sub-wide : tie.Need-sub-wide
-sub-wide c = search needs
-
-wide-requires : tie.Need-wide-requires
-wide-requires c κs = search needs
-
-single-requires-3 : tie.Need-single-requires-3
-single-requires-3 c κs = search needs
 
 returns-4 : tie.Need-returns-4
 returns-4 c =
@@ -96,23 +60,6 @@ pub atom-of-spec : {M : Type 1} → statement M
 atom-of-spec =
     tie.close
     (tie.spec
-    int-of-requires
-    enum-known-i
-    cast-single
-    single-requires
-    returns
-    enum-told
-    is-str-requires
-    sub-e
-    sub-words-of
-    part-words-of-start
-    part-words-of-end
-    words-of-requires
-    returns-2
-    bool-of-requires
-    single-requires-2
-    returns-3
-    sub-wide
-    wide-requires
-    single-requires-3
-    returns-4)
+    (λ c κs. search needs) (λ c. search needs) (λ c. search needs) (λ c κs. search needs) returns (λ c. search needs) (λ c κs. search needs) sub-e sub-words-of
+    part-words-of-start (λ c. search needs) words-of-requires returns-2 (λ c κs. search needs) (λ c κs. search needs) returns-3 (λ c. search needs)
+    (λ c κs. search needs) (λ c κs. search needs) returns-4)

@@ -38,8 +38,4 @@ pub bool-of-spec : {M : Type 1} → statement M
 bool-of-spec =
     tie.close
     (tie.spec
-    slice-aggregate-choose
-    choose-requires
-    slice-aggregate-choose-2
-    choose-requires-2
-    returns)
+    slice-aggregate-choose choose-requires slice-aggregate-choose-2 choose-requires-2 returns)

@@ -4,9 +4,6 @@ use borrow.Author.Needs.{needs}
 use Rattle.text.proofs.choose.Statement.{statement}
 use Rattle.text.proofs.choose.Tie as tie
 
-same-requires : tie.Need-same-requires
-same-requires c κs = search needs
-
 returns : tie.Need-returns
 returns c = simp (sym (c .before .same .ensures) ∙ c .if1 .taken)
 
@@ -14,4 +11,4 @@ returns-2 : tie.Need-returns-2
 returns-2 c = simp (sym (c .before .same .ensures) ∙ c .if1 .left)
 
 pub choose-spec : {M : Type 1} → statement M
-choose-spec = tie.close (tie.spec same-requires returns returns-2)
+choose-spec = tie.close (tie.spec (λ c κs. search needs) returns returns-2)

@@ -5,29 +5,11 @@ use borrow.Author.Needs.{needs}
 use Rattle.text.proofs.hex_pair.Statement.{statement}
 use Rattle.text.proofs.hex_pair.Tie as tie
 
-hex-digit-requires : tie.Need-hex-digit-requires
-hex-digit-requires c κs = search needs
-
-hex-digit-requires-2 : tie.Need-hex-digit-requires-2
-hex-digit-requires-2 c κs = search needs
-
 returns : tie.Need-returns
 returns c = sym (no-first (c .before .before .before .args .x) (c .before .before .before .args .y) (sym (c .before .before .hex-digit .ensures) ∙ c .if1 .taken))
 
 returns-2 : tie.Need-returns-2
 returns-2 c = sym (no-second (c .before .before .before .before .args .x) (c .before .before .before .before .args .y) (sym (c .before .before .hex-digit2 .ensures) ∙ c .if2 .taken))
-
-broad-requires : tie.Need-broad-requires
-broad-requires c κs = search needs
-
-mul-result : tie.Need-mul-result
-mul-result c = search needs
-
-broad-requires-2 : tie.Need-broad-requires-2
-broad-requires-2 c κs = search needs
-
-add-result : tie.Need-add-result
-add-result c = search needs
 
 returns-3 : tie.Need-returns-3
 returns-3 c =
@@ -42,12 +24,5 @@ pub hex-pair-spec : {M : Type 1} → statement M
 hex-pair-spec =
     tie.close
     (tie.spec
-    hex-digit-requires
-    hex-digit-requires-2
-    returns
-    returns-2
-    broad-requires
-    mul-result
-    broad-requires-2
-    add-result
+    (λ c κs. search needs) (λ c κs. search needs) returns returns-2 (λ c κs. search needs) (λ c. search needs) (λ c κs. search needs) (λ c. search needs)
     returns-3)

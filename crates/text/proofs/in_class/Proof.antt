@@ -13,14 +13,8 @@ digits zero b m n = absurd (m refl)
 digits (suc zero) b m n = absurd (n refl)
 digits (suc (suc k)) b m n = refl
 
-name-byte-requires : tie.Need-name-byte-requires
-name-byte-requires c κs = search needs
-
 returns : tie.Need-returns
 returns c = c .name-byte .ensures ∙ ap (λ (k : ℕ). inClass k (c .before .before .args .b)) (sym (c .before .if1 .taken))
-
-text-byte-requires : tie.Need-text-byte-requires
-text-byte-requires c κs = search needs
 
 returns-2 : tie.Need-returns-2
 returns-2 c = c .text-byte .ensures ∙ ap (λ (k : ℕ). inClass k (c .before .before .before .args .b)) (sym (c .before .if2 .taken))
@@ -34,4 +28,4 @@ returns-4 c = sym (digits _ _ (c .before .before .if1 .left) (c .before .if2 .le
 pub in-class-spec : {M : Type 1} → statement M
 in-class-spec =
     tie.close
-    (tie.spec name-byte-requires returns text-byte-requires returns-2 returns-3 returns-4)
+    (tie.spec (λ c κs. search needs) returns (λ c κs. search needs) returns-2 returns-3 returns-4)

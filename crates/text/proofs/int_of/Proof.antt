@@ -7,9 +7,6 @@ use Rattle.text.proofs.DecimalDigits.{int-decimal, int-other}
 use Rattle.text.proofs.int_of.Statement.{statement}
 use Rattle.text.proofs.int_of.Tie as tie
 
-is-decimal-requires : tie.Need-is-decimal-requires
-is-decimal-requires c κs = search needs
-
 number-of-requires : tie.Need-number-of-requires
 number-of-requires c κs = sym (c .before .is-decimal .ensures) ∙ c .if1 .taken
 
@@ -26,4 +23,4 @@ returns-2 c =
     ap codedInt (sym (int-other s e))
 
 pub int-of-spec : {M : Type 1} → statement M
-int-of-spec = tie.close (tie.spec is-decimal-requires number-of-requires returns returns-2)
+int-of-spec = tie.close (tie.spec (λ c κs. search needs) number-of-requires returns returns-2)

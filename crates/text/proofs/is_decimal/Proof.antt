@@ -15,9 +15,6 @@ returns : tie.Need-returns
 unfolding isDecimal
 returns c = rw (lt-leb 1 _ (c .if1 .taken))
 
-all-in-requires : tie.Need-all-in-requires
-all-in-requires c κs = search needs
-
 returns-2 : tie.Need-returns-2
 unfolding isDecimal
 returns-2 c =
@@ -32,9 +29,6 @@ returns-3 c =
     let e : allOf digit s ≡ true = sym (c .before .before .all-in .ensures) ∙ not-false _ (c .before .if2 .left) in
     rw (le-leb 1 _ (c .before .before .before .if1 .left), e, lead-one s (c .if3 .taken))
 
-shared-slice-read-result : tie.Need-shared-slice-read-result
-shared-slice-read-result c = search needs
-
 returns-4 : tie.Need-returns-4
 unfolding isDecimal
 returns-4 c =
@@ -45,4 +39,4 @@ returns-4 c =
 pub is-decimal-spec : {M : Type 1} → statement M
 is-decimal-spec =
     tie.close
-    (tie.spec returns all-in-requires returns-2 returns-3 shared-slice-read-result returns-4)
+    (tie.spec returns (λ c κs. search needs) returns-2 returns-3 (λ c. search needs) returns-4)

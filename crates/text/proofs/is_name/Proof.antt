@@ -13,12 +13,9 @@ returns-2 : tie.Need-returns-2
 unfolding isName
 returns-2 c = rw (le-leb 1 _ (c .before .if1 .left), lt-leb _ 12 (c .if2 .taken))
 
-all-in-requires : tie.Need-all-in-requires
-all-in-requires c κs = search needs
-
 returns-3 : tie.Need-returns-3
 unfolding isName
 returns-3 c = rw (le-leb 1 _ (c .before .before .if1 .left), le-leb _ 12 (c .before .if2 .left)) (c .all-in .ensures)
 
 pub is-name-spec : {M : Type 1} → statement M
-is-name-spec = tie.close (tie.spec returns returns-2 all-in-requires returns-3)
+is-name-spec = tie.close (tie.spec returns returns-2 (λ c κs. search needs) returns-3)

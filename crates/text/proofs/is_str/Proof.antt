@@ -8,32 +8,11 @@ use Rattle.text.proofs.is_str.Tie as tie
 returns : tie.Need-returns
 returns c = too-short _ (c .if1 .taken)
 
-sub-e : tie.Need-sub-e
-sub-e c = search needs
-
-shared-slice-read-if2 : tie.Need-shared-slice-read-if2
-shared-slice-read-if2 c = search needs
-
 returns-2 : tie.Need-returns-2
 returns-2 c = no-first _ (c .if2 .taken)
 
-shared-slice-read-if3 : tie.Need-shared-slice-read-if3
-shared-slice-read-if3 c = search needs
-
 returns-3 : tie.Need-returns-3
 returns-3 c = no-last _ (c .if3 .taken)
-
-sub-is-text : tie.Need-sub-is-text
-sub-is-text c = search needs
-
-part-is-text-start : tie.Need-part-is-text-start
-part-is-text-start c = search needs
-
-part-is-text-end : tie.Need-part-is-text-end
-part-is-text-end c = search needs
-
-is-text-requires : tie.Need-is-text-requires
-is-text-requires c κs = search needs
 
 returns-4 : tie.Need-returns-4
 returns-4 c =
@@ -44,14 +23,5 @@ pub is-str-spec : {M : Type 1} → statement M
 is-str-spec =
     tie.close
     (tie.spec
-    returns
-    sub-e
-    shared-slice-read-if2
-    returns-2
-    shared-slice-read-if3
-    returns-3
-    sub-is-text
-    part-is-text-start
-    part-is-text-end
-    is-text-requires
-    returns-4)
+    returns (λ c. search needs) (λ c. search needs) returns-2 (λ c. search needs) returns-3 (λ c. search needs) (λ c. search needs) (λ c. search needs)
+    (λ c κs. search needs) returns-4)

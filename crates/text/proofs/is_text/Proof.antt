@@ -9,12 +9,9 @@ returns : tie.Need-returns
 unfolding isText
 returns c = rw (lt-leb _ 12 (c .if1 .taken))
 
-all-in-requires : tie.Need-all-in-requires
-all-in-requires c κs = search needs
-
 returns-2 : tie.Need-returns-2
 unfolding isText
 returns-2 c = rw (le-leb _ 12 (c .before .if1 .left)) (c .all-in .ensures)
 
 pub is-text-spec : {M : Type 1} → statement M
-is-text-spec = tie.close (tie.spec returns all-in-requires returns-2)
+is-text-spec = tie.close (tie.spec returns (λ c κs. search needs) returns-2)

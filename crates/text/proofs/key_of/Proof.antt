@@ -99,26 +99,7 @@ pub key-of-spec : {M : Type 1} → statement M
 key-of-spec =
     tie.close
     (tie.spec
-    slice-aggregate-choose
-    choose-requires
-    slice-aggregate-choose-2
-    choose-requires-2
-    slice-aggregate-choose-3
-    choose-requires-3
-    slice-aggregate-choose-4
-    choose-requires-4
-    slice-aggregate-choose-5
-    choose-requires-5
-    slice-aggregate-choose-6
-    choose-requires-6
-    slice-aggregate-choose-7
-    choose-requires-7
-    slice-aggregate-choose-8
-    choose-requires-8
-    slice-aggregate-choose-9
-    choose-requires-9
-    slice-aggregate-choose-10
-    choose-requires-10
-    slice-aggregate-choose-11
-    choose-requires-11
-    returns)
+    slice-aggregate-choose choose-requires slice-aggregate-choose-2 choose-requires-2 slice-aggregate-choose-3 choose-requires-3 slice-aggregate-choose-4
+    choose-requires-4 slice-aggregate-choose-5 choose-requires-5 slice-aggregate-choose-6 choose-requires-6 slice-aggregate-choose-7 choose-requires-7
+    slice-aggregate-choose-8 choose-requires-8 slice-aggregate-choose-9 choose-requires-9 slice-aggregate-choose-10 choose-requires-10
+    slice-aggregate-choose-11 choose-requires-11 returns)

@@ -78,17 +78,4 @@ pub number-of-spec : {M : Type 1} → statement M
 number-of-spec =
     tie.close
     (tie.spec
-    Inv-loop
-    μ-loop
-    loop-holds
-    mul-v
-    shared-slice-read-wide
-    wide-requires
-    add-v
-    sub-v
-    returns
-    add-i
-    loop-less
-    loop-again
-    cast-t11
-    returns-2)
+    Inv-loop μ-loop loop-holds mul-v shared-slice-read-wide wide-requires add-v sub-v returns add-i loop-less loop-again cast-t11 returns-2)

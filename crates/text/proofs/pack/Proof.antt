@@ -10,9 +10,6 @@ use Rattle.model.specs.Block.{number}
 use Rattle.text.proofs.pack.Statement.{statement}
 use Rattle.text.proofs.pack.Tie as tie
 
-word-of-requires : tie.Need-word-of-requires
-word-of-requires c κs = search needs
-
 returns : tie.Need-returns
 returns c =
     let s = c .before .before .before .args .s .now in
@@ -27,18 +24,6 @@ slice-aggregate-word-of c = sym (length-take-le 8 (c .before .before .before .ar
 word-of-requires-2 : tie.Need-word-of-requires-2
 word-of-requires-2 c κs = omega (arith, length-take 8 (c .before .before .before .args .s .now))
 
-sub-word-of : tie.Need-sub-word-of
-sub-word-of c = search needs
-
-part-word-of-start : tie.Need-part-word-of-start
-part-word-of-start c = search needs
-
-part-word-of-end : tie.Need-part-word-of-end
-part-word-of-end c = search needs
-
-word-of-requires-3 : tie.Need-word-of-requires-3
-word-of-requires-3 c κs = search needs
-
 returns-2 : tie.Need-returns-2
 returns-2 c =
     let s = c .before .before .before .before .before .before .args .s .now in
@@ -51,12 +36,5 @@ pub pack-spec : {M : Type 1} → statement M
 pack-spec =
     tie.close
     (tie.spec
-    word-of-requires
-    returns
-    slice-aggregate-word-of
-    word-of-requires-2
-    sub-word-of
-    part-word-of-start
-    part-word-of-end
-    word-of-requires-3
-    returns-2)
+    (λ c κs. search needs) returns slice-aggregate-word-of word-of-requires-2 (λ c. search needs) (λ c. search needs) (λ c. search needs)
+    (λ c κs. search needs) returns-2)

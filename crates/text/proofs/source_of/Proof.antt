@@ -57,14 +57,5 @@ pub source-of-spec : {M : Type 1} → statement M
 source-of-spec =
     tie.close
     (tie.spec
-    slice-aggregate-choose
-    choose-requires
-    slice-aggregate-choose-2
-    choose-requires-2
-    slice-aggregate-choose-3
-    choose-requires-3
-    slice-aggregate-choose-4
-    choose-requires-4
-    slice-aggregate-choose-5
-    choose-requires-5
-    returns)
+    slice-aggregate-choose choose-requires slice-aggregate-choose-2 choose-requires-2 slice-aggregate-choose-3 choose-requires-3 slice-aggregate-choose-4
+    choose-requires-4 slice-aggregate-choose-5 choose-requires-5 returns)

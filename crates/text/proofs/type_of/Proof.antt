@@ -43,10 +43,4 @@ pub type-of-spec : {M : Type 1} → statement M
 type-of-spec =
     tie.close
     (tie.spec
-    slice-aggregate-choose
-    choose-requires
-    slice-aggregate-choose-2
-    choose-requires-2
-    slice-aggregate-choose-3
-    choose-requires-3
-    returns)
+    slice-aggregate-choose choose-requires slice-aggregate-choose-2 choose-requires-2 slice-aggregate-choose-3 choose-requires-3 returns)

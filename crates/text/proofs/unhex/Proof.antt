@@ -101,21 +101,5 @@ pub unhex-spec : {M : Type 1} → statement M
 unhex-spec =
     tie.close
     (tie.spec
-    Inv-loop
-    μ-loop
-    loop-holds
-    mul-at
-    shared-slice-read-hex-pair
-    add-hex-pair
-    shared-slice-read-hex-pair-2
-    hex-pair-requires
-    same-length
-    returns
-    cast-out
-    slice-write-out
-    add-i
-    loop-less
-    loop-again
-    mul-t15
-    same-length-2
-    returns-2)
+    Inv-loop μ-loop loop-holds mul-at shared-slice-read-hex-pair add-hex-pair shared-slice-read-hex-pair-2 hex-pair-requires same-length returns cast-out
+    slice-write-out add-i loop-less loop-again mul-t15 same-length-2 returns-2)

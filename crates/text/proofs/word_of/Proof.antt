@@ -63,14 +63,4 @@ pub word-of-spec : {M : Type 1} → statement M
 word-of-spec =
     tie.close
     (tie.spec
-    Inv-loop
-    μ-loop
-    loop-holds
-    sub-i
-    mul-w
-    shared-slice-read-wide
-    wide-requires
-    add-w
-    loop-less
-    loop-again
-    returns)
+    Inv-loop μ-loop loop-holds sub-i mul-w shared-slice-read-wide wide-requires add-w loop-less loop-again returns)

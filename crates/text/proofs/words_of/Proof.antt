@@ -19,9 +19,6 @@ take-drop-take (suc a) b zero s h = absurd (omega arith)
 take-drop-take (suc a) b (suc n) [] h = refl
 take-drop-take (suc a) b (suc n) (x ∷ s) h = take-drop-take a b n s (omega arith)
 
-pack-requires : tie.Need-pack-requires
-pack-requires c κs = search needs
-
 returns : tie.Need-returns
 returns c =
     let s = c .before .before .before .args .s .now in
@@ -35,18 +32,6 @@ slice-aggregate-pack c = sym (length-take-le 16 (c .before .before .before .args
 
 pack-requires-2 : tie.Need-pack-requires-2
 pack-requires-2 c κs = omega (arith, length-take 16 (c .before .before .before .args .s .now))
-
-sub-word-of : tie.Need-sub-word-of
-sub-word-of c = search needs
-
-part-word-of-start : tie.Need-part-word-of-start
-part-word-of-start c = search needs
-
-part-word-of-end : tie.Need-part-word-of-end
-part-word-of-end c = search needs
-
-word-of-requires : tie.Need-word-of-requires
-word-of-requires c κs = search needs
 
 returns-2 : tie.Need-returns-2
 returns-2 c =
@@ -63,12 +48,5 @@ pub words-of-spec : {M : Type 1} → statement M
 words-of-spec =
     tie.close
     (tie.spec
-    pack-requires
-    returns
-    slice-aggregate-pack
-    pack-requires-2
-    sub-word-of
-    part-word-of-start
-    part-word-of-end
-    word-of-requires
+    (λ c κs. search needs) returns slice-aggregate-pack pack-requires-2 (λ c. search needs) (λ c. search needs) (λ c. search needs) (λ c κs. search needs)
     returns-2)

@@ -4,24 +4,6 @@ use borrow.Author.Needs.{needs}
 use Rattle.ties.proofs.add_up.Statement.{statement}
 use Rattle.ties.proofs.add_up.Tie as tie
 
-mul-word : tie.Need-mul-word
-mul-word c = search needs
-
-slice-read-word : tie.Need-slice-read-word
-slice-read-word c = search needs
-
-with-requires : tie.Need-with-requires
-with-requires c κs = search needs
-
-mul-ups : tie.Need-mul-ups
-mul-ups c = search needs
-
-slice-write-ups : tie.Need-slice-write-ups
-slice-write-ups c = search needs
-
-same-length : tie.Need-same-length
-same-length c = search needs
-
 returns : tie.Need-returns
 returns c =
     let start = c .before .before .before in
@@ -30,4 +12,4 @@ returns c =
 pub add-up-spec : {M : Type 1} → statement M
 add-up-spec =
     tie.close
-    (tie.spec mul-word slice-read-word with-requires mul-ups slice-write-ups same-length returns)
+    (tie.spec (λ c. search needs) (λ c. search needs) (λ c κs. search needs) (λ c. search needs) (λ c. search needs) (λ c. search needs) returns)

@@ -20,15 +20,6 @@ abbrev μ-loop : tie.MeasureT-loop
 loop-holds : tie.Need-loop-holds Inv-loop μ-loop
 loop-holds c = (omega arith, sym (any-at 0 _ (λ i l. absurd (omega arith))))
 
-holder-at-requires : tie.Need-holder-at-requires Inv-loop μ-loop
-holder-at-requires c κs = search needs
-
-add-q : tie.Need-add-q Inv-loop μ-loop
-add-q c = search needs
-
-loop-less : tie.Need-loop-less Inv-loop μ-loop
-loop-less c = search needs
-
 loop-again : tie.Need-loop-again Inv-loop μ-loop
 loop-again c =
     let start = c .before .before .before .before in
@@ -49,4 +40,4 @@ returns c =
 pub any-slot-spec : {M : Type 1} → statement M
 any-slot-spec =
     tie.close
-    (tie.spec Inv-loop μ-loop loop-holds holder-at-requires add-q loop-less loop-again returns)
+    (tie.spec Inv-loop μ-loop loop-holds (λ c κs. search needs) (λ c. search needs) (λ c. search needs) loop-again returns)

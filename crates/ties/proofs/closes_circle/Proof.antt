@@ -16,9 +16,6 @@ returns c D T own standing kept room =
     let start = c .before .before .before in
     sym (ap (λ (b : Bool). b || isBelow (holderNumbersOf D) T (start .args .group) (start .args .child)) (eq-eqb (start .args .child) (start .args .group) (c .if1 .taken)))
 
-leads-up-requires : tie.Need-leads-up-requires
-leads-up-requires c κs = search needs
-
 returns-2 : tie.Need-returns-2
 unfolding ClosesCircle closesCircle
 returns-2 c D T own standing kept room =
@@ -27,4 +24,4 @@ returns-2 c D T own standing kept room =
     ∙ sym (ap (λ (b : Bool). b || isBelow (holderNumbersOf D) T (start .args .group) (start .args .child)) (ne-eqb (start .args .child) (start .args .group) (c .before .if1 .left)))
 
 pub closes-circle-spec : {M : Type 1} → statement M
-closes-circle-spec = tie.close (tie.spec returns leads-up-requires returns-2)
+closes-circle-spec = tie.close (tie.spec returns (λ c κs. search needs) returns-2)

@@ -11,20 +11,11 @@ use Rattle.ties.proofs.drop_group.Statement.{statement}
 use native.Mathlib.Omega.{arith}
 use Rattle.ties.proofs.drop_group.Tie as tie
 
-in-use-requires : tie.Need-in-use-requires
-in-use-requires c κs = search needs
-
-holder-at-requires : tie.Need-holder-at-requires
-holder-at-requires c κs = search needs
-
 remove-requires : tie.Need-remove-requires
 remove-requires c κs =
     let start = c .before .before .before .before .before .before in
     let on : inUse (start .args .n) (start .args .slots .now) (start .args .q) ≡ true = sym (c .before .before .before .in-use .ensures) ∙ c .before .before .if1 .taken in
     omega (arith, in-use-lt (start .args .n) (start .args .slots .now) (start .args .q) on, c .before .holder-at .ensures, start .pre .1)
-
-same-length : tie.Need-same-length
-same-length c = search needs
 
 returns : tie.Need-returns
 returns c k =
@@ -47,4 +38,4 @@ returns-2 c k =
 pub drop-group-spec : {M : Type 1} → statement M
 drop-group-spec =
     tie.close
-    (tie.spec in-use-requires holder-at-requires remove-requires same-length returns returns-2)
+    (tie.spec (λ c κs. search needs) (λ c κs. search needs) remove-requires (λ c. search needs) returns returns-2)

@@ -24,9 +24,6 @@ abbrev μ-loop : tie.MeasureT-loop
 loop-holds : tie.Need-loop-holds Inv-loop μ-loop
 loop-holds c = (refl, λ k. refl)
 
-lowest-requires : tie.Need-lowest-requires Inv-loop μ-loop
-lowest-requires c κs = search needs
-
 drop-group-requires : tie.Need-drop-group-requires Inv-loop μ-loop
 drop-group-requires c κs =
     let start = c .before .before .before .before .before .before in
@@ -74,13 +71,4 @@ pub drop-groups-spec : {M : Type 1} → statement M
 drop-groups-spec =
     tie.close
     (tie.spec
-    Inv-loop
-    μ-loop
-    loop-holds
-    lowest-requires
-    drop-group-requires
-    without-requires
-    loop-less
-    loop-again
-    same-length
-    returns)
+    Inv-loop μ-loop loop-holds (λ c κs. search needs) drop-group-requires without-requires loop-less loop-again same-length returns)

@@ -4,17 +4,8 @@ use borrow.Author.Needs.{needs}
 use Rattle.ties.proofs.give_slot.Statement.{statement}
 use Rattle.ties.proofs.give_slot.Tie as tie
 
-mul-slots : tie.Need-mul-slots
-mul-slots c = search needs
-
-slice-write-slots : tie.Need-slice-write-slots
-slice-write-slots c = search needs
-
-same-length : tie.Need-same-length
-same-length c = search needs
-
 returns : tie.Need-returns
 returns c = slot-given (c .args .slots .now) (c .args .q) (c .args .k) (c .pre)
 
 pub give-slot-spec : {M : Type 1} → statement M
-give-slot-spec = tie.close (tie.spec mul-slots slice-write-slots same-length returns)
+give-slot-spec = tie.close (tie.spec (λ c. search needs) (λ c. search needs) (λ c. search needs) returns)

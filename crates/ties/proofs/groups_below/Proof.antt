@@ -16,21 +16,12 @@ Inv-loop ups slots e used m₀ next₀ m next =
 abbrev μ-loop : tie.MeasureT-loop
 μ-loop ups slots e used m₀ next₀ m next = 64 - countBelow 64 (bit m)
 
-numbered-requires : tie.Need-numbered-requires Inv-loop μ-loop
-numbered-requires c κs = search needs
-
-widened-requires : tie.Need-widened-requires Inv-loop μ-loop
-widened-requires c κs = search needs
-
 loop-holds : tie.Need-loop-holds Inv-loop μ-loop
 loop-holds c =
     let start = c .before .before .before .before in
     let ups = start .args .ups .now in
     let slots = start .args .slots .now in
     (omega arith, c .widened .ok, none-sound ups slots (start .args .e), c .widened .ensures)
-
-widened-both-ways-requires : tie.Need-widened-both-ways-requires Inv-loop μ-loop
-widened-both-ways-requires c κs = search needs
 
 loop-less : tie.Need-loop-less Inv-loop μ-loop
 loop-less c =
@@ -52,12 +43,4 @@ pub groups-below-spec : {M : Type 1} → statement M
 groups-below-spec =
     tie.close
     (tie.spec
-    Inv-loop
-    μ-loop
-    numbered-requires
-    widened-requires
-    loop-holds
-    widened-both-ways-requires
-    loop-less
-    loop-again
-    returns)
+    Inv-loop μ-loop (λ c κs. search needs) (λ c κs. search needs) loop-holds (λ c κs. search needs) loop-less loop-again returns)

@@ -25,19 +25,10 @@ loop-holds : tie.Need-loop-holds Inv-loop μ-loop
 loop-holds c =
     (omega arith, refl, λ x. sym (ap (λ (b : Bool). member (c .before .before .args .set .now) x || b && under (c .before .before .args .ups .now) (c .before .before .args .m) (c .before .before .args .e) x) (le-ltb x 0 (omega arith)) ∙ or-false (member (c .before .before .args .set .now) x)))
 
-is-under-requires : tie.Need-is-under-requires Inv-loop μ-loop
-is-under-requires c κs = search needs
-
 insert-requires : tie.Need-insert-requires Inv-loop μ-loop
 insert-requires c κs =
     let start = c .before .before .before .before .before .before .before in
     omega (arith, start .pre, c .before .before .before .before .loop .inv .1, c .before .before .before .loop-test .taken)
-
-add-k : tie.Need-add-k Inv-loop μ-loop
-add-k c = search needs
-
-loop-less : tie.Need-loop-less Inv-loop μ-loop
-loop-less c = search needs
 
 loop-again : tie.Need-loop-again Inv-loop μ-loop
 loop-again c =
@@ -73,13 +64,4 @@ pub holders-below-spec : {M : Type 1} → statement M
 holders-below-spec =
     tie.close
     (tie.spec
-    Inv-loop
-    μ-loop
-    loop-holds
-    is-under-requires
-    insert-requires
-    add-k
-    loop-less
-    loop-again
-    same-length
-    returns)
+    Inv-loop μ-loop loop-holds (λ c κs. search needs) insert-requires (λ c. search needs) (λ c. search needs) loop-again same-length returns)

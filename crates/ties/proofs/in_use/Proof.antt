@@ -4,9 +4,6 @@ use borrow.Author.Needs.{needs}
 use Rattle.ties.proofs.in_use.Statement.{statement}
 use Rattle.ties.proofs.in_use.Tie as tie
 
-holder-at-requires : tie.Need-holder-at-requires
-holder-at-requires c κs = search needs
-
 returns : tie.Need-returns
 returns c =
     let start = c .before .before .before in
@@ -18,4 +15,4 @@ returns-2 c =
     in-use-by (start .args .n) (start .args .slots .now) (start .args .q) (c .before .holder-at .result) (c .before .holder-at .ensures) (c .if1 .left)
 
 pub in-use-spec : {M : Type 1} → statement M
-in-use-spec = tie.close (tie.spec holder-at-requires returns returns-2)
+in-use-spec = tie.close (tie.spec (λ c κs. search needs) returns returns-2)

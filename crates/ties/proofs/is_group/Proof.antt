@@ -20,9 +20,6 @@ returns-2 c =
     let start = c .before .before .before in
     no-group (start .args .n) (start .args .slots .now) (start .args .k) (λ a b. omega arith)
 
-any-slot-requires : tie.Need-any-slot-requires
-any-slot-requires c κs = search needs
-
 returns-3 : tie.Need-returns-3
 returns-3 c =
     let start = c .before .before .before .before in
@@ -32,4 +29,4 @@ returns-3 c =
     ∙ group-by (start .args .n) slots k (c .before .before .if1 .left) (omega arith)
 
 pub is-group-spec : {M : Type 1} → statement M
-is-group-spec = tie.close (tie.spec returns returns-2 any-slot-requires returns-3)
+is-group-spec = tie.close (tie.spec returns returns-2 (λ c κs. search needs) returns-3)

@@ -15,12 +15,6 @@ returns c =
     let start = c .before .before in
     sym (ap (λ (b : Bool). b || meets (getD (start .args .ups .now) (start .args .k) 0) (start .args .m)) (eq-eqb _ _ (c .if1 .taken)))
 
-ties-up-requires : tie.Need-ties-up-requires
-ties-up-requires c κs = search needs
-
-meet-requires : tie.Need-meet-requires
-meet-requires c κs = search needs
-
 returns-2 : tie.Need-returns-2
 unfolding under
 returns-2 c =
@@ -29,4 +23,4 @@ returns-2 c =
     ∙ sym (ap (λ (b : Bool). b || meets (getD (start .args .ups .now) (start .args .k) 0) (start .args .m)) (ne-eqb _ _ (c .before .before .if1 .left)))
 
 pub is-under-spec : {M : Type 1} → statement M
-is-under-spec = tie.close (tie.spec returns ties-up-requires meet-requires returns-2)
+is-under-spec = tie.close (tie.spec returns (λ c κs. search needs) (λ c κs. search needs) returns-2)

@@ -8,20 +8,11 @@ use borrow.Author.Needs.{needs}
 use Rattle.ties.proofs.joins.Statement.{statement}
 use Rattle.ties.proofs.joins.Tie as tie
 
-in-use-requires : tie.Need-in-use-requires
-in-use-requires c κs = search needs
-
 returns : tie.Need-returns
 returns c =
     let start = c .before .before .before .before in
     sym (ap (λ (b : Bool). b && under (start .args .ups .now) (start .args .m) (start .args .e) (getD (start .args .slots .now) (start .args .q) 0))
     (sym (c .before .in-use .ensures) ∙ not-true (c .before .in-use .result) (c .if1 .taken)))
-
-holder-at-requires : tie.Need-holder-at-requires
-holder-at-requires c κs = search needs
-
-is-under-requires : tie.Need-is-under-requires
-is-under-requires c κs = search needs
 
 returns-2 : tie.Need-returns-2
 returns-2 c =
@@ -34,4 +25,4 @@ returns-2 c =
 
 pub joins-spec : {M : Type 1} → statement M
 joins-spec =
-    tie.close (tie.spec in-use-requires returns holder-at-requires is-under-requires returns-2)
+    tie.close (tie.spec (λ c κs. search needs) returns (λ c κs. search needs) (λ c κs. search needs) returns-2)

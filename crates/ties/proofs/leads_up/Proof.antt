@@ -16,16 +16,10 @@ Inv-loop ups slots k e done₀ left₀ done left = Climbed ups slots k e done le
 abbrev μ-loop : tie.MeasureT-loop
 μ-loop ups slots k e done₀ left₀ done left = countBelow 64 (λ q. not (bit done q))
 
-ties-up-requires : tie.Need-ties-up-requires Inv-loop μ-loop
-ties-up-requires c κs = search needs
-
 loop-holds : tie.Need-loop-holds Inv-loop μ-loop
 loop-holds c =
     let start = c .before .before .before in
     climb-start (start .args .ups .now) (start .args .slots .now) (start .args .k) (start .args .e) (c .ties-up .result) (c .ties-up .ensures)
-
-lowest-requires : tie.Need-lowest-requires Inv-loop μ-loop
-lowest-requires c κs = search needs
 
 holder-at-requires : tie.Need-holder-at-requires Inv-loop μ-loop
 holder-at-requires c κs = omega (arith, c .lowest .ensures .held (c .before .loop-test .taken), c .before .before .before .before .before .before .pre)
@@ -38,14 +32,8 @@ returns c =
     climb-found (start .args .ups .now) (start .args .slots .now) (start .args .k) (start .args .e) (c .before .before .before .before .loop .inv) (q .result) (held .0) (held .1)
     (sym (c .before .holder-at .ensures) ∙ c .if1 .taken)
 
-ties-up-requires-2 : tie.Need-ties-up-requires-2 Inv-loop μ-loop
-ties-up-requires-2 c κs = search needs
-
 with-requires : tie.Need-with-requires Inv-loop μ-loop
 with-requires c κs = c .before .before .before .lowest .ensures .held (c .before .before .before .before .loop-test .taken) .0
-
-still-left-requires : tie.Need-still-left-requires Inv-loop μ-loop
-still-left-requires c κs = search needs
 
 loop-less : tie.Need-loop-less Inv-loop μ-loop
 loop-less c =
@@ -75,16 +63,5 @@ pub leads-up-spec : {M : Type 1} → statement M
 leads-up-spec =
     tie.close
     (tie.spec
-    Inv-loop
-    μ-loop
-    ties-up-requires
-    loop-holds
-    lowest-requires
-    holder-at-requires
-    returns
-    ties-up-requires-2
-    with-requires
-    still-left-requires
-    loop-less
-    loop-again
-    returns-2)
+    Inv-loop μ-loop (λ c κs. search needs) loop-holds (λ c κs. search needs) holder-at-requires returns (λ c κs. search needs) with-requires
+    (λ c κs. search needs) loop-less loop-again returns-2)

@@ -17,18 +17,12 @@ Inv-loop ups slots used m e next₀ left₀ next left = SlotsPassed ups slots e 
 abbrev μ-loop : tie.MeasureT-loop
 μ-loop ups slots used m e next₀ left₀ next left = countBelow 64 (bit left)
 
-still-left-requires : tie.Need-still-left-requires Inv-loop μ-loop
-still-left-requires c κs = search needs
-
 loop-holds : tie.Need-loop-holds Inv-loop μ-loop
 loop-holds c =
     let start = c .before .before .before in
     let a = start .args in
     pass-start (a .ups .now) (a .slots .now) (a .e) (a .m) _
     (left-of (a .ups .now) (a .slots .now) (a .e) (a .used) (a .m) (bit (c .still-left .result)) (start .pre .1) (c .still-left .ensures))
-
-lowest-requires : tie.Need-lowest-requires Inv-loop μ-loop
-lowest-requires c κs = search needs
 
 joins-requires : tie.Need-joins-requires Inv-loop μ-loop
 joins-requires c κs = omega (arith, c .lowest .ensures .held (c .before .loop-test .taken), c .before .before .before .before .before .before .pre .0)
@@ -67,14 +61,4 @@ pub widened-spec : {M : Type 1} → statement M
 widened-spec =
     tie.close
     (tie.spec
-    Inv-loop
-    μ-loop
-    still-left-requires
-    loop-holds
-    lowest-requires
-    joins-requires
-    with-requires
-    without-requires
-    loop-less
-    loop-again
-    returns)
+    Inv-loop μ-loop (λ c κs. search needs) loop-holds (λ c κs. search needs) joins-requires with-requires without-requires loop-less loop-again returns)

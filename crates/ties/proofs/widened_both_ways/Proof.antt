@@ -4,14 +4,8 @@ use borrow.Author.Needs.{needs}
 use Rattle.ties.proofs.widened_both_ways.Statement.{statement}
 use Rattle.ties.proofs.widened_both_ways.Tie as tie
 
-widened-requires : tie.Need-widened-requires
-widened-requires c κs = search needs
-
 returns : tie.Need-returns
 returns c = c .before .widened .ensures
-
-widened-down-requires : tie.Need-widened-down-requires
-widened-down-requires c κs = search needs
 
 returns-2 : tie.Need-returns-2
 returns-2 c =
@@ -19,4 +13,4 @@ returns-2 c =
     widened-more (start .args .ups .now) (start .args .slots .now) (start .args .e) (c .before .before .widened .ensures) (c .widened-down .ensures)
 
 pub widened-both-ways-spec : {M : Type 1} → statement M
-widened-both-ways-spec = tie.close (tie.spec widened-requires returns widened-down-requires returns-2)
+widened-both-ways-spec = tie.close (tie.spec (λ c κs. search needs) returns (λ c κs. search needs) returns-2)

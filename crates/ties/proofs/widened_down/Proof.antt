@@ -33,9 +33,6 @@ loop-holds c =
       pass-start (start .args .ups .now) (start .args .slots .now) (start .args .e) (start .args .m) _ (λ q l off u. absurd (true≢false (sym (lt-ltb q _ (omega (arith, start .pre))) ∙ off))),
     )
 
-sub-q : tie.Need-sub-q Inv-loop μ-loop
-sub-q c = search needs
-
 joins-requires : tie.Need-joins-requires Inv-loop μ-loop
 joins-requires c κs = omega (arith, c .before .before .before .before .pre)
 
@@ -75,14 +72,4 @@ pub widened-down-spec : {M : Type 1} → statement M
 widened-down-spec =
     tie.close
     (tie.spec
-    Inv-loop
-    μ-loop
-    loop-holds
-    sub-q
-    joins-requires
-    with-requires
-    loop-less
-    loop-again
-    loop-less-2
-    loop-again-2
-    returns)
+    Inv-loop μ-loop loop-holds (λ c. search needs) joins-requires with-requires loop-less loop-again loop-less-2 loop-again-2 returns)

@@ -9,14 +9,8 @@ use Rattle.bits.specs.Bits.{bit}
 use Rattle.ties.proofs.with_numbered.Statement.{statement}
 use Rattle.ties.proofs.with_numbered.Tie as tie
 
-holder-at-requires : tie.Need-holder-at-requires
-holder-at-requires c κs = search needs
-
 returns : tie.Need-returns
 returns c = record { kept = λ j on. on; taken = λ h. absurd (omega (arith, h, c .before .holder-at .ensures, c .if1 .taken)) }
-
-with-requires : tie.Need-with-requires
-with-requires c κs = search needs
 
 returns-2 : tie.Need-returns-2
 returns-2 c =
@@ -27,4 +21,4 @@ returns-2 c =
     }
 
 pub with-numbered-spec : {M : Type 1} → statement M
-with-numbered-spec = tie.close (tie.spec holder-at-requires returns with-requires returns-2)
+with-numbered-spec = tie.close (tie.spec (λ c κs. search needs) returns (λ c κs. search needs) returns-2)

@@ -78,20 +78,6 @@ pub capital-of-spec : {M : Type 1} → statement M
 capital-of-spec =
     tie.close
     (tie.spec
-    slice-aggregate-choose
-    choose-requires
-    slice-aggregate-choose-2
-    choose-requires-2
-    slice-aggregate-choose-3
-    choose-requires-3
-    slice-aggregate-choose-4
-    choose-requires-4
-    slice-aggregate-choose-5
-    choose-requires-5
-    slice-aggregate-choose-6
-    choose-requires-6
-    slice-aggregate-choose-7
-    choose-requires-7
-    slice-aggregate-choose-8
-    choose-requires-8
-    returns)
+    slice-aggregate-choose choose-requires slice-aggregate-choose-2 choose-requires-2 slice-aggregate-choose-3 choose-requires-3 slice-aggregate-choose-4
+    choose-requires-4 slice-aggregate-choose-5 choose-requires-5 slice-aggregate-choose-6 choose-requires-6 slice-aggregate-choose-7 choose-requires-7
+    slice-aggregate-choose-8 choose-requires-8 returns)

@@ -7,12 +7,6 @@ use borrow.Author.Needs.{needs}
 use Rattle.tokens.proofs.either.Statement.{statement}
 use Rattle.tokens.proofs.either.Tie as tie
 
-plain-requires : tie.Need-plain-requires
-plain-requires c κs = search needs
-
-plain-requires-2 : tie.Need-plain-requires-2
-plain-requires-2 c κs = search needs
-
 returns : tie.Need-returns
 returns c =
     let a = c .before .before .args in
@@ -24,4 +18,4 @@ returns-2 c =
     c .plain2 .ensures ∙ ap (λ (t : Bool). if t then placed (plainCode (a .a)) (a .x) else placed (plainCode (a .b)) (a .y)) (sym (c .before .if1 .left))
 
 pub either-spec : {M : Type 1} → statement M
-either-spec = tie.close (tie.spec plain-requires plain-requires-2 returns returns-2)
+either-spec = tie.close (tie.spec (λ c κs. search needs) (λ c κs. search needs) returns returns-2)

@@ -65,17 +65,5 @@ pub encode-spec : {M : Type 1} → statement M
 encode-spec =
     tie.close
     (tie.spec
-    Inv-loop
-    μ-loop
-    loop-holds
-    token-at-requires
-    same-length
-    returns
-    write-requires
-    either-of-requires
-    loop-less
-    loop-again
-    slice-write-code
-    add-t15
-    same-length-2
-    returns-2)
+    Inv-loop μ-loop loop-holds token-at-requires same-length returns write-requires either-of-requires loop-less loop-again slice-write-code add-t15
+    same-length-2 returns-2)

@@ -14,11 +14,8 @@ words (suc k) b n = refl
 returns : tie.Need-returns
 returns c = ap (λ (k : ℕ). inRun k (c .before .args .b)) (sym (c .if1 .taken))
 
-word-byte-requires : tie.Need-word-byte-requires
-word-byte-requires c κs = search needs
-
 returns-2 : tie.Need-returns-2
 returns-2 c = c .word-byte .ensures ∙ sym (words _ _ (c .before .if1 .left))
 
 pub in-run-spec : {M : Type 1} → statement M
-in-run-spec = tie.close (tie.spec returns word-byte-requires returns-2)
+in-run-spec = tie.close (tie.spec returns (λ c κs. search needs) returns-2)

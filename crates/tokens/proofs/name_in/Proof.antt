@@ -17,12 +17,6 @@ use borrow.Author.Needs.{needs}
 use Rattle.tokens.proofs.name_in.Statement.{statement}
 use Rattle.tokens.proofs.name_in.Tie as tie
 
-index-of-requires : tie.Need-index-of-requires
-index-of-requires c κs = search needs
-
-plain-code-requires : tie.Need-plain-code-requires
-plain-code-requires c κs = search needs
-
 returns : tie.Need-returns
 returns c =
     let w = c .before .before .before .before .args .w .now in
@@ -31,35 +25,11 @@ returns c =
 slice-aggregate-source-of : tie.Need-slice-aggregate-source-of
 slice-aggregate-source-of c = sym (length-take-le (c .before .before .index-of .result) (c .before .before .before .before .args .w .now) (omega arith))
 
-source-of-requires : tie.Need-source-of-requires
-source-of-requires c κs = search needs
-
-plain-code-requires-2 : tie.Need-plain-code-requires-2
-plain-code-requires-2 c κs = search needs
-
 returns-2 : tie.Need-returns-2
 returns-2 c =
     let w = c .before .before .before .before .before .before .before .args .w .now in
     c .plain-code2 .ensures
     ∙ sym (no-source w (c .before .before .before .before .before .index-of .result) (c .before .before .before .before .before .index-of .ensures) (c .before .before .before .before .if1 .left) (sym (c .before .if2 .taken) ∙ c .before .before .source-of .ensures))
-
-add-a : tie.Need-add-a
-add-a c = search needs
-
-sub-n : tie.Need-sub-n
-sub-n c = search needs
-
-part-n-start : tie.Need-part-n-start
-part-n-start c = search needs
-
-part-n-end : tie.Need-part-n-end
-part-n-end c = search needs
-
-is-name-requires : tie.Need-is-name-requires
-is-name-requires c κs = search needs
-
-plain-code-requires-3 : tie.Need-plain-code-requires-3
-plain-code-requires-3 c κs = search needs
 
 returns-3 : tie.Need-returns-3
 returns-3 c =
@@ -85,19 +55,5 @@ pub name-in-spec : {M : Type 1} → statement M
 name-in-spec =
     tie.close
     (tie.spec
-    index-of-requires
-    plain-code-requires
-    returns
-    slice-aggregate-source-of
-    source-of-requires
-    plain-code-requires-2
-    returns-2
-    add-a
-    sub-n
-    part-n-start
-    part-n-end
-    is-name-requires
-    plain-code-requires-3
-    returns-3
-    pack-requires
-    returns-4)
+    (λ c κs. search needs) (λ c κs. search needs) returns slice-aggregate-source-of (λ c κs. search needs) (λ c κs. search needs) returns-2 (λ c. search needs)
+    (λ c. search needs) (λ c. search needs) (λ c. search needs) (λ c κs. search needs) (λ c κs. search needs) returns-3 pack-requires returns-4)

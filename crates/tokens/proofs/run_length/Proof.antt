@@ -53,13 +53,4 @@ pub run-length-spec : {M : Type 1} → statement M
 run-length-spec =
     tie.close
     (tie.spec
-    Inv-loop
-    μ-loop
-    loop-holds
-    shared-slice-read-in-run
-    in-run-requires
-    returns
-    add-i
-    loop-less
-    loop-again
-    returns-2)
+    Inv-loop μ-loop loop-holds shared-slice-read-in-run in-run-requires returns add-i loop-less loop-again returns-2)

@@ -9,12 +9,6 @@ use borrow.Author.Needs.{needs}
 use Rattle.tokens.proofs.text_token.Statement.{statement}
 use Rattle.tokens.proofs.text_token.Tie as tie
 
-index-of-requires : tie.Need-index-of-requires
-index-of-requires c κs = search needs
-
-plain-requires : tie.Need-plain-requires
-plain-requires c κs = search needs
-
 returns : tie.Need-returns
 returns c =
     let a = c .before .before .before .before .args in
@@ -23,23 +17,11 @@ returns c =
 slice-aggregate-is-text : tie.Need-slice-aggregate-is-text
 slice-aggregate-is-text c = sym (length-take-le (c .before .before .index-of .result) (c .before .before .before .before .args .s .now) (omega arith))
 
-is-text-requires : tie.Need-is-text-requires
-is-text-requires c κs = search needs
-
-plain-requires-2 : tie.Need-plain-requires-2
-plain-requires-2 c κs = search needs
-
 returns-2 : tie.Need-returns-2
 returns-2 c =
     let a = c .before .before .before .before .before .before .before .args in
     c .plain2 .ensures
     ∙ sym (no-text (a .n) (a .s .now) (c .before .before .before .before .before .index-of .result) (c .before .before .before .before .before .index-of .ensures) (c .before .before .before .before .if1 .left) (sym (c .before .before .is-text .ensures) ∙ not-true _ (c .before .if2 .taken)))
-
-add-place : tie.Need-add-place
-add-place c = search needs
-
-place-requires : tie.Need-place-requires
-place-requires c κs = search needs
 
 returns-3 : tie.Need-returns-3
 returns-3 c =
@@ -52,13 +34,5 @@ pub text-token-spec : {M : Type 1} → statement M
 text-token-spec =
     tie.close
     (tie.spec
-    index-of-requires
-    plain-requires
-    returns
-    slice-aggregate-is-text
-    is-text-requires
-    plain-requires-2
-    returns-2
-    add-place
-    place-requires
-    returns-3)
+    (λ c κs. search needs) (λ c κs. search needs) returns slice-aggregate-is-text (λ c κs. search needs) (λ c κs. search needs) returns-2 (λ c. search needs)
+    (λ c κs. search needs) returns-3)

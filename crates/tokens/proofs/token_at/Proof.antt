@@ -11,27 +11,12 @@ use borrow.Author.Needs.{needs}
 use Rattle.tokens.proofs.token_at.Statement.{statement}
 use Rattle.tokens.proofs.token_at.Tie as tie
 
-plain-requires : tie.Need-plain-requires
-plain-requires c κs = search needs
-
 returns : tie.Need-returns
 unfolding tokenAt tokenIn
 returns c =
     let a = c .before .before .before .args in
     let s = a .s .now in
     c .plain .ensures ∙ ap (λ (l : Bytes). tokenIn (length s) (unspaced l)) (sym (done s (a .at) (c .before .if1 .taken)))
-
-sub-t : tie.Need-sub-t
-sub-t c = search needs
-
-part-t-start : tie.Need-part-t-start
-part-t-start c = search needs
-
-part-t-end : tie.Need-part-t-end
-part-t-end c = search needs
-
-run-length-requires : tie.Need-run-length-requires
-run-length-requires c κs = search needs
 
 sub-u : tie.Need-sub-u
 sub-u c =
@@ -44,12 +29,6 @@ part-u-start c =
     let a = c .before .before .before .before .args in
     let t = take (length (a .s .now) - a .at) (drop (a .at) (a .s .now)) in
     omega (arith, c .run-length .ensures, lead-le (inRun 0) t)
-
-part-u-end : tie.Need-part-u-end
-part-u-end c = search needs
-
-token-in-requires : tie.Need-token-in-requires
-token-in-requires c κs = search needs
 
 returns-2 : tie.Need-returns-2
 unfolding tokenAt
@@ -65,14 +44,5 @@ pub token-at-spec : {M : Type 1} → statement M
 token-at-spec =
     tie.close
     (tie.spec
-    plain-requires
-    returns
-    sub-t
-    part-t-start
-    part-t-end
-    run-length-requires
-    sub-u
-    part-u-start
-    part-u-end
-    token-in-requires
-    returns-2)
+    (λ c κs. search needs) returns (λ c. search needs) (λ c. search needs) (λ c. search needs) (λ c κs. search needs) sub-u part-u-start (λ c. search needs)
+    (λ c κs. search needs) returns-2)

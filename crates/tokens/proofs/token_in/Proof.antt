@@ -12,65 +12,8 @@ use borrow.Author.Needs.{needs}
 use Rattle.tokens.proofs.token_in.Statement.{statement}
 use Rattle.tokens.proofs.token_in.Tie as tie
 
-plain-requires : tie.Need-plain-requires
-plain-requires c κs = search needs
-
 returns : tie.Need-returns
 returns c = c .plain .ensures ∙ sym (at-end (c .before .before .before .args .n) (c .before .before .before .args .s .now) (c .before .if1 .taken))
-
-place-requires : tie.Need-place-requires
-place-requires c κs = search needs
-
-place-requires-2 : tie.Need-place-requires-2
-place-requires-2 c κs = search needs
-
-equals-next-requires : tie.Need-equals-next-requires
-equals-next-requires c κs = search needs
-
-shared-slice-read-b : tie.Need-shared-slice-read-b
-shared-slice-read-b c = search needs
-
-either-requires : tie.Need-either-requires
-either-requires c κs = search needs
-
-sub-text-token : tie.Need-sub-text-token
-sub-text-token c = search needs
-
-part-text-token-start : tie.Need-part-text-token-start
-part-text-token-start c = search needs
-
-part-text-token-end : tie.Need-part-text-token-end
-part-text-token-end c = search needs
-
-text-token-requires : tie.Need-text-token-requires
-text-token-requires c κs = search needs
-
-plain-requires-2 : tie.Need-plain-requires-2
-plain-requires-2 c κs = search needs
-
-plain-requires-3 : tie.Need-plain-requires-3
-plain-requires-3 c κs = search needs
-
-plain-requires-4 : tie.Need-plain-requires-4
-plain-requires-4 c κs = search needs
-
-either-requires-2 : tie.Need-either-requires-2
-either-requires-2 c κs = search needs
-
-plain-requires-5 : tie.Need-plain-requires-5
-plain-requires-5 c κs = search needs
-
-either-requires-3 : tie.Need-either-requires-3
-either-requires-3 c κs = search needs
-
-plain-requires-6 : tie.Need-plain-requires-6
-plain-requires-6 c κs = search needs
-
-plain-requires-7 : tie.Need-plain-requires-7
-plain-requires-7 c κs = search needs
-
-word-token-requires : tie.Need-word-token-requires
-word-token-requires c κs = search needs
 
 returns-2 : tie.Need-returns-2
 unfolding tokenIn readToken
@@ -157,34 +100,7 @@ pub token-in-spec : {M : Type 1} → statement M
 token-in-spec =
     tie.close
     (tie.spec
-    plain-requires
-    returns
-    place-requires
-    place-requires-2
-    equals-next-requires
-    shared-slice-read-b
-    either-requires
-    sub-text-token
-    part-text-token-start
-    part-text-token-end
-    text-token-requires
-    plain-requires-2
-    plain-requires-3
-    plain-requires-4
-    either-requires-2
-    plain-requires-5
-    either-requires-3
-    plain-requires-6
-    plain-requires-7
-    word-token-requires
-    returns-2
-    returns-3
-    returns-4
-    returns-5
-    returns-6
-    returns-7
-    returns-8
-    returns-9
-    returns-10
-    returns-11
-    returns-12)
+    (λ c κs. search needs) returns (λ c κs. search needs) (λ c κs. search needs) (λ c κs. search needs) (λ c. search needs) (λ c κs. search needs)
+    (λ c. search needs) (λ c. search needs) (λ c. search needs) (λ c κs. search needs) (λ c κs. search needs) (λ c κs. search needs) (λ c κs. search needs)
+    (λ c κs. search needs) (λ c κs. search needs) (λ c κs. search needs) (λ c κs. search needs) (λ c κs. search needs) (λ c κs. search needs) returns-2
+    returns-3 returns-4 returns-5 returns-6 returns-7 returns-8 returns-9 returns-10 returns-11 returns-12)

@@ -8,35 +8,14 @@ use borrow.Author.Needs.{needs}
 use Rattle.tokens.proofs.word_in.Statement.{statement}
 use Rattle.tokens.proofs.word_in.Tie as tie
 
-capital-of-requires : tie.Need-capital-of-requires
-capital-of-requires c κs = search needs
-
-plain-code-requires : tie.Need-plain-code-requires
-plain-code-requires c κs = search needs
-
 returns : tie.Need-returns
 returns c =
     c .plain-code .ensures ∙ sym (capital (c .before .before .before .before .args .w .now) (c .before .before .capital-of .result) (c .before .before .capital-of .ensures) (c .before .if1 .taken))
-
-int-of-requires : tie.Need-int-of-requires
-int-of-requires c κs = search needs
-
-enum-known-i : tie.Need-enum-known-i
-enum-known-i c = search needs
-
-cast-t6 : tie.Need-cast-t6
-cast-t6 c = search needs
 
 returns-2 : tie.Need-returns-2
 returns-2 c =
     let w = c .before .before .before .before .before .before .before .args .w .now in
     sym (number w (no-capital w (sym (c .before .before .before .before .if1 .left) ∙ c .before .before .before .before .before .capital-of .ensures)) (c .before .i .given .0 .0) (sym (c .before .before .before .int-of .ensures) ∙ c .before .i .given .1))
-
-enum-told : tie.Need-enum-told
-enum-told c = search needs
-
-name-in-requires : tie.Need-name-in-requires
-name-in-requires c κs = search needs
 
 returns-3 : tie.Need-returns-3
 returns-3 c =
@@ -48,13 +27,5 @@ pub word-in-spec : {M : Type 1} → statement M
 word-in-spec =
     tie.close
     (tie.spec
-    capital-of-requires
-    plain-code-requires
-    returns
-    int-of-requires
-    enum-known-i
-    cast-t6
-    returns-2
-    enum-told
-    name-in-requires
-    returns-3)
+    (λ c κs. search needs) (λ c κs. search needs) returns (λ c κs. search needs) (λ c. search needs) (λ c. search needs) returns-2 (λ c. search needs)
+    (λ c κs. search needs) returns-3)

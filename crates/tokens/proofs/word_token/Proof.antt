@@ -12,19 +12,10 @@ use borrow.Author.Needs.{needs}
 use Rattle.tokens.proofs.word_token.Statement.{statement}
 use Rattle.tokens.proofs.word_token.Tie as tie
 
-run-length-requires : tie.Need-run-length-requires
-run-length-requires c κs = search needs
-
 slice-aggregate-word-in : tie.Need-slice-aggregate-word-in
 slice-aggregate-word-in c =
     let s = c .before .before .before .args .s .now in
     sym (length-take-le (c .before .run-length .result) s (omega (arith, c .before .run-length .ensures, lead-le (inRun 1) s)))
-
-word-in-requires : tie.Need-word-in-requires
-word-in-requires c κs = search needs
-
-plain-requires : tie.Need-plain-requires
-plain-requires c κs = search needs
 
 returns : tie.Need-returns
 returns c =
@@ -33,9 +24,6 @@ returns c =
     c .plain .ensures
     ∙ sym (no-word (a .n) s (c .before .before .before .word-in .result)
     (c .before .before .before .word-in .ensures ∙ ap (λ (e : ℕ). codedToken (readWord (take e s))) (c .before .before .before .before .before .run-length .ensures)) (c .before .if1 .taken))
-
-place-requires : tie.Need-place-requires
-place-requires c κs = search needs
 
 returns-2 : tie.Need-returns-2
 returns-2 c =
@@ -50,10 +38,4 @@ pub word-token-spec : {M : Type 1} → statement M
 word-token-spec =
     tie.close
     (tie.spec
-    run-length-requires
-    slice-aggregate-word-in
-    word-in-requires
-    plain-requires
-    returns
-    place-requires
-    returns-2)
+    (λ c κs. search needs) slice-aggregate-word-in (λ c κs. search needs) (λ c κs. search needs) returns (λ c κs. search needs) returns-2)

@@ -16,12 +16,6 @@ sub-e c = let (a, b, d, e) = room-text (c .before .before .before .before .befor
 sub-a : tie.Need-sub-a
 sub-a c = let (a, b, d, e) = room-text (c .before .before .before .before .before .pre .1) (c .before .match .keys3) in omega arith
 
-sub-write-text : tie.Need-sub-write-text
-sub-write-text c = search needs
-
-part-write-text-start : tie.Need-part-write-text-start
-part-write-text-start c = search needs
-
 part-write-text-end : tie.Need-part-write-text-end
 part-write-text-end c = let (a, b, d, e) = room-text (c .before .before .before .before .before .pre .1) (c .before .match .keys3) in omega arith
 
@@ -37,26 +31,14 @@ write-kind-requires c κs = room-some (c .before .before .before .before .before
 returns : tie.Need-returns
 returns c = wrote-end (c .match .keys1)
 
-same-length : tie.Need-same-length
-same-length c = search needs
-
 returns-2 : tie.Need-returns-2
 returns-2 c = let w = c .before .before .write-int in wrote-int (c .before .before .before .before .match .keys2) (w .ensures .0) (w .ensures .1)
-
-same-length-2 : tie.Need-same-length-2
-same-length-2 c = search needs
 
 returns-3 : tie.Need-returns-3
 returns-3 c = let w = c .before .before .write-text in wrote-text (c .before .before .before .before .before .before .match .keys3) _ refl (w .ensures .0) (w .ensures .1)
 
-same-length-3 : tie.Need-same-length-3
-same-length-3 c = search needs
-
 returns-4 : tie.Need-returns-4
 returns-4 c = let w = c .before .before .write-name in wrote-name (c .before .before .before .before .match .keys4) (w .ensures)
-
-same-length-4 : tie.Need-same-length-4
-same-length-4 c = search needs
 
 returns-5 : tie.Need-returns-5
 returns-5 c =
@@ -68,21 +50,5 @@ pub write-spec : {M : Type 1} → statement M
 write-spec =
     tie.close
     (tie.spec
-    write-int-requires
-    sub-e
-    sub-a
-    sub-write-text
-    part-write-text-start
-    part-write-text-end
-    write-text-requires
-    write-name-requires
-    write-kind-requires
-    returns
-    same-length
-    returns-2
-    same-length-2
-    returns-3
-    same-length-3
-    returns-4
-    same-length-4
-    returns-5)
+    write-int-requires sub-e sub-a (λ c. search needs) (λ c. search needs) part-write-text-end write-text-requires write-name-requires write-kind-requires
+    returns (λ c. search needs) returns-2 (λ c. search needs) returns-3 (λ c. search needs) returns-4 (λ c. search needs) returns-5)

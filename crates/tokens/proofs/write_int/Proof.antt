@@ -10,50 +10,17 @@ use borrow.Author.Needs.{needs}
 use Rattle.tokens.proofs.write_int.Statement.{statement}
 use Rattle.tokens.proofs.write_int.Tie as tie
 
-slice-write-code : tie.Need-slice-write-code
-slice-write-code c = search needs
-
-low-byte-requires : tie.Need-low-byte-requires
-low-byte-requires c κs = search needs
-
-add-code : tie.Need-add-code
-add-code c = search needs
-
 slice-write-code-2 : tie.Need-slice-write-code-2
 slice-write-code-2 c = simp length-set (omega arith)
-
-low-byte-requires-2 : tie.Need-low-byte-requires-2
-low-byte-requires-2 c κs = search needs
-
-add-code-2 : tie.Need-add-code-2
-add-code-2 c = search needs
 
 slice-write-code-3 : tie.Need-slice-write-code-3
 slice-write-code-3 c = simp length-set (omega arith)
 
-low-byte-requires-3 : tie.Need-low-byte-requires-3
-low-byte-requires-3 c κs = search needs
-
-add-code-3 : tie.Need-add-code-3
-add-code-3 c = search needs
-
 slice-write-code-4 : tie.Need-slice-write-code-4
 slice-write-code-4 c = simp length-set (omega arith)
 
-low-byte-requires-4 : tie.Need-low-byte-requires-4
-low-byte-requires-4 c κs = search needs
-
-add-code-4 : tie.Need-add-code-4
-add-code-4 c = search needs
-
 slice-write-code-5 : tie.Need-slice-write-code-5
 slice-write-code-5 c = simp length-set (omega arith)
-
-add-t8 : tie.Need-add-t8
-add-t8 c = search needs
-
-same-length : tie.Need-same-length
-same-length c = search needs
 
 returns : tie.Need-returns
 returns c =
@@ -72,19 +39,6 @@ pub write-int-spec : {M : Type 1} → statement M
 write-int-spec =
     tie.close
     (tie.spec
-    slice-write-code
-    low-byte-requires
-    add-code
-    slice-write-code-2
-    low-byte-requires-2
-    add-code-2
-    slice-write-code-3
-    low-byte-requires-3
-    add-code-3
-    slice-write-code-4
-    low-byte-requires-4
-    add-code-4
-    slice-write-code-5
-    add-t8
-    same-length
-    returns)
+    (λ c. search needs) (λ c κs. search needs) (λ c. search needs) slice-write-code-2 (λ c κs. search needs) (λ c. search needs) slice-write-code-3
+    (λ c κs. search needs) (λ c. search needs) slice-write-code-4 (λ c κs. search needs) (λ c. search needs) slice-write-code-5 (λ c. search needs)
+    (λ c. search needs) returns)

@@ -23,26 +23,8 @@ above : (o : Option ℕ) (k : ℕ) → k ≡ numberOr 32 o → 32 ≤ k → ((n 
 above none k e h f = (refl, refl)
 above (some n) k e h f = absurd (omega (arith, f n refl))
 
-attribute-number-requires : tie.Need-attribute-number-requires
-attribute-number-requires c κs = search needs
-
-slice-write-code : tie.Need-slice-write-code
-slice-write-code c = search needs
-
-cast-code : tie.Need-cast-code
-cast-code c = search needs
-
-add-code : tie.Need-add-code
-add-code c = search needs
-
 slice-write-code-2 : tie.Need-slice-write-code-2
 slice-write-code-2 c = simp length-set (omega arith)
-
-add-t9 : tie.Need-add-t9
-add-t9 c = search needs
-
-same-length : tie.Need-same-length
-same-length c = search needs
 
 returns : tie.Need-returns
 returns c =
@@ -56,17 +38,8 @@ returns c =
           (x, sym y);
     }
 
-add-code-2 : tie.Need-add-code-2
-add-code-2 c = search needs
-
 slice-write-code-3 : tie.Need-slice-write-code-3
 slice-write-code-3 c = simp length-set (omega arith)
-
-add-t11 : tie.Need-add-t11
-add-t11 c = search needs
-
-same-length-2 : tie.Need-same-length-2
-same-length-2 c = search needs
 
 returns-2 : tie.Need-returns-2
 returns-2 c =
@@ -83,16 +56,5 @@ pub write-name-spec : {M : Type 1} → statement M
 write-name-spec =
     tie.close
     (tie.spec
-    attribute-number-requires
-    slice-write-code
-    cast-code
-    add-code
-    slice-write-code-2
-    add-t9
-    same-length
-    returns
-    add-code-2
-    slice-write-code-3
-    add-t11
-    same-length-2
-    returns-2)
+    (λ c κs. search needs) (λ c. search needs) (λ c. search needs) (λ c. search needs) slice-write-code-2 (λ c. search needs) (λ c. search needs) returns
+    (λ c. search needs) slice-write-code-3 (λ c. search needs) (λ c. search needs) returns-2)

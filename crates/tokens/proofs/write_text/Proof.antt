@@ -8,23 +8,8 @@ use borrow.Author.Needs.{needs}
 use Rattle.tokens.proofs.write_text.Statement.{statement}
 use Rattle.tokens.proofs.write_text.Tie as tie
 
-slice-write-code : tie.Need-slice-write-code
-slice-write-code c = search needs
-
-cast-code : tie.Need-cast-code
-cast-code c = search needs
-
-add-code : tie.Need-add-code
-add-code c = search needs
-
 slice-write-code-2 : tie.Need-slice-write-code-2
 slice-write-code-2 c = simp length-set (omega arith)
-
-add-put : tie.Need-add-put
-add-put c = search needs
-
-put-requires : tie.Need-put-requires
-put-requires c κs = search needs
 
 same-length : tie.Need-same-length
 same-length c = laid-length (c .before .before .put .ensures) ∙ simp length-set
@@ -38,11 +23,4 @@ pub write-text-spec : {M : Type 1} → statement M
 write-text-spec =
     tie.close
     (tie.spec
-    slice-write-code
-    cast-code
-    add-code
-    slice-write-code-2
-    add-put
-    put-requires
-    same-length
-    returns)
+    (λ c. search needs) (λ c. search needs) (λ c. search needs) slice-write-code-2 (λ c. search needs) (λ c κs. search needs) same-length returns)

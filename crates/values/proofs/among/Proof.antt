@@ -9,15 +9,6 @@ use Rattle.values.proofs.AttributeValues.{session-values, block-values,
 use Rattle.values.proofs.among.Statement.{statement}
 use Rattle.values.proofs.among.Tie as tie
 
-among-pairs-requires : tie.Need-among-pairs-requires
-among-pairs-requires c κs = search needs
-
-among-entries-requires : tie.Need-among-entries-requires
-among-entries-requires c κs = search needs
-
-among-constants-requires : tie.Need-among-constants-requires
-among-constants-requires c κs = search needs
-
 returns : tie.Need-returns
 returns c =
     let a = c .before .before .before .before .before .args in
@@ -41,9 +32,4 @@ pub among-spec : {M : Type 1} → statement M
 among-spec =
     tie.close
     (tie.spec
-    among-pairs-requires
-    among-entries-requires
-    among-constants-requires
-    returns
-    returns-2
-    returns-3)
+    (λ c κs. search needs) (λ c κs. search needs) (λ c κs. search needs) returns returns-2 returns-3)

@@ -8,12 +8,6 @@ use Rattle.values.proofs.Constants.{strs-of, ints-of}
 use Rattle.values.proofs.among_constants.Statement.{statement}
 use Rattle.values.proofs.among_constants.Tie as tie
 
-among-strs-requires : tie.Need-among-strs-requires
-among-strs-requires c κs = search needs
-
-among-ints-requires : tie.Need-among-ints-requires
-among-ints-requires c κs = search needs
-
 returns : tie.Need-returns
 returns c =
     let a = c .before .before .before .args in
@@ -25,4 +19,4 @@ returns-2 c =
     c .among-ints .ensures ∙ ap (λ (l : List Words). amongOf l (a .wanted)) (ints-of (a .kind) (a .code .now) (a .end) (a .start) (c .before .if1 .left))
 
 pub among-constants-spec : {M : Type 1} → statement M
-among-constants-spec = tie.close (tie.spec among-strs-requires among-ints-requires returns returns-2)
+among-constants-spec = tie.close (tie.spec (λ c κs. search needs) (λ c κs. search needs) returns returns-2)

@@ -17,21 +17,12 @@ abbrev μ-loop : tie.MeasureT-loop
 loop-holds : tie.Need-loop-holds Inv-loop μ-loop
 loop-holds c = let a = c .before .args in searching-start (constantsFrom 2 (a .code .now) (a .end)) (a .wanted) (a .start)
 
-str-at-requires : tie.Need-str-at-requires Inv-loop μ-loop
-str-at-requires c κs = search needs
-
-at-end-requires : tie.Need-at-end-requires Inv-loop μ-loop
-at-end-requires c κs = search needs
-
 returns : tie.Need-returns Inv-loop μ-loop
 returns c =
     let a = c .before .before .before .before .before .before .args in
     let here = c .before .before .before .before .loop in
     let found = c .before .before .before .str-at in
     searching-end (constantsFrom 2 (a .code .now) (a .end)) (here .i) (found .result) (strs-find (a .code .now) (a .end) (here .i) (found .result) (found .ensures)) (a .wanted) (a .start) (here .some) (here .inv) (not-true _ (c .before .if1 .taken)) _ (c .at-end .ensures)
-
-same-requires : tie.Need-same-requires Inv-loop μ-loop
-same-requires c κs = search needs
 
 returns-2 : tie.Need-returns-2 Inv-loop μ-loop
 returns-2 c =
@@ -58,13 +49,4 @@ pub among-strs-spec : {M : Type 1} → statement M
 among-strs-spec =
     tie.close
     (tie.spec
-    Inv-loop
-    μ-loop
-    loop-holds
-    str-at-requires
-    at-end-requires
-    returns
-    same-requires
-    returns-2
-    loop-less
-    loop-again)
+    Inv-loop μ-loop loop-holds (λ c κs. search needs) (λ c κs. search needs) returns (λ c κs. search needs) returns-2 loop-less loop-again)

@@ -44,9 +44,6 @@ returns-3 c =
     without-right low high said (least .result .here) (least .ensures .there) (not-false _ (c .before .before .before .if2 .left))
     (greatest .result .here) (greatest .ensures .there) (not-true _ (c .if3 .taken))
 
-tested-requires : tie.Need-tested-requires
-tested-requires c κs = search needs
-
 returns-4 : tie.Need-returns-4
 returns-4 c =
     let a = c .before .before .before .before .before .before .before .before .before .before .before .before .before .before .before .args in
@@ -60,9 +57,6 @@ returns-4 c =
     ∙ at-most (a .low .kind) (a .equal) low high (c .before .before .before .before .before .before .before .before .before .before .if1 .left) (c .before .before .before .if4 .taken)
     ∙ with-both low high said (least .result .here) (least .ensures .there) (not-false _ (c .before .before .before .before .before .before .before .if2 .left))
     (greatest .result .here) (greatest .ensures .there) (not-false _ (c .before .before .before .before .if3 .left))
-
-tested-requires-2 : tie.Need-tested-requires-2
-tested-requires-2 c κs = search needs
 
 returns-5 : tie.Need-returns-5
 returns-5 c =
@@ -82,12 +76,4 @@ pub below-spec : {M : Type 1} → statement M
 below-spec =
     tie.close
     (tie.spec
-    returns
-    extreme-requires
-    returns-2
-    extreme-requires-2
-    returns-3
-    tested-requires
-    returns-4
-    tested-requires-2
-    returns-5)
+    returns extreme-requires returns-2 extreme-requires-2 returns-3 (λ c κs. search needs) returns-4 (λ c κs. search needs) returns-5)

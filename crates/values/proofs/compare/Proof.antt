@@ -13,27 +13,6 @@ returns c =
     let a = c .before .before .before .before .before .before .args in
     types-differ (lent (a .code .now) (a .pairs .now) (a .session .now) (a .entries .now)) (a .operator) (a .left) (a .right) (c .if1 .taken)
 
-none-found-requires : tie.Need-none-found-requires
-none-found-requires c κs = search needs
-
-none-found-requires-2 : tie.Need-none-found-requires-2
-none-found-requires-2 c κs = search needs
-
-below-requires : tie.Need-below-requires
-below-requires c κs = search needs
-
-below-requires-2 : tie.Need-below-requires-2
-below-requires-2 c κs = search needs
-
-below-requires-3 : tie.Need-below-requires-3
-below-requires-3 c κs = search needs
-
-below-requires-4 : tie.Need-below-requires-4
-below-requires-4 c κs = search needs
-
-some-found-requires : tie.Need-some-found-requires
-some-found-requires c κs = search needs
-
 returns-2 : tie.Need-returns-2
 returns-2 c =
     let a = c .before .before .before .before .before .before .before .before .args in
@@ -85,20 +64,5 @@ pub compare-spec : {M : Type 1} → statement M
 compare-spec =
     tie.close
     (tie.spec
-    returns
-    none-found-requires
-    none-found-requires-2
-    below-requires
-    below-requires-2
-    below-requires-3
-    below-requires-4
-    some-found-requires
-    returns-2
-    returns-3
-    returns-4
-    returns-5
-    returns-6
-    returns-7
-    returns-8
-    returns-9
-    returns-10)
+    returns (λ c κs. search needs) (λ c κs. search needs) (λ c κs. search needs) (λ c κs. search needs) (λ c κs. search needs) (λ c κs. search needs)
+    (λ c κs. search needs) returns-2 returns-3 returns-4 returns-5 returns-6 returns-7 returns-8 returns-9 returns-10)

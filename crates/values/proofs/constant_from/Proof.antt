@@ -5,12 +5,6 @@ use borrow.Author.Needs.{needs}
 use Rattle.values.proofs.constant_from.Statement.{statement}
 use Rattle.values.proofs.constant_from.Tie as tie
 
-str-at-requires : tie.Need-str-at-requires
-str-at-requires c κs = search needs
-
-int-at-requires : tie.Need-int-at-requires
-int-at-requires c κs = search needs
-
 returns : tie.Need-returns
 returns c =
     let a = c .before .before .before .args in
@@ -22,4 +16,4 @@ returns-2 c =
     constants-find (a .kind) (a .code .now) (a .end) (a .i) (c .int-at .result) (c .int-at .ensures ∙ as-int (a .kind) (a .code .now) (a .end) (a .i) (c .before .if1 .left))
 
 pub constant-from-spec : {M : Type 1} → statement M
-constant-from-spec = tie.close (tie.spec str-at-requires int-at-requires returns returns-2)
+constant-from-spec = tie.close (tie.spec (λ c κs. search needs) (λ c κs. search needs) returns returns-2)

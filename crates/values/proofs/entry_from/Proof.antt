@@ -7,31 +7,10 @@ use borrow.Author.Needs.{needs}
 use Rattle.values.proofs.entry_from.Statement.{statement}
 use Rattle.values.proofs.entry_from.Tie as tie
 
-entry-number-requires : tie.Need-entry-number-requires
-entry-number-requires c κs = search needs
-
-nothing-requires : tie.Need-nothing-requires
-nothing-requires c κs = search needs
-
 returns : tie.Need-returns
 returns c =
     let a = c .before .before .before .before .args in
     entry-end (a .entries .now) (a .kind) (a .k) (a .i) (c .before .before .entry-number .result) (c .before .before .entry-number .ensures) (c .nothing .result) (c .nothing .ensures) (c .before .if1 .taken)
-
-mul-four : tie.Need-mul-four
-mul-four c = search needs
-
-add-four : tie.Need-add-four
-add-four c = search needs
-
-four-requires : tie.Need-four-requires
-four-requires c κs = search needs
-
-entry-words-requires : tie.Need-entry-words-requires
-entry-words-requires c κs = search needs
-
-add-t11 : tie.Need-add-t11
-add-t11 c = search needs
 
 returns-2 : tie.Need-returns-2
 returns-2 c =
@@ -42,12 +21,5 @@ pub entry-from-spec : {M : Type 1} → statement M
 entry-from-spec =
     tie.close
     (tie.spec
-    entry-number-requires
-    nothing-requires
-    returns
-    mul-four
-    add-four
-    four-requires
-    entry-words-requires
-    add-t11
-    returns-2)
+    (λ c κs. search needs) (λ c κs. search needs) returns (λ c. search needs) (λ c. search needs) (λ c κs. search needs) (λ c κs. search needs)
+    (λ c. search needs) returns-2)

@@ -28,9 +28,6 @@ mul-wide c = omega arith
 shared-slice-read-wide : tie.Need-shared-slice-read-wide Inv-loop μ-loop
 shared-slice-read-wide c = omega arith
 
-wide-requires : tie.Need-wide-requires Inv-loop μ-loop
-wide-requires c κs = search needs
-
 returns : tie.Need-returns Inv-loop μ-loop
 returns c = record { lower = λ m a b l. c .before .before .before .before .loop .inv .0 m a b; held = λ l. (c .before .before .before .before .loop .inv .1, eq-eqb _ _ (sym (c .before .wide .ensures .0) ∙ c .if1 .taken)) }
 
@@ -52,14 +49,4 @@ pub entry-number-spec : {M : Type 1} → statement M
 entry-number-spec =
     tie.close
     (tie.spec
-    Inv-loop
-    μ-loop
-    loop-holds
-    mul-wide
-    shared-slice-read-wide
-    wide-requires
-    returns
-    add-j
-    loop-less
-    loop-again
-    returns-2)
+    Inv-loop μ-loop loop-holds mul-wide shared-slice-read-wide (λ c κs. search needs) returns add-j loop-less loop-again returns-2)

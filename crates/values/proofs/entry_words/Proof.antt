@@ -5,20 +5,11 @@ use borrow.Author.Needs.{needs}
 use Rattle.values.proofs.entry_words.Statement.{statement}
 use Rattle.values.proofs.entry_words.Tie as tie
 
-one-word-requires : tie.Need-one-word-requires
-one-word-requires c κs = search needs
-
 returns : tie.Need-returns
 returns c = c .one-word .ensures ∙ entry-number (c .before .before .args .kind) (c .before .before .args .v) (c .before .if1 .taken)
 
-one-word-requires-2 : tie.Need-one-word-requires-2
-one-word-requires-2 c κs = search needs
-
 returns-2 : tie.Need-returns-2
 returns-2 c = c .one-word2 .ensures ∙ entry-true (c .before .before .before .args .kind) (c .before .before .before .args .v) (c .before .before .if1 .left) (c .before .if2 .taken)
-
-one-word-requires-3 : tie.Need-one-word-requires-3
-one-word-requires-3 c κs = search needs
 
 returns-3 : tie.Need-returns-3
 returns-3 c = c .one-word3 .ensures ∙ entry-false (c .before .before .before .args .kind) (c .before .before .before .args .v) (c .before .before .if1 .left) (c .before .if2 .left)
@@ -27,9 +18,4 @@ pub entry-words-spec : {M : Type 1} → statement M
 entry-words-spec =
     tie.close
     (tie.spec
-    one-word-requires
-    returns
-    one-word-requires-2
-    returns-2
-    one-word-requires-3
-    returns-3)
+    (λ c κs. search needs) returns (λ c κs. search needs) returns-2 (λ c κs. search needs) returns-3)

@@ -10,15 +10,6 @@ use Rattle.values.proofs.AttributeValues.{session-values, block-values,
 use Rattle.values.proofs.extreme.Statement.{statement}
 use Rattle.values.proofs.extreme.Tie as tie
 
-extreme-pairs-requires : tie.Need-extreme-pairs-requires
-extreme-pairs-requires c κs = search needs
-
-extreme-entries-requires : tie.Need-extreme-entries-requires
-extreme-entries-requires c κs = search needs
-
-extreme-ints-requires : tie.Need-extreme-ints-requires
-extreme-ints-requires c κs = search needs
-
 returns : tie.Need-returns
 returns c =
     let a = c .before .before .before .before .before .args in
@@ -44,9 +35,4 @@ pub extreme-spec : {M : Type 1} → statement M
 extreme-spec =
     tie.close
     (tie.spec
-    extreme-pairs-requires
-    extreme-entries-requires
-    extreme-ints-requires
-    returns
-    returns-2
-    returns-3)
+    (λ c κs. search needs) (λ c κs. search needs) (λ c κs. search needs) returns returns-2 returns-3)

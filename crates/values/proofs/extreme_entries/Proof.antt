@@ -13,14 +13,8 @@ Inv-loop entries k greatest some₀ best₀ i₀ some best i = Nearing (entriesF
 abbrev μ-loop : tie.MeasureT-loop
 μ-loop entries k greatest some₀ best₀ i₀ some best i = length (entriesFrom entries 1 k i)
 
-start-of-requires : tie.Need-start-of-requires Inv-loop μ-loop
-start-of-requires c κs = search needs
-
 loop-holds : tie.Need-loop-holds Inv-loop μ-loop
 loop-holds c = let a = c .before .before .args in nearing-start (entriesFrom (a .entries .now) 1 (a .k)) (a .greatest) 0 (c .start-of .result) (c .start-of .ensures)
-
-entry-from-requires : tie.Need-entry-from-requires Inv-loop μ-loop
-entry-from-requires c κs = search needs
 
 returns : tie.Need-returns Inv-loop μ-loop
 returns c =
@@ -28,9 +22,6 @@ returns c =
     let here = c .before .before .before .loop in
     let found = c .before .before .entry-from in
     nearing-end (entriesFrom (a .entries .now) 1 (a .k)) (here .i) (found .result) (found .ensures) (a .greatest) 0 (here .some) (here .best) (here .inv) (not-true _ (c .if1 .taken))
-
-further-requires : tie.Need-further-requires Inv-loop μ-loop
-further-requires c κs = search needs
 
 loop-less : tie.Need-loop-less Inv-loop μ-loop
 loop-less c =
@@ -50,12 +41,4 @@ pub extreme-entries-spec : {M : Type 1} → statement M
 extreme-entries-spec =
     tie.close
     (tie.spec
-    Inv-loop
-    μ-loop
-    start-of-requires
-    loop-holds
-    entry-from-requires
-    returns
-    further-requires
-    loop-less
-    loop-again)
+    Inv-loop μ-loop (λ c κs. search needs) loop-holds (λ c κs. search needs) returns (λ c κs. search needs) loop-less loop-again)

@@ -14,14 +14,8 @@ Inv-loop code start end greatest some₀ best₀ i₀ some best i = Nearing (con
 abbrev μ-loop : tie.MeasureT-loop
 μ-loop code start end greatest some₀ best₀ i₀ some best i = length (constantsFrom 1 code end i)
 
-start-of-requires : tie.Need-start-of-requires Inv-loop μ-loop
-start-of-requires c κs = search needs
-
 loop-holds : tie.Need-loop-holds Inv-loop μ-loop
 loop-holds c = let a = c .before .before .args in nearing-start (constantsFrom 1 (a .code .now) (a .end)) (a .greatest) (a .start) (c .start-of .result) (c .start-of .ensures)
-
-int-at-requires : tie.Need-int-at-requires Inv-loop μ-loop
-int-at-requires c κs = search needs
 
 returns : tie.Need-returns Inv-loop μ-loop
 returns c =
@@ -29,9 +23,6 @@ returns c =
     let here = c .before .before .before .loop in
     let found = c .before .before .int-at in
     nearing-end (constantsFrom 1 (a .code .now) (a .end)) (here .i) (found .result) (ints-find (a .code .now) (a .end) (here .i) (found .result) (found .ensures)) (a .greatest) (a .start) (here .some) (here .best) (here .inv) (not-true _ (c .if1 .taken))
-
-further-requires : tie.Need-further-requires Inv-loop μ-loop
-further-requires c κs = search needs
 
 loop-less : tie.Need-loop-less Inv-loop μ-loop
 loop-less c =
@@ -51,12 +42,4 @@ pub extreme-ints-spec : {M : Type 1} → statement M
 extreme-ints-spec =
     tie.close
     (tie.spec
-    Inv-loop
-    μ-loop
-    start-of-requires
-    loop-holds
-    int-at-requires
-    returns
-    further-requires
-    loop-less
-    loop-again)
+    Inv-loop μ-loop (λ c κs. search needs) loop-holds (λ c κs. search needs) returns (λ c κs. search needs) loop-less loop-again)

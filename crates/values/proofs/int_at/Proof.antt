@@ -10,41 +10,20 @@ use borrow.Author.Needs.{needs}
 use Rattle.values.proofs.int_at.Statement.{statement}
 use Rattle.values.proofs.int_at.Tie as tie
 
-nothing-requires : tie.Need-nothing-requires
-nothing-requires c κs = search needs
-
 returns : tie.Need-returns
 returns c =
     let a = c .before .before .before .args in
     c .nothing .ensures ∙ int-beyond (a .code .now) (a .end) (a .i) (c .before .if1 .taken)
-
-nothing-requires-2 : tie.Need-nothing-requires-2
-nothing-requires-2 c κs = search needs
 
 returns-2 : tie.Need-returns-2
 returns-2 c =
     let a = c .before .before .before .before .args in
     c .nothing2 .ensures ∙ int-short (a .code .now) (a .end) (a .i) (omega arith) (omega arith)
 
-nothing-requires-3 : tie.Need-nothing-requires-3
-nothing-requires-3 c κs = search needs
-
 returns-3 : tie.Need-returns-3
 returns-3 c =
     let a = c .before .before .before .before .before .args in
     c .nothing3 .ensures ∙ int-short (a .code .now) (a .end) (a .i) (omega arith) (omega arith)
-
-add-four : tie.Need-add-four
-add-four c = search needs
-
-four-requires : tie.Need-four-requires
-four-requires c κs = search needs
-
-one-word-requires : tie.Need-one-word-requires
-one-word-requires c κs = search needs
-
-add-t8 : tie.Need-add-t8
-add-t8 c = search needs
 
 returns-4 : tie.Need-returns-4
 returns-4 c =
@@ -55,14 +34,5 @@ pub int-at-spec : {M : Type 1} → statement M
 int-at-spec =
     tie.close
     (tie.spec
-    nothing-requires
-    returns
-    nothing-requires-2
-    returns-2
-    nothing-requires-3
-    returns-3
-    add-four
-    four-requires
-    one-word-requires
-    add-t8
-    returns-4)
+    (λ c κs. search needs) returns (λ c κs. search needs) returns-2 (λ c κs. search needs) returns-3 (λ c. search needs) (λ c κs. search needs)
+    (λ c κs. search needs) (λ c. search needs) returns-4)

@@ -18,34 +18,16 @@ Inv-loop code pairs session entries left right wanted some₀ i₀ some i = soug
 abbrev μ-loop : tie.MeasureT-loop
 μ-loop code pairs session entries left right wanted some₀ i₀ some i = length (valuesFrom (lent code pairs session entries) left i)
 
-first-requires : tie.Need-first-requires Inv-loop μ-loop
-first-requires c κs = search needs
-
 loop-holds : tie.Need-loop-holds Inv-loop μ-loop
 unfolding foundOf
 loop-holds c =
     let a = c .before .before .before .before .args in
     ap (λ (i : ℕ). soughtFrom (λ (w : Words). asked (a .wanted) (amongOf (operandValues (lent (a .code .now) (a .pairs .now) (a .session .now) (a .entries .now)) (a .right)) w)) false ((valuesFrom (lent (a .code .now) (a .pairs .now) (a .session .now) (a .entries .now)) (a .left)) i)) (c .first .ensures)
 
-value-from-requires : tie.Need-value-from-requires Inv-loop μ-loop
-value-from-requires c κs = search needs
-
-at-end-requires : tie.Need-at-end-requires Inv-loop μ-loop
-at-end-requires c κs = search needs
-
 returns : tie.Need-returns Inv-loop μ-loop
 returns c =
     let a = c .before .before .before .before .before .before .before .before .before .args in
     c .at-end .ensures ∙ sym (sought-none (valuesFrom (lent (a .code .now) (a .pairs .now) (a .session .now) (a .entries .now)) (a .left)) (c .before .before .before .before .loop .i) (c .before .before .before .value-from .result) (c .before .before .before .value-from .ensures) (λ (w : Words). asked (a .wanted) (amongOf (operandValues (lent (a .code .now) (a .pairs .now) (a .session .now) (a .entries .now)) (a .right)) w)) (c .before .before .before .before .loop .some) (not-true _ (c .before .if1 .taken))) ∙ c .before .before .before .before .loop .inv
-
-among-requires : tie.Need-among-requires Inv-loop μ-loop
-among-requires c κs = search needs
-
-asked-requires : tie.Need-asked-requires Inv-loop μ-loop
-asked-requires c κs = search needs
-
-is-false-requires : tie.Need-is-false-requires Inv-loop μ-loop
-is-false-requires c κs = search needs
 
 returns-2 : tie.Need-returns-2 Inv-loop μ-loop
 returns-2 c =
@@ -66,16 +48,5 @@ pub some-found-spec : {M : Type 1} → statement M
 some-found-spec =
     tie.close
     (tie.spec
-    Inv-loop
-    μ-loop
-    first-requires
-    loop-holds
-    value-from-requires
-    at-end-requires
-    returns
-    among-requires
-    asked-requires
-    is-false-requires
-    returns-2
-    loop-less
-    loop-again)
+    Inv-loop μ-loop (λ c κs. search needs) loop-holds (λ c κs. search needs) (λ c κs. search needs) returns (λ c κs. search needs) (λ c κs. search needs)
+    (λ c κs. search needs) returns-2 loop-less loop-again)

@@ -5,15 +5,6 @@ use borrow.Author.Needs.{needs}
 use Rattle.values.proofs.value_from.Statement.{statement}
 use Rattle.values.proofs.value_from.Tie as tie
 
-pair-from-requires : tie.Need-pair-from-requires
-pair-from-requires c κs = search needs
-
-entry-from-requires : tie.Need-entry-from-requires
-entry-from-requires c κs = search needs
-
-constant-from-requires : tie.Need-constant-from-requires
-constant-from-requires c κs = search needs
-
 returns : tie.Need-returns
 returns c =
     let a = c .before .before .before .before .before .args in
@@ -33,9 +24,4 @@ pub value-from-spec : {M : Type 1} → statement M
 value-from-spec =
     tie.close
     (tie.spec
-    pair-from-requires
-    entry-from-requires
-    constant-from-requires
-    returns
-    returns-2
-    returns-3)
+    (λ c κs. search needs) (λ c κs. search needs) (λ c κs. search needs) returns returns-2 returns-3)

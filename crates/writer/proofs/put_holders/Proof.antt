@@ -5,21 +5,6 @@ use borrow.Author.Needs.{needs}
 use Rattle.writer.proofs.put_holders.Statement.{statement}
 use Rattle.writer.proofs.put_holders.Tie as tie
 
-put-holders-requires : tie.Need-put-holders-requires
-put-holders-requires c κs = search needs
-
-put-holders-requires-2 : tie.Need-put-holders-requires-2
-put-holders-requires-2 c κs = search needs
-
-put-holders-requires-3 : tie.Need-put-holders-requires-3
-put-holders-requires-3 c κs = search needs
-
-put-holders-requires-4 : tie.Need-put-holders-requires-4
-put-holders-requires-4 c κs = search needs
-
-same-length : tie.Need-same-length
-same-length c = search needs
-
 returns : tie.Need-returns
 returns c =
     let p0 = c .before .before .before .before .before .before .before .before .before .before .before .before .before .before .put-holders .ensures in
@@ -32,9 +17,4 @@ pub put-holders-spec : {M : Type 1} → statement M
 put-holders-spec =
     tie.close
     (tie.spec
-    put-holders-requires
-    put-holders-requires-2
-    put-holders-requires-3
-    put-holders-requires-4
-    same-length
-    returns)
+    (λ c κs. search needs) (λ c κs. search needs) (λ c κs. search needs) (λ c κs. search needs) (λ c. search needs) returns)

@@ -6,27 +6,6 @@ use borrow.Author.Needs.{needs}
 use Rattle.writer.proofs.put_text.Statement.{statement}
 use Rattle.writer.proofs.put_text.Tie as tie
 
-slice-aggregate-put : tie.Need-slice-aggregate-put
-slice-aggregate-put c = search needs
-
-put-requires : tie.Need-put-requires
-put-requires c κs = search needs
-
-put-declared-requires : tie.Need-put-declared-requires
-put-declared-requires c κs = search needs
-
-put-holders-requires : tie.Need-put-holders-requires
-put-holders-requires c κs = search needs
-
-put-ties-requires : tie.Need-put-ties-requires
-put-ties-requires c κs = search needs
-
-put-rules-requires : tie.Need-put-rules-requires
-put-rules-requires c κs = search needs
-
-same-length : tie.Need-same-length
-same-length c = search needs
-
 returns : tie.Need-returns
 unfolding bookText
 returns c =
@@ -41,11 +20,5 @@ pub put-text-spec : {M : Type 1} → statement M
 put-text-spec =
     tie.close
     (tie.spec
-    slice-aggregate-put
-    put-requires
-    put-declared-requires
-    put-holders-requires
-    put-ties-requires
-    put-rules-requires
-    same-length
+    (λ c. search needs) (λ c κs. search needs) (λ c κs. search needs) (λ c κs. search needs) (λ c κs. search needs) (λ c κs. search needs) (λ c. search needs)
     returns)

@@ -5,18 +5,6 @@ use borrow.Author.Needs.{needs}
 use Rattle.writer.proofs.put_ties.Statement.{statement}
 use Rattle.writer.proofs.put_ties.Tie as tie
 
-put-key-ups-requires : tie.Need-put-key-ups-requires
-put-key-ups-requires c κs = search needs
-
-put-key-ups-requires-2 : tie.Need-put-key-ups-requires-2
-put-key-ups-requires-2 c κs = search needs
-
-put-values-requires : tie.Need-put-values-requires
-put-values-requires c κs = search needs
-
-same-length : tie.Need-same-length
-same-length c = search needs
-
 returns : tie.Need-returns
 returns c =
     let p0 = c .before .before .before .before .before .before .before .before .before .before .before .before .put-key-ups .ensures in
@@ -27,4 +15,4 @@ returns c =
 pub put-ties-spec : {M : Type 1} → statement M
 put-ties-spec =
     tie.close
-    (tie.spec put-key-ups-requires put-key-ups-requires-2 put-values-requires same-length returns)
+    (tie.spec (λ c κs. search needs) (λ c κs. search needs) (λ c κs. search needs) (λ c. search needs) returns)

@@ -9,9 +9,6 @@ use borrow.Author.Needs.{needs}
 use Rattle.writer.proofs.write.Statement.{statement}
 use Rattle.writer.proofs.write.Tie as tie
 
-length-requires : tie.Need-length-requires
-length-requires c κs = search needs
-
 returns : tie.Need-returns
 returns c =
     let a = c .before .before .before .args in
@@ -26,12 +23,6 @@ returns-2 c =
     let text = bookText (a .book .now) (a .rules .now) in
     (call (over-limit text (a .buffer .now) (subst (λ (k : ℕ). k ≤ length (a .buffer .now)) (l .0 .any) (c .before .if1 .left)) (subst (λ (k : ℕ). 32768 < k) (l .0 .any) (c .if2 .taken))), omega arith)
 
-put-text-requires : tie.Need-put-text-requires
-put-text-requires c κs = search needs
-
-same-length : tie.Need-same-length
-same-length c = search needs
-
 returns-3 : tie.Need-returns-3
 returns-3 c =
     let a = c .before .before .before .before .before .before .before .before .args in
@@ -42,4 +33,4 @@ returns-3 c =
 pub write-spec : {M : Type 1} → statement M
 write-spec =
     tie.close
-    (tie.spec length-requires returns returns-2 put-text-requires same-length returns-3)
+    (tie.spec (λ c κs. search needs) returns returns-2 (λ c κs. search needs) (λ c. search needs) returns-3)

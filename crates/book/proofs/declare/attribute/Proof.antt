@@ -6,40 +6,13 @@ use borrow.Author.Needs.{needs}
 use Rattle.book.proofs.declare.attribute.Statement.{statement}
 use Rattle.book.proofs.declare.attribute.Tie as tie
 
-is-block-text-requires : tie.Need-is-block-text-requires
-is-block-text-requires c κs = search needs
-
 returns : tie.Need-returns
 returns c = (left, attribute-sorted _ _ _ _ _ _ (c .before .is-block-text .ensures) (c .if1 .taken))
-
-sub-attribute-number : tie.Need-sub-attribute-number
-sub-attribute-number c = search needs
-
-part-attribute-number-start : tie.Need-part-attribute-number-start
-part-attribute-number-start c = search needs
-
-part-attribute-number-end : tie.Need-part-attribute-number-end
-part-attribute-number-end c = search needs
-
-attribute-number-requires : tie.Need-attribute-number-requires
-attribute-number-requires c κs = search needs
-
-same-length : tie.Need-same-length
-same-length c = search needs
 
 returns-2 : tie.Need-returns-2
 returns-2 c =
     let sort = c .before .before .before .before in
     (left, attribute-repeated _ _ _ _ _ _ (sort .before .is-block-text .ensures) (sort .if1 .left) _ (c .before .attribute-number .ensures) (c .if2 .taken))
-
-slice-read-wide : tie.Need-slice-read-wide
-slice-read-wide c = search needs
-
-wide-requires : tie.Need-wide-requires
-wide-requires c κs = search needs
-
-same-length-2 : tie.Need-same-length-2
-same-length-2 c = search needs
 
 returns-3 : tie.Need-returns-3
 returns-3 c =
@@ -49,12 +22,6 @@ returns-3 c =
       attribute-full _ _ _ _ _ _ (sort .before .is-block-text .ensures) (sort .if1 .left) _ (new .before .attribute-number .ensures) (new .if2 .left) _
           (c .before .wide .ensures) (omega arith),
     )
-
-put-attribute-requires : tie.Need-put-attribute-requires
-put-attribute-requires c κs = search needs
-
-same-length-3 : tie.Need-same-length-3
-same-length-3 c = search needs
 
 returns-4 : tie.Need-returns-4
 returns-4 c =
@@ -72,18 +39,5 @@ pub attribute-spec : {M : Type 1} → statement M
 attribute-spec =
     tie.close
     (tie.spec
-    is-block-text-requires
-    returns
-    sub-attribute-number
-    part-attribute-number-start
-    part-attribute-number-end
-    attribute-number-requires
-    same-length
-    returns-2
-    slice-read-wide
-    wide-requires
-    same-length-2
-    returns-3
-    put-attribute-requires
-    same-length-3
-    returns-4)
+    (λ c κs. search needs) returns (λ c. search needs) (λ c. search needs) (λ c. search needs) (λ c κs. search needs) (λ c. search needs) returns-2
+    (λ c. search needs) (λ c κs. search needs) (λ c. search needs) returns-3 (λ c κs. search needs) (λ c. search needs) returns-4)

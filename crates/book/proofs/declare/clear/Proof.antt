@@ -7,15 +7,6 @@ use borrow.Author.Needs.{needs}
 use Rattle.book.proofs.declare.clear.Statement.{statement}
 use Rattle.book.proofs.declare.clear.Tie as tie
 
-zero-requires : tie.Need-zero-requires
-zero-requires c κs = search needs
-
-put-holder-requires : tie.Need-put-holder-requires
-put-holder-requires c κs = search needs
-
-same-length : tie.Need-same-length
-same-length c = search needs
-
 returns : tie.Need-returns
 returns c =
     let zeros = c .before .before .before .before .before .before .zero .ensures in
@@ -24,4 +15,4 @@ returns c =
     (holder-same-length _ _ _ _ _ long (omega arith) _ written ∙ zeros .0, emptied _ long (zeros .1) _ written)
 
 pub clear-spec : {M : Type 1} → statement M
-clear-spec = tie.close (tie.spec zero-requires put-holder-requires same-length returns)
+clear-spec = tie.close (tie.spec (λ c κs. search needs) (λ c κs. search needs) (λ c. search needs) returns)

@@ -8,43 +8,13 @@ use borrow.Author.Needs.{needs}
 use Rattle.book.proofs.declare.holder.Statement.{statement}
 use Rattle.book.proofs.declare.holder.Tie as tie
 
-sub-holder-number : tie.Need-sub-holder-number
-sub-holder-number c = search needs
-
-part-holder-number-start : tie.Need-part-holder-number-start
-part-holder-number-start c = search needs
-
-part-holder-number-end : tie.Need-part-holder-number-end
-part-holder-number-end c = search needs
-
-holder-number-requires : tie.Need-holder-number-requires
-holder-number-requires c κs = search needs
-
-same-length : tie.Need-same-length
-same-length c = search needs
-
 returns : tie.Need-returns
 returns c = (left, holder-repeated _ _ _ _ _ (c .before .holder-number .ensures .1) (c .if1 .taken))
-
-slice-read-wide : tie.Need-slice-read-wide
-slice-read-wide c = search needs
-
-wide-requires : tie.Need-wide-requires
-wide-requires c κs = search needs
-
-same-length-2 : tie.Need-same-length-2
-same-length-2 c = search needs
 
 returns-2 : tie.Need-returns-2
 returns-2 c =
     let new = c .before .before .before in
     (left, holder-full _ _ _ _ _ (new .before .holder-number .ensures .1) (new .if1 .left) _ (c .before .wide .ensures) (omega arith))
-
-put-holder-requires : tie.Need-put-holder-requires
-put-holder-requires c κs = search needs
-
-same-length-3 : tie.Need-same-length-3
-same-length-3 c = search needs
 
 returns-3 : tie.Need-returns-3
 returns-3 c =
@@ -59,15 +29,6 @@ returns-3 c =
           (omega (arith, sort .if3 .taken)) _ put,
     )
 
-slice-read-wide-2 : tie.Need-slice-read-wide-2
-slice-read-wide-2 c = search needs
-
-wide-requires-2 : tie.Need-wide-requires-2
-wide-requires-2 c κs = search needs
-
-same-length-4 : tie.Need-same-length-4
-same-length-4 c = search needs
-
 returns-4 : tie.Need-returns-4
 returns-4 c =
     let sort = c .before .before .before in
@@ -78,15 +39,6 @@ returns-4 c =
       group-full _ _ _ _ _ (new .before .holder-number .ensures .1) (new .if1 .left) _ (room .before .wide .ensures) (omega arith)
           (omega (arith, sort .if3 .left)) _ (c .before .wide2 .ensures) (omega arith),
     )
-
-put-holder-requires-2 : tie.Need-put-holder-requires-2
-put-holder-requires-2 c κs = search needs
-
-put-group-requires : tie.Need-put-group-requires
-put-group-requires c κs = search needs
-
-same-length-5 : tie.Need-same-length-5
-same-length-5 c = search needs
 
 returns-5 : tie.Need-returns-5
 returns-5 c =
@@ -109,24 +61,6 @@ pub holder-spec : {M : Type 1} → statement M
 holder-spec =
     tie.close
     (tie.spec
-    sub-holder-number
-    part-holder-number-start
-    part-holder-number-end
-    holder-number-requires
-    same-length
-    returns
-    slice-read-wide
-    wide-requires
-    same-length-2
-    returns-2
-    put-holder-requires
-    same-length-3
-    returns-3
-    slice-read-wide-2
-    wide-requires-2
-    same-length-4
-    returns-4
-    put-holder-requires-2
-    put-group-requires
-    same-length-5
-    returns-5)
+    (λ c. search needs) (λ c. search needs) (λ c. search needs) (λ c κs. search needs) (λ c. search needs) returns (λ c. search needs) (λ c κs. search needs)
+    (λ c. search needs) returns-2 (λ c κs. search needs) (λ c. search needs) returns-3 (λ c. search needs) (λ c κs. search needs) (λ c. search needs) returns-4
+    (λ c κs. search needs) (λ c κs. search needs) (λ c. search needs) returns-5)

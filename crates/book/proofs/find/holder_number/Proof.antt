@@ -5,13 +5,10 @@ use borrow.Author.Needs.{needs}
 use Rattle.book.proofs.find.holder_number.Statement.{statement}
 use Rattle.book.proofs.find.holder_number.Tie as tie
 
-find-requires : tie.Need-find-requires
-find-requires c κs = search needs
-
 returns : tie.Need-returns
 returns c =
     let f = c .find .ensures in
     (omega (arith, f .within, c .before .before .pre), holder-found _ _ _ _ f)
 
 pub holder-number-spec : {M : Type 1} → statement M
-holder-number-spec = tie.close (tie.spec find-requires returns)
+holder-number-spec = tie.close (tie.spec (λ c κs. search needs) returns)

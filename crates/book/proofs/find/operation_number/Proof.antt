@@ -44,13 +44,4 @@ pub operation-number-spec : {M : Type 1} → statement M
 operation-number-spec =
     tie.close
     (tie.spec
-    Inv-loop
-    μ-loop
-    loop-holds
-    mul-is-packed-at
-    is-packed-at-requires
-    returns
-    add-i
-    loop-less
-    loop-again
-    returns-2)
+    Inv-loop μ-loop loop-holds mul-is-packed-at is-packed-at-requires returns add-i loop-less loop-again returns-2)

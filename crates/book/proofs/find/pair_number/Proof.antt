@@ -5,16 +5,10 @@ use borrow.Author.Needs.{needs}
 use Rattle.book.proofs.find.pair_number.Statement.{statement}
 use Rattle.book.proofs.find.pair_number.Tie as tie
 
-add-find : tie.Need-add-find
-add-find c = search needs
-
-find-requires : tie.Need-find-requires
-find-requires c κs = search needs
-
 returns : tie.Need-returns
 returns c =
     let f = c .find .ensures in
     (omega (arith, f .within, c .before .before .pre .0), pair-found _ _ _ _ f)
 
 pub pair-number-spec : {M : Type 1} → statement M
-pair-number-spec = tie.close (tie.spec add-find find-requires returns)
+pair-number-spec = tie.close (tie.spec (λ c. search needs) (λ c κs. search needs) returns)

@@ -22,18 +22,6 @@ loop-holds c =
     let a = c .before .before .args in
     (refl, none-answered (a .commands .now) (memory (a .book .now) (a .rules .now) (a .table .now)) (a .out .now) (a .at))
 
-sub-answer-first : tie.Need-sub-answer-first Inv-loop μ-loop
-sub-answer-first c = search needs
-
-part-answer-first-start : tie.Need-part-answer-first-start Inv-loop μ-loop
-part-answer-first-start c = search needs
-
-part-answer-first-end : tie.Need-part-answer-first-end Inv-loop μ-loop
-part-answer-first-end c = search needs
-
-slice-aggregate-answer-first : tie.Need-slice-aggregate-answer-first Inv-loop μ-loop
-slice-aggregate-answer-first c = search needs
-
 answer-first-requires : tie.Need-answer-first-requires Inv-loop μ-loop
 answer-first-requires c κs =
     let h = c .before .before .before .before .before .before .before .before .before in
@@ -73,16 +61,5 @@ pub answer-commands-spec : {M : Type 1} → statement M
 answer-commands-spec =
     tie.close
     (tie.spec
-    Inv-loop
-    μ-loop
-    loop-holds
-    sub-answer-first
-    part-answer-first-start
-    part-answer-first-end
-    slice-aggregate-answer-first
-    answer-first-requires
-    add-i
-    loop-less
-    loop-again
-    same-length
-    returns)
+    Inv-loop μ-loop loop-holds (λ c. search needs) (λ c. search needs) (λ c. search needs) (λ c. search needs) answer-first-requires add-i loop-less loop-again
+    same-length returns)

@@ -4,21 +4,6 @@ use borrow.Author.Needs.{needs}
 use Rattle.office.proofs.answer.answer_edit.Statement.{statement}
 use Rattle.office.proofs.answer.answer_edit.Tie as tie
 
-edit-requires : tie.Need-edit-requires
-edit-requires c κs = search needs
-
-slice-aggregate-put-pair : tie.Need-slice-aggregate-put-pair
-slice-aggregate-put-pair c = search needs
-
-cast-put-pair : tie.Need-cast-put-pair
-cast-put-pair c = search needs
-
-put-pair-requires : tie.Need-put-pair-requires
-put-pair-requires c κs = search needs
-
-same-length : tie.Need-same-length
-same-length c = search needs
-
 returns : tie.Need-returns
 unfolding printed
 returns c =
@@ -29,9 +14,4 @@ pub answer-edit-spec : {M : Type 1} → statement M
 answer-edit-spec =
     tie.close
     (tie.spec
-    edit-requires
-    slice-aggregate-put-pair
-    cast-put-pair
-    put-pair-requires
-    same-length
-    returns)
+    (λ c κs. search needs) (λ c. search needs) (λ c. search needs) (λ c κs. search needs) (λ c. search needs) returns)

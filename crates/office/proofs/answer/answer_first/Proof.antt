@@ -8,9 +8,6 @@ use borrow.Author.Needs.{needs}
 use Rattle.office.proofs.answer.answer_first.Statement.{statement}
 use Rattle.office.proofs.answer.answer_first.Tie as tie
 
-line-length-requires : tie.Need-line-length-requires
-line-length-requires c κs = search needs
-
 slice-aggregate-line : tie.Need-slice-aggregate-line
 slice-aggregate-line c =
     let l = c .before .line-length in
@@ -22,38 +19,11 @@ read-requires c κs =
     let a = c .before .before .before .before .before .before in
     omega (arith, length-take-le (l .result) (a .args .commands .now) (l .ensures .within), l .ensures .within, a .pre .1)
 
-enum-told : tie.Need-enum-told
-enum-told c = search needs
-
-answer-edit-requires : tie.Need-answer-edit-requires
-answer-edit-requires c κs = search needs
-
-enum-known-n : tie.Need-enum-known-n
-enum-known-n c = search needs
-
 slice-reshare-prefix-answer-request : tie.Need-slice-reshare-prefix-answer-request
 slice-reshare-prefix-answer-request c = told-as _ _ (c .before .before .before .before .before .read .ensures) (c .before .n .given .1) .0
 
 slice-aggregate-answer-request : tie.Need-slice-aggregate-answer-request
 slice-aggregate-answer-request c = sym (length-take-le _ _ (told-as _ _ (c .before .before .before .before .before .before .read .ensures) (c .before .before .n .given .1) .0))
-
-answer-request-requires : tie.Need-answer-request-requires
-answer-request-requires c κs = search needs
-
-enum-told-2 : tie.Need-enum-told-2
-enum-told-2 c = search needs
-
-slice-aggregate-put : tie.Need-slice-aggregate-put
-slice-aggregate-put c = search needs
-
-put-requires : tie.Need-put-requires
-put-requires c κs = search needs
-
-same-length : tie.Need-same-length
-same-length c = search needs
-
-same-length-2 : tie.Need-same-length-2
-same-length-2 c = search needs
 
 returns : tie.Need-returns
 returns c =
@@ -63,12 +33,6 @@ returns c =
       answered = edit-answered _ _ _ _ _ (a .rules .now) _ _ _ _ (told-as _ _ (c .before .before .before .before .before .before .before .before .before .before .read .ensures) (c .before .before .before .before .before .before .enum-told .given .1)) (c .before .before .answer-edit .ensures);
     }
 
-same-length-3 : tie.Need-same-length-3
-same-length-3 c = search needs
-
-same-length-4 : tie.Need-same-length-4
-same-length-4 c = search needs
-
 returns-2 : tie.Need-returns-2
 returns-2 c =
     let a = c .before .before .before .before .before .before .before .before .before .before .before .before .before .before .before .before .before .before .before .args in
@@ -76,12 +40,6 @@ returns-2 c =
       line = c .before .before .before .before .before .before .before .before .before .before .before .before .before .before .before .line-length .ensures;
       answered = request-answered _ _ (memory (a .book .now) (a .rules .now) (a .table .now)) _ _ _ _ (told-as _ _ (c .before .before .before .before .before .before .before .before .before .before .before .before .read .ensures) (c .before .before .before .before .before .before .before .before .n .given .1) .1) (c .before .before .answer-request .ensures);
     }
-
-same-length-5 : tie.Need-same-length-5
-same-length-5 c = search needs
-
-same-length-6 : tie.Need-same-length-6
-same-length-6 c = search needs
 
 returns-3 : tie.Need-returns-3
 returns-3 c =
@@ -96,24 +54,6 @@ pub answer-first-spec : {M : Type 1} → statement M
 answer-first-spec =
     tie.close
     (tie.spec
-    line-length-requires
-    slice-aggregate-line
-    read-requires
-    enum-told
-    answer-edit-requires
-    enum-known-n
-    slice-reshare-prefix-answer-request
-    slice-aggregate-answer-request
-    answer-request-requires
-    enum-told-2
-    slice-aggregate-put
-    put-requires
-    same-length
-    same-length-2
-    returns
-    same-length-3
-    same-length-4
-    returns-2
-    same-length-5
-    same-length-6
-    returns-3)
+    (λ c κs. search needs) slice-aggregate-line read-requires (λ c. search needs) (λ c κs. search needs) (λ c. search needs)
+    slice-reshare-prefix-answer-request slice-aggregate-answer-request (λ c κs. search needs) (λ c. search needs) (λ c. search needs) (λ c κs. search needs)
+    (λ c. search needs) (λ c. search needs) returns (λ c. search needs) (λ c. search needs) returns-2 (λ c. search needs) (λ c. search needs) returns-3)

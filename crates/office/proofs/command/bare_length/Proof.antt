@@ -5,14 +5,8 @@ use borrow.Author.Needs.{needs}
 use Rattle.office.proofs.command.bare_length.Statement.{statement}
 use Rattle.office.proofs.command.bare_length.Tie as tie
 
-index-of-requires : tie.Need-index-of-requires
-index-of-requires c κs = search needs
-
 returns : tie.Need-returns
 returns c = bare-none _ (c .before .index-of .result) (c .before .index-of .ensures) (c .if1 .taken)
-
-add-if2 : tie.Need-add-if2
-add-if2 c = search needs
 
 returns-2 : tie.Need-returns-2
 returns-2 c = bare-inside _ (c .before .before .index-of .result) (c .before .before .index-of .ensures) (c .if2 .taken)
@@ -21,4 +15,4 @@ returns-3 : tie.Need-returns-3
 returns-3 c = bare-last _ (c .before .before .index-of .result) (c .before .before .index-of .ensures) (omega arith) (c .if2 .left)
 
 pub bare-length-spec : {M : Type 1} → statement M
-bare-length-spec = tie.close (tie.spec index-of-requires returns add-if2 returns-2 returns-3)
+bare-length-spec = tie.close (tie.spec (λ c κs. search needs) returns (λ c. search needs) returns-2 returns-3)

@@ -11,20 +11,11 @@ use Rattle.office.proofs.command.read.Tie as tie
 returns : tie.Need-returns
 returns c = no-bytes _ (c .if1 .taken)
 
-shared-slice-read-if2 : tie.Need-shared-slice-read-if2
-shared-slice-read-if2 c = search needs
-
 returns-2 : tie.Need-returns-2
 returns-2 c = plus-call (c .before .before .before .before .before .args .line .now) (omega arith) (c .if2 .taken)
 
-shared-slice-read-if3 : tie.Need-shared-slice-read-if3
-shared-slice-read-if3 c = search needs
-
 returns-3 : tie.Need-returns-3
 returns-3 c = minus-call (c .before .before .before .before .before .before .before .args .line .now) (omega arith) (c .if3 .taken)
-
-bare-length-requires : tie.Need-bare-length-requires
-bare-length-requires c κs = search needs
 
 returns-4 : tie.Need-returns-4
 returns-4 c =
@@ -34,29 +25,11 @@ returns-4 c =
 slice-aggregate-same : tie.Need-slice-aggregate-same
 slice-aggregate-same c = sym (length-take-le 4 (c .before .before .before .before .before .before .before .before .before .before .args .line .now) (omega (arith, c .before .before .bare-length .ensures .within)))
 
-slice-aggregate-same-2 : tie.Need-slice-aggregate-same-2
-slice-aggregate-same-2 c = search needs
-
-same-requires : tie.Need-same-requires
-same-requires c κs = search needs
-
 returns-5 : tie.Need-returns-5
 returns-5 c =
     let m = c .before .before .before .before .before .bare-length in
     not-try (c .before .before .before .before .before .before .before .before .before .before .before .before .before .args .line .now) (omega arith) (c .before .before .before .before .before .before .before .before .if2 .left) (c .before .before .before .before .before .before .if3 .left) (m .result) (m .ensures) (omega arith)
     (sym (c .before .same .ensures) ∙ not-true (c .before .same .result) (c .if5 .taken))
-
-part-unhex-start : tie.Need-part-unhex-start
-part-unhex-start c = search needs
-
-part-unhex-end : tie.Need-part-unhex-end
-part-unhex-end c = search needs
-
-unhex-requires : tie.Need-unhex-requires
-unhex-requires c κs = search needs
-
-same-length : tie.Need-same-length
-same-length c = search needs
 
 -- `try=` stands at the front
 a-request : (c : tie.After-unhex) → Requests (c .before .before .before .before .before .before .before .before .before .before .before .before .before .before .before .before .args .line .now) 4 (c .before .before .before .before .before .before .before .before .bare-length .result)
@@ -70,9 +43,6 @@ returns-6 c =
     let u = c .before .before .before .before .unhex in
     request-bad _ 4 _ (a-request (c .before .before .before .before)) _ _ (u .result) (u .ensures) (not-true (u .result .ok) (c .if6 .taken))
 
-same-length-2 : tie.Need-same-length-2
-same-length-2 c = search needs
-
 returns-7 : tie.Need-returns-7
 returns-7 c =
     let u = c .before .before .before .before .unhex in
@@ -82,21 +52,5 @@ pub read-spec : {M : Type 1} → statement M
 read-spec =
     tie.close
     (tie.spec
-    returns
-    shared-slice-read-if2
-    returns-2
-    shared-slice-read-if3
-    returns-3
-    bare-length-requires
-    returns-4
-    slice-aggregate-same
-    slice-aggregate-same-2
-    same-requires
-    returns-5
-    part-unhex-start
-    part-unhex-end
-    unhex-requires
-    same-length
-    returns-6
-    same-length-2
-    returns-7)
+    returns (λ c. search needs) returns-2 (λ c. search needs) returns-3 (λ c κs. search needs) returns-4 slice-aggregate-same (λ c. search needs)
+    (λ c κs. search needs) returns-5 (λ c. search needs) (λ c. search needs) (λ c κs. search needs) (λ c. search needs) returns-6 (λ c. search needs) returns-7)

@@ -5,20 +5,8 @@ use borrow.Author.Needs.{needs}
 use Rattle.office.proofs.input.is_end.Statement.{statement}
 use Rattle.office.proofs.input.is_end.Tie as tie
 
-slice-aggregate-same : tie.Need-slice-aggregate-same
-slice-aggregate-same c = search needs
-
-same-requires : tie.Need-same-requires
-same-requires c κs = search needs
-
 returns : tie.Need-returns
 returns c = sym (end-line _ (sym (c .before .same .ensures) ∙ c .if1 .taken))
-
-slice-aggregate-same-2 : tie.Need-slice-aggregate-same-2
-slice-aggregate-same-2 c = search needs
-
-same-requires-2 : tie.Need-same-requires-2
-same-requires-2 c κs = search needs
 
 returns-2 : tie.Need-returns-2
 returns-2 c = c .same2 .ensures ∙ sym (end-alone _ (sym (c .before .before .before .same .ensures) ∙ c .before .before .if1 .left))
@@ -27,9 +15,4 @@ pub is-end-spec : {M : Type 1} → statement M
 is-end-spec =
     tie.close
     (tie.spec
-    slice-aggregate-same
-    same-requires
-    returns
-    slice-aggregate-same-2
-    same-requires-2
-    returns-2)
+    (λ c. search needs) (λ c κs. search needs) returns (λ c. search needs) (λ c κs. search needs) returns-2)

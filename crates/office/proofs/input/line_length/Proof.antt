@@ -4,12 +4,6 @@ use borrow.Author.Needs.{needs}
 use Rattle.office.proofs.input.line_length.Statement.{statement}
 use Rattle.office.proofs.input.line_length.Tie as tie
 
-index-of-requires : tie.Need-index-of-requires
-index-of-requires c κs = search needs
-
-add-result : tie.Need-add-result
-add-result c = search needs
-
 returns : tie.Need-returns
 returns c = line-ends _ (c .before .index-of .result) (c .before .index-of .ensures) (c .if1 .taken)
 
@@ -17,4 +11,4 @@ returns-2 : tie.Need-returns-2
 returns-2 c = line-runs-out _ (c .before .index-of .result) (c .before .index-of .ensures) (c .if1 .left)
 
 pub line-length-spec : {M : Type 1} → statement M
-line-length-spec = tie.close (tie.spec index-of-requires add-result returns returns-2)
+line-length-spec = tie.close (tie.spec (λ c κs. search needs) (λ c. search needs) returns returns-2)

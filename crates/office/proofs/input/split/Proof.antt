@@ -46,15 +46,6 @@ end c =
 loop-holds : tie.Need-loop-holds Inv-loop μ-loop
 loop-holds c = so-far-start (c .before .args .input .now)
 
-sub-line-length : tie.Need-sub-line-length Inv-loop μ-loop
-sub-line-length c = search needs
-
-part-line-length-start : tie.Need-part-line-length-start Inv-loop μ-loop
-part-line-length-start c = search needs
-
-part-line-length-end : tie.Need-part-line-length-end Inv-loop μ-loop
-part-line-length-end c = search needs
-
 line-length-requires : tie.Need-line-length-requires Inv-loop μ-loop
 line-length-requires c κs = tt
 
@@ -97,19 +88,5 @@ pub split-spec : {M : Type 1} → statement M
 split-spec =
     tie.close
     (tie.spec
-    Inv-loop
-    μ-loop
-    loop-holds
-    sub-line-length
-    part-line-length-start
-    part-line-length-end
-    line-length-requires
-    add-next
-    sub-is-end
-    part-is-end-start
-    part-is-end-end
-    is-end-requires
-    returns
-    loop-less
-    loop-again
-    returns-2)
+    Inv-loop μ-loop loop-holds (λ c. search needs) (λ c. search needs) (λ c. search needs) line-length-requires add-next sub-is-end part-is-end-start
+    part-is-end-end is-end-requires returns loop-less loop-again returns-2)

@@ -7,24 +7,6 @@ use borrow.Author.Needs.{needs}
 use Rattle.writer.proofs.field.put_attribute.Statement.{statement}
 use Rattle.writer.proofs.field.put_attribute.Tie as tie
 
-word-requires : tie.Need-word-requires
-word-requires c κs = search needs
-
-put-source-requires : tie.Need-put-source-requires
-put-source-requires c κs = search needs
-
-put-byte-requires : tie.Need-put-byte-requires
-put-byte-requires c κs = search needs
-
-add-put-name : tie.Need-add-put-name
-add-put-name c = search needs
-
-put-name-requires : tie.Need-put-name-requires
-put-name-requires c κs = search needs
-
-same-length : tie.Need-same-length
-same-length c = search needs
-
 returns : tie.Need-returns
 unfolding attributeText
 returns c =
@@ -37,10 +19,4 @@ pub put-attribute-spec : {M : Type 1} → statement M
 put-attribute-spec =
     tie.close
     (tie.spec
-    word-requires
-    put-source-requires
-    put-byte-requires
-    add-put-name
-    put-name-requires
-    same-length
-    returns)
+    (λ c κs. search needs) (λ c κs. search needs) (λ c κs. search needs) (λ c. search needs) (λ c κs. search needs) (λ c. search needs) returns)

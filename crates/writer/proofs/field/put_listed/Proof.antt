@@ -9,18 +9,6 @@ use borrow.Author.Needs.{needs}
 use Rattle.writer.proofs.field.put_listed.Statement.{statement}
 use Rattle.writer.proofs.field.put_listed.Tie as tie
 
-mul-put-word : tie.Need-mul-put-word
-mul-put-word c = search needs
-
-shared-slice-read-put-word : tie.Need-shared-slice-read-put-word
-shared-slice-read-put-word c = search needs
-
-put-word-requires : tie.Need-put-word-requires
-put-word-requires c κs = search needs
-
-same-length : tie.Need-same-length
-same-length c = search needs
-
 returns : tie.Need-returns
 unfolding listedText
 returns c = c .before .before .put-word .ensures
@@ -36,9 +24,4 @@ pub put-listed-spec : {M : Type 1} → statement M
 put-listed-spec =
     tie.close
     (tie.spec
-    mul-put-word
-    shared-slice-read-put-word
-    put-word-requires
-    same-length
-    returns
-    returns-2)
+    (λ c. search needs) (λ c. search needs) (λ c κs. search needs) (λ c. search needs) returns returns-2)

@@ -8,24 +8,6 @@ use borrow.Author.Needs.{needs}
 use Rattle.writer.proofs.field.put_name.Statement.{statement}
 use Rattle.writer.proofs.field.put_name.Tie as tie
 
-word-requires : tie.Need-word-requires
-word-requires c κs = search needs
-
-put-word-requires : tie.Need-put-word-requires
-put-word-requires c κs = search needs
-
-add-word : tie.Need-add-word
-add-word c = search needs
-
-word-requires-2 : tie.Need-word-requires-2
-word-requires-2 c κs = search needs
-
-put-rest-requires : tie.Need-put-rest-requires
-put-rest-requires c κs = search needs
-
-same-length : tie.Need-same-length
-same-length c = search needs
-
 returns : tie.Need-returns
 unfolding nameText
 returns c =
@@ -37,10 +19,4 @@ pub put-name-spec : {M : Type 1} → statement M
 put-name-spec =
     tie.close
     (tie.spec
-    word-requires
-    put-word-requires
-    add-word
-    word-requires-2
-    put-rest-requires
-    same-length
-    returns)
+    (λ c κs. search needs) (λ c κs. search needs) (λ c. search needs) (λ c κs. search needs) (λ c κs. search needs) (λ c. search needs) returns)

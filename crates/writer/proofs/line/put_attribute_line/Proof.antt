@@ -9,42 +9,6 @@ use borrow.Author.Needs.{needs}
 use Rattle.writer.proofs.line.put_attribute_line.Statement.{statement}
 use Rattle.writer.proofs.line.put_attribute_line.Tie as tie
 
-mul-row : tie.Need-mul-row
-mul-row c = search needs
-
-add-row : tie.Need-add-row
-add-row c = search needs
-
-put-key-requires : tie.Need-put-key-requires
-put-key-requires c κs = search needs
-
-word-requires : tie.Need-word-requires
-word-requires c κs = search needs
-
-put-source-requires : tie.Need-put-source-requires
-put-source-requires c κs = search needs
-
-put-byte-requires : tie.Need-put-byte-requires
-put-byte-requires c κs = search needs
-
-add-put-name : tie.Need-add-put-name
-add-put-name c = search needs
-
-put-name-requires : tie.Need-put-name-requires
-put-name-requires c κs = search needs
-
-put-byte-requires-2 : tie.Need-put-byte-requires-2
-put-byte-requires-2 c κs = search needs
-
-add-word : tie.Need-add-word
-add-word c = search needs
-
-word-requires-2 : tie.Need-word-requires-2
-word-requires-2 c κs = search needs
-
-put-type-requires : tie.Need-put-type-requires
-put-type-requires c κs = search needs
-
 put-byte-requires-3 : tie.Need-put-byte-requires-3
 put-byte-requires-3 c κs =
     let p0 = c .before .before .before .before .before .before .before .before .before .before .before .before .before .before .before .before .before .before .before .before .before .before .before .before .before .put-key .ensures in
@@ -56,9 +20,6 @@ put-byte-requires-3 c κs =
     let n = c .before .before .before .put-type .result in
     let g : n < far = omega (arith, p0 .1, p1 .1, p2 .behind, p3 .1, p4 .behind, p5 .1, c .before .before .before .before .before .before .before .before .before .before .before .before .before .before .before .before .before .before .before .before .before .before .before .before .before .before .before .before .before .pre .0) in
     g
-
-same-length : tie.Need-same-length
-same-length c = search needs
 
 returns : tie.Need-returns
 unfolding attributeLineText
@@ -76,18 +37,6 @@ pub put-attribute-line-spec : {M : Type 1} → statement M
 put-attribute-line-spec =
     tie.close
     (tie.spec
-    mul-row
-    add-row
-    put-key-requires
-    word-requires
-    put-source-requires
-    put-byte-requires
-    add-put-name
-    put-name-requires
-    put-byte-requires-2
-    add-word
-    word-requires-2
-    put-type-requires
-    put-byte-requires-3
-    same-length
+    (λ c. search needs) (λ c. search needs) (λ c κs. search needs) (λ c κs. search needs) (λ c κs. search needs) (λ c κs. search needs) (λ c. search needs)
+    (λ c κs. search needs) (λ c κs. search needs) (λ c. search needs) (λ c κs. search needs) (λ c κs. search needs) put-byte-requires-3 (λ c. search needs)
     returns)

@@ -8,30 +8,12 @@ use borrow.Author.Needs.{needs}
 use Rattle.writer.proofs.line.put_holder_line.Statement.{statement}
 use Rattle.writer.proofs.line.put_holder_line.Tie as tie
 
-add-word : tie.Need-add-word
-add-word c = search needs
-
-word-requires : tie.Need-word-requires
-word-requires c κs = search needs
-
 returns : tie.Need-returns
 unfolding holderLineText
 returns c =
     let a = c .before .before .before .before .args in
     let w = c .before .word .ensures in
     (laid-as (no-holder-line (a .book .now) (a .sort) (a .k) (λ e. c .if1 .taken (w ∙ e))) (laid-none (a .out .now) (a .at)), omega arith)
-
-put-key-requires : tie.Need-put-key-requires
-put-key-requires c κs = search needs
-
-put-holder-requires : tie.Need-put-holder-requires
-put-holder-requires c κs = search needs
-
-put-byte-requires : tie.Need-put-byte-requires
-put-byte-requires c κs = search needs
-
-same-length : tie.Need-same-length
-same-length c = search needs
 
 returns-2 : tie.Need-returns-2
 unfolding holderLineText
@@ -47,11 +29,4 @@ pub put-holder-line-spec : {M : Type 1} → statement M
 put-holder-line-spec =
     tie.close
     (tie.spec
-    add-word
-    word-requires
-    returns
-    put-key-requires
-    put-holder-requires
-    put-byte-requires
-    same-length
-    returns-2)
+    (λ c. search needs) (λ c κs. search needs) returns (λ c κs. search needs) (λ c κs. search needs) (λ c κs. search needs) (λ c. search needs) returns-2)

@@ -6,24 +6,6 @@ use borrow.Author.Needs.{needs}
 use Rattle.writer.proofs.line.put_operation_line.Statement.{statement}
 use Rattle.writer.proofs.line.put_operation_line.Tie as tie
 
-put-key-requires : tie.Need-put-key-requires
-put-key-requires c κs = search needs
-
-mul-put-name : tie.Need-mul-put-name
-mul-put-name c = search needs
-
-add-put-name : tie.Need-add-put-name
-add-put-name c = search needs
-
-put-name-requires : tie.Need-put-name-requires
-put-name-requires c κs = search needs
-
-put-byte-requires : tie.Need-put-byte-requires
-put-byte-requires c κs = search needs
-
-same-length : tie.Need-same-length
-same-length c = search needs
-
 returns : tie.Need-returns
 unfolding operationLineText
 returns c =
@@ -36,10 +18,4 @@ pub put-operation-line-spec : {M : Type 1} → statement M
 put-operation-line-spec =
     tie.close
     (tie.spec
-    put-key-requires
-    mul-put-name
-    add-put-name
-    put-name-requires
-    put-byte-requires
-    same-length
-    returns)
+    (λ c κs. search needs) (λ c. search needs) (λ c. search needs) (λ c κs. search needs) (λ c κs. search needs) (λ c. search needs) returns)

@@ -7,27 +7,6 @@ use borrow.Author.Needs.{needs}
 use Rattle.writer.proofs.line.put_pair_line.Statement.{statement}
 use Rattle.writer.proofs.line.put_pair_line.Tie as tie
 
-put-key-requires : tie.Need-put-key-requires
-put-key-requires c κs = search needs
-
-row-of-pair-requires : tie.Need-row-of-pair-requires
-row-of-pair-requires c κs = search needs
-
-put-attribute-requires : tie.Need-put-attribute-requires
-put-attribute-requires c κs = search needs
-
-put-byte-requires : tie.Need-put-byte-requires
-put-byte-requires c κs = search needs
-
-put-pair-atom-requires : tie.Need-put-pair-atom-requires
-put-pair-atom-requires c κs = search needs
-
-put-byte-requires-2 : tie.Need-put-byte-requires-2
-put-byte-requires-2 c κs = search needs
-
-same-length : tie.Need-same-length
-same-length c = search needs
-
 returns : tie.Need-returns
 unfolding pairLineText
 returns c =
@@ -42,11 +21,5 @@ pub put-pair-line-spec : {M : Type 1} → statement M
 put-pair-line-spec =
     tie.close
     (tie.spec
-    put-key-requires
-    row-of-pair-requires
-    put-attribute-requires
-    put-byte-requires
-    put-pair-atom-requires
-    put-byte-requires-2
-    same-length
-    returns)
+    (λ c κs. search needs) (λ c κs. search needs) (λ c κs. search needs) (λ c κs. search needs) (λ c κs. search needs) (λ c κs. search needs)
+    (λ c. search needs) returns)

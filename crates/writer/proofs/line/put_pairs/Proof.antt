@@ -17,20 +17,8 @@ Inv-loop out₀ at book count n₀ p₀ out n p = (p ≤ count) × Laid out₀ a
 abbrev μ-loop : tie.MeasureT-loop
 μ-loop out₀ at book count n₀ p₀ out n p = count - p
 
-count-requires : tie.Need-count-requires Inv-loop μ-loop
-count-requires c κs = search needs
-
 loop-holds : tie.Need-loop-holds Inv-loop μ-loop
 loop-holds c = let a = c .before .before .before .args in (omega arith, laid-none (a .out .now) (a .at), omega arith)
-
-put-pair-line-requires : tie.Need-put-pair-line-requires Inv-loop μ-loop
-put-pair-line-requires c κs = search needs
-
-add-p : tie.Need-add-p Inv-loop μ-loop
-add-p c = search needs
-
-loop-less : tie.Need-loop-less Inv-loop μ-loop
-loop-less c = search needs
 
 loop-again : tie.Need-loop-again Inv-loop μ-loop
 loop-again c =
@@ -53,13 +41,4 @@ pub put-pairs-spec : {M : Type 1} → statement M
 put-pairs-spec =
     tie.close
     (tie.spec
-    Inv-loop
-    μ-loop
-    count-requires
-    loop-holds
-    put-pair-line-requires
-    add-p
-    loop-less
-    loop-again
-    same-length
-    returns)
+    Inv-loop μ-loop (λ c κs. search needs) loop-holds (λ c κs. search needs) (λ c. search needs) (λ c. search needs) loop-again same-length returns)

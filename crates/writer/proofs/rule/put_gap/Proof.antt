@@ -12,15 +12,6 @@ returns c =
     let a = c .before .before .args in
     (laid-as (no-gap (a .word) (a .kind) (c .if1 .taken)) (laid-none (a .out .now) (a .at)), omega arith)
 
-is-word-requires : tie.Need-is-word-requires
-is-word-requires c κs = search needs
-
-put-byte-requires : tie.Need-put-byte-requires
-put-byte-requires c κs = search needs
-
-same-length : tie.Need-same-length
-same-length c = search needs
-
 returns-2 : tie.Need-returns-2
 returns-2 c =
     let a = c .before .before .before .before .before .before .before .before .args in
@@ -34,4 +25,4 @@ returns-3 c =
 
 pub put-gap-spec : {M : Type 1} → statement M
 put-gap-spec =
-    tie.close (tie.spec returns is-word-requires put-byte-requires same-length returns-2 returns-3)
+    tie.close (tie.spec returns (λ c κs. search needs) (λ c κs. search needs) (λ c. search needs) returns-2 returns-3)

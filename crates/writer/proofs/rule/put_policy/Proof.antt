@@ -17,9 +17,6 @@ Inv-loop out₀ at book code n₀ place₀ word₀ kind₀ out n place word kind
 abbrev μ-loop : tie.MeasureT-loop
 μ-loop out₀ at book code n₀ place₀ word₀ kind₀ out n place word kind = 1025 - place
 
-byte-requires : tie.Need-byte-requires Inv-loop μ-loop
-byte-requires c κs = search needs
-
 loop-holds : tie.Need-loop-holds Inv-loop μ-loop
 loop-holds c = let a = c .before .before .before .before .args in (omega arith, c .byte .ensures, omega arith, policy-start (a .book .now) (a .code .now) (a .out .now) (a .at))
 
@@ -42,18 +39,6 @@ put-token-requires c κs =
     let g : m .result + 257 ≤ far = omega (arith, within, pre .0, pre .1, l .inv .2, m .ensures .1) in
     let h : l .place + 257 ≤ far = omega (arith, within, pre .1) in
     (g, h)
-
-is-word-requires : tie.Need-is-word-requires Inv-loop μ-loop
-is-word-requires c κs = search needs
-
-size-requires : tie.Need-size-requires Inv-loop μ-loop
-size-requires c κs = search needs
-
-add-place : tie.Need-add-place Inv-loop μ-loop
-add-place c = search needs
-
-byte-requires-2 : tie.Need-byte-requires-2 Inv-loop μ-loop
-byte-requires-2 c κs = search needs
 
 loop-less : tie.Need-loop-less Inv-loop μ-loop
 loop-less c =
@@ -94,17 +79,5 @@ pub put-policy-spec : {M : Type 1} → statement M
 put-policy-spec =
     tie.close
     (tie.spec
-    Inv-loop
-    μ-loop
-    byte-requires
-    loop-holds
-    put-gap-requires
-    put-token-requires
-    is-word-requires
-    size-requires
-    add-place
-    byte-requires-2
-    loop-less
-    loop-again
-    same-length
-    returns)
+    Inv-loop μ-loop (λ c κs. search needs) loop-holds put-gap-requires put-token-requires (λ c κs. search needs) (λ c κs. search needs) (λ c. search needs)
+    (λ c κs. search needs) loop-less loop-again same-length returns)

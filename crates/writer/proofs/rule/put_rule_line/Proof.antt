@@ -10,51 +10,6 @@ use borrow.Author.Needs.{needs}
 use Rattle.writer.proofs.rule.put_rule_line.Statement.{statement}
 use Rattle.writer.proofs.rule.put_rule_line.Tie as tie
 
-add-word : tie.Need-add-word
-add-word c = search needs
-
-word-requires : tie.Need-word-requires
-word-requires c κs = search needs
-
-mul-start : tie.Need-mul-start
-mul-start c = search needs
-
-put-key-requires : tie.Need-put-key-requires
-put-key-requires c κs = search needs
-
-mul-put-name : tie.Need-mul-put-name
-mul-put-name c = search needs
-
-add-put-name : tie.Need-add-put-name
-add-put-name c = search needs
-
-put-name-requires : tie.Need-put-name-requires
-put-name-requires c κs = search needs
-
-put-byte-requires : tie.Need-put-byte-requires
-put-byte-requires c κs = search needs
-
-add-put-policy : tie.Need-add-put-policy
-add-put-policy c = search needs
-
-sub-put-policy : tie.Need-sub-put-policy
-sub-put-policy c = search needs
-
-part-put-policy-start : tie.Need-part-put-policy-start
-part-put-policy-start c = search needs
-
-part-put-policy-end : tie.Need-part-put-policy-end
-part-put-policy-end c = search needs
-
-put-policy-requires : tie.Need-put-policy-requires
-put-policy-requires c κs = search needs
-
-put-byte-requires-2 : tie.Need-put-byte-requires-2
-put-byte-requires-2 c κs = search needs
-
-same-length : tie.Need-same-length
-same-length c = search needs
-
 returns : tie.Need-returns
 unfolding ruleLineText
 returns c =
@@ -70,19 +25,6 @@ pub put-rule-line-spec : {M : Type 1} → statement M
 put-rule-line-spec =
     tie.close
     (tie.spec
-    add-word
-    word-requires
-    mul-start
-    put-key-requires
-    mul-put-name
-    add-put-name
-    put-name-requires
-    put-byte-requires
-    add-put-policy
-    sub-put-policy
-    part-put-policy-start
-    part-put-policy-end
-    put-policy-requires
-    put-byte-requires-2
-    same-length
-    returns)
+    (λ c. search needs) (λ c κs. search needs) (λ c. search needs) (λ c κs. search needs) (λ c. search needs) (λ c. search needs) (λ c κs. search needs)
+    (λ c κs. search needs) (λ c. search needs) (λ c. search needs) (λ c. search needs) (λ c. search needs) (λ c κs. search needs) (λ c κs. search needs)
+    (λ c. search needs) returns)

@@ -12,21 +12,6 @@ use borrow.Author.Needs.{needs}
 use Rattle.writer.proofs.rule.put_token.Statement.{statement}
 use Rattle.writer.proofs.rule.put_token.Tie as tie
 
-byte-requires : tie.Need-byte-requires
-byte-requires c κs = search needs
-
-add-four : tie.Need-add-four
-add-four c = search needs
-
-four-requires : tie.Need-four-requires
-four-requires c κs = search needs
-
-put-decimal-requires : tie.Need-put-decimal-requires
-put-decimal-requires c κs = search needs
-
-same-length : tie.Need-same-length
-same-length c = search needs
-
 returns : tie.Need-returns
 returns c =
     let a = c .before .before .before .before .before .before .before .before .before .before .args in
@@ -34,12 +19,6 @@ returns c =
     let p = c .before .before .put-decimal .ensures in
     let e = (sym w ∙ c .before .before .before .before .before .if1 .taken) in
     (laid-as (ap decimal (c .before .before .before .four .ensures) ∙ int-token (a .book .now) (a .code .now) (a .place) e) (p .0), omega (arith, p .1, int-size (a .code .now) (a .place) e))
-
-put-string-requires : tie.Need-put-string-requires
-put-string-requires c κs = search needs
-
-same-length-2 : tie.Need-same-length-2
-same-length-2 c = search needs
 
 returns-2 : tie.Need-returns-2
 returns-2 c =
@@ -50,27 +29,6 @@ returns-2 c =
     let e = (sym w ∙ c .before .before .before .before .if2 .taken) in
     (laid-as (str-token (a .book .now) (a .code .now) (a .place) h e) (p .0), omega (arith, p .1, str-size (a .code .now) (a .place) h e))
 
-add-byte : tie.Need-add-byte
-add-byte c = search needs
-
-byte-requires-2 : tie.Need-byte-requires-2
-byte-requires-2 c κs = search needs
-
-cast-row : tie.Need-cast-row
-cast-row c = search needs
-
-mul-row : tie.Need-mul-row
-mul-row c = search needs
-
-add-row : tie.Need-add-row
-add-row c = search needs
-
-put-attribute-requires : tie.Need-put-attribute-requires
-put-attribute-requires c κs = search needs
-
-same-length-3 : tie.Need-same-length-3
-same-length-3 c = search needs
-
 returns-3 : tie.Need-returns-3
 returns-3 c =
     let a = c .before .before .before .before .before .before .before .before .before .before .before .before .args in
@@ -80,12 +38,6 @@ returns-3 c =
     let g : getD (a .code .now) (a .place) 0 ≡ 2 → ⊥ = (λ e. c .before .before .before .before .before .before .if2 .left (w ∙ e)) in
     let e = (sym w ∙ c .before .before .before .before .before .if3 .taken) in
     (laid-as (ap (λ (k : ℕ). attributeText (a .book .now) (attributeAt k)) (c .before .before .before .before .byte2 .ensures) ∙ name-token (a .book .now) (a .code .now) (a .place) h g e) (p .0), omega (arith, p .1, name-size (a .code .now) (a .place) h g e))
-
-put-token-requires : tie.Need-put-token-requires
-put-token-requires c κs = search needs
-
-same-length-4 : tie.Need-same-length-4
-same-length-4 c = search needs
 
 returns-4 : tie.Need-returns-4
 returns-4 c =
@@ -101,23 +53,6 @@ pub put-token-spec : {M : Type 1} → statement M
 put-token-spec =
     tie.close
     (tie.spec
-    byte-requires
-    add-four
-    four-requires
-    put-decimal-requires
-    same-length
-    returns
-    put-string-requires
-    same-length-2
-    returns-2
-    add-byte
-    byte-requires-2
-    cast-row
-    mul-row
-    add-row
-    put-attribute-requires
-    same-length-3
-    returns-3
-    put-token-requires
-    same-length-4
-    returns-4)
+    (λ c κs. search needs) (λ c. search needs) (λ c κs. search needs) (λ c κs. search needs) (λ c. search needs) returns (λ c κs. search needs)
+    (λ c. search needs) returns-2 (λ c. search needs) (λ c κs. search needs) (λ c. search needs) (λ c. search needs) (λ c. search needs) (λ c κs. search needs)
+    (λ c. search needs) returns-3 (λ c κs. search needs) (λ c. search needs) returns-4)

@@ -7,26 +7,11 @@ use borrow.Author.Needs.{needs}
 use Rattle.writer.proofs.rule.size.Statement.{statement}
 use Rattle.writer.proofs.rule.size.Tie as tie
 
-byte-requires : tie.Need-byte-requires
-byte-requires c κs = search needs
-
 returns : tie.Need-returns
 returns c =
     let a = c .before .before .before .args in
     let w = c .before .byte .ensures in
     (int-size (a .code .now) (a .place) (sym w ∙ c .if1 .taken), omega arith, omega arith)
-
-add-byte : tie.Need-add-byte
-add-byte c = search needs
-
-byte-requires-2 : tie.Need-byte-requires-2
-byte-requires-2 c κs = search needs
-
-cast-result : tie.Need-cast-result
-cast-result c = search needs
-
-add-result : tie.Need-add-result
-add-result c = search needs
 
 returns-2 : tie.Need-returns-2
 returns-2 c =
@@ -50,12 +35,4 @@ pub size-spec : {M : Type 1} → statement M
 size-spec =
     tie.close
     (tie.spec
-    byte-requires
-    returns
-    add-byte
-    byte-requires-2
-    cast-result
-    add-result
-    returns-2
-    returns-3
-    returns-4)
+    (λ c κs. search needs) returns (λ c. search needs) (λ c κs. search needs) (λ c. search needs) (λ c. search needs) returns-2 returns-3 returns-4)

@@ -5,12 +5,6 @@ use borrow.Author.Needs.{needs}
 use Rattle.writer.proofs.tie.add_group.Statement.{statement}
 use Rattle.writer.proofs.tie.add_group.Tie as tie
 
-insert-requires : tie.Need-insert-requires
-insert-requires c κs = search needs
-
-same-length : tie.Need-same-length
-same-length c = search needs
-
 returns : tie.Need-returns
 returns c = let i = c .before .before .insert in with-group (i .kept .0 ∙ c .before .before .before .before .before .before .pre) (i .ensures)
 
@@ -18,4 +12,4 @@ returns-2 : tie.Need-returns-2
 returns-2 c = let a = c .before .before .args in without-group (a .groups .now) (a .number) (c .before .before .pre) (c .if1 .left)
 
 pub add-group-spec : {M : Type 1} → statement M
-add-group-spec = tie.close (tie.spec insert-requires same-length returns returns-2)
+add-group-spec = tie.close (tie.spec (λ c κs. search needs) (λ c. search needs) returns returns-2)

@@ -17,9 +17,6 @@ abbrev μ-loop : tie.MeasureT-loop
 loop-holds : tie.Need-loop-holds Inv-loop μ-loop
 loop-holds c = let a = c .before .before .args in groups-start (a .slots .now) (a .mask) (a .groups .now) (c .before .before .pre .0)
 
-lowest-requires : tie.Need-lowest-requires Inv-loop μ-loop
-lowest-requires c κs = search needs
-
 mul-add-group : tie.Need-mul-add-group Inv-loop μ-loop
 mul-add-group c = omega (arith, c .before .lowest .ensures .held (c .before .before .loop-test .taken))
 
@@ -52,15 +49,5 @@ pub add-groups-spec : {M : Type 1} → statement M
 add-groups-spec =
     tie.close
     (tie.spec
-    Inv-loop
-    μ-loop
-    loop-holds
-    lowest-requires
-    mul-add-group
-    shared-slice-read-add-group
-    add-group-requires
-    without-requires
-    loop-less
-    loop-again
-    same-length
-    returns)
+    Inv-loop μ-loop loop-holds (λ c κs. search needs) mul-add-group shared-slice-read-add-group add-group-requires without-requires loop-less loop-again
+    same-length returns)

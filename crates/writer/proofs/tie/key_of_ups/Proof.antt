@@ -5,12 +5,6 @@ use borrow.Author.Needs.{needs}
 use Rattle.writer.proofs.tie.key_of_ups.Statement.{statement}
 use Rattle.writer.proofs.tie.key_of_ups.Tie as tie
 
-add-word : tie.Need-add-word
-add-word c = search needs
-
-word-requires : tie.Need-word-requires
-word-requires c κs = search needs
-
 returns : tie.Need-returns
 returns c =
     let a = c .before .before .before .args in
@@ -24,4 +18,4 @@ returns-2 c =
     parent-key (a .book .now) (a .h) (λ e. c .if1 .left (w ∙ e))
 
 pub key-of-ups-spec : {M : Type 1} → statement M
-key-of-ups-spec = tie.close (tie.spec add-word word-requires returns returns-2)
+key-of-ups-spec = tie.close (tie.spec (λ c. search needs) (λ c κs. search needs) returns returns-2)

@@ -84,14 +84,4 @@ pub put-groups-spec : {M : Type 1} → statement M
 put-groups-spec =
     tie.close
     (tie.spec
-    Inv-loop
-    μ-loop
-    first-from-requires
-    loop-holds
-    put-up-line-requires
-    add-first-from
-    first-from-requires-2
-    loop-less
-    loop-again
-    same-length
-    returns)
+    Inv-loop μ-loop first-from-requires loop-holds put-up-line-requires add-first-from first-from-requires-2 loop-less loop-again same-length returns)

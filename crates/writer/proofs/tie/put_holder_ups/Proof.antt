@@ -7,19 +7,10 @@ use borrow.Author.Needs.{needs}
 use Rattle.writer.proofs.tie.put_holder_ups.Statement.{statement}
 use Rattle.writer.proofs.tie.put_holder_ups.Tie as tie
 
-key-of-ups-requires : tie.Need-key-of-ups-requires
-key-of-ups-requires c κs = search needs
-
 returns : tie.Need-returns
 returns c =
     let a = c .before .before .before .before .args in
     (laid-as (ups-of-other (a .book .now) (a .h) (a .n) (a .key) (λ e. c .if1 .taken (c .before .key-of-ups .ensures ∙ e))) (laid-none (a .out .now) (a .at)), omega arith)
-
-put-ups-requires : tie.Need-put-ups-requires
-put-ups-requires c κs = search needs
-
-same-length : tie.Need-same-length
-same-length c = search needs
 
 returns-2 : tie.Need-returns-2
 returns-2 c =
@@ -29,4 +20,4 @@ returns-2 c =
 
 pub put-holder-ups-spec : {M : Type 1} → statement M
 put-holder-ups-spec =
-    tie.close (tie.spec key-of-ups-requires returns put-ups-requires same-length returns-2)
+    tie.close (tie.spec (λ c κs. search needs) returns (λ c κs. search needs) (λ c. search needs) returns-2)

@@ -17,20 +17,8 @@ Inv-loop out₀ at book key count n₀ h₀ out n h = (h ≤ count) × Laid out�
 abbrev μ-loop : tie.MeasureT-loop
 μ-loop out₀ at book key count n₀ h₀ out n h = count - h
 
-count-requires : tie.Need-count-requires Inv-loop μ-loop
-count-requires c κs = search needs
-
 loop-holds : tie.Need-loop-holds Inv-loop μ-loop
 loop-holds c = let a = c .before .before .before .args in (omega arith, laid-none (a .out .now) (a .at), omega arith)
-
-put-holder-ups-requires : tie.Need-put-holder-ups-requires Inv-loop μ-loop
-put-holder-ups-requires c κs = search needs
-
-add-h : tie.Need-add-h Inv-loop μ-loop
-add-h c = search needs
-
-loop-less : tie.Need-loop-less Inv-loop μ-loop
-loop-less c = search needs
 
 loop-again : tie.Need-loop-again Inv-loop μ-loop
 loop-again c =
@@ -58,13 +46,4 @@ pub put-key-ups-spec : {M : Type 1} → statement M
 put-key-ups-spec =
     tie.close
     (tie.spec
-    Inv-loop
-    μ-loop
-    count-requires
-    loop-holds
-    put-holder-ups-requires
-    add-h
-    loop-less
-    loop-again
-    same-length
-    returns)
+    Inv-loop μ-loop (λ c κs. search needs) loop-holds (λ c κs. search needs) (λ c. search needs) (λ c. search needs) loop-again same-length returns)

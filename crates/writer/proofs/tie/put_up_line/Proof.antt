@@ -5,24 +5,6 @@ use borrow.Author.Needs.{needs}
 use Rattle.writer.proofs.tie.put_up_line.Statement.{statement}
 use Rattle.writer.proofs.tie.put_up_line.Tie as tie
 
-put-key-requires : tie.Need-put-key-requires
-put-key-requires c κs = search needs
-
-put-holder-requires : tie.Need-put-holder-requires
-put-holder-requires c κs = search needs
-
-put-byte-requires : tie.Need-put-byte-requires
-put-byte-requires c κs = search needs
-
-put-holder-requires-2 : tie.Need-put-holder-requires-2
-put-holder-requires-2 c κs = search needs
-
-put-byte-requires-2 : tie.Need-put-byte-requires-2
-put-byte-requires-2 c κs = search needs
-
-same-length : tie.Need-same-length
-same-length c = search needs
-
 returns : tie.Need-returns
 returns c =
     let p0 = c .before .before .before .before .before .before .before .before .before .before .before .before .before .before .before .before .before .before .put-key .ensures in
@@ -36,10 +18,4 @@ pub put-up-line-spec : {M : Type 1} → statement M
 put-up-line-spec =
     tie.close
     (tie.spec
-    put-key-requires
-    put-holder-requires
-    put-byte-requires
-    put-holder-requires-2
-    put-byte-requires-2
-    same-length
-    returns)
+    (λ c κs. search needs) (λ c κs. search needs) (λ c κs. search needs) (λ c κs. search needs) (λ c κs. search needs) (λ c. search needs) returns)

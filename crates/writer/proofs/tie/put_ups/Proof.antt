@@ -5,36 +5,6 @@ use borrow.Author.Needs.{needs}
 use Rattle.writer.proofs.tie.put_ups.Statement.{statement}
 use Rattle.writer.proofs.tie.put_ups.Tie as tie
 
-add-word : tie.Need-add-word
-add-word c = search needs
-
-word-requires : tie.Need-word-requires
-word-requires c κs = search needs
-
-slice-aggregate-add-groups : tie.Need-slice-aggregate-add-groups
-slice-aggregate-add-groups c = search needs
-
-sub-add-groups : tie.Need-sub-add-groups
-sub-add-groups c = search needs
-
-part-add-groups-start : tie.Need-part-add-groups-start
-part-add-groups-start c = search needs
-
-part-add-groups-end : tie.Need-part-add-groups-end
-part-add-groups-end c = search needs
-
-add-groups-requires : tie.Need-add-groups-requires
-add-groups-requires c κs = search needs
-
-slice-aggregate-put-groups : tie.Need-slice-aggregate-put-groups
-slice-aggregate-put-groups c = search needs
-
-put-groups-requires : tie.Need-put-groups-requires
-put-groups-requires c κs = search needs
-
-same-length : tie.Need-same-length
-same-length c = search needs
-
 returns : tie.Need-returns
 returns c =
     let a = c .before .before .before .before .before .before .before .before .before .before .before .before .args in
@@ -46,14 +16,5 @@ pub put-ups-spec : {M : Type 1} → statement M
 put-ups-spec =
     tie.close
     (tie.spec
-    add-word
-    word-requires
-    slice-aggregate-add-groups
-    sub-add-groups
-    part-add-groups-start
-    part-add-groups-end
-    add-groups-requires
-    slice-aggregate-put-groups
-    put-groups-requires
-    same-length
-    returns)
+    (λ c. search needs) (λ c κs. search needs) (λ c. search needs) (λ c. search needs) (λ c. search needs) (λ c. search needs) (λ c κs. search needs)
+    (λ c. search needs) (λ c κs. search needs) (λ c. search needs) returns)

@@ -9,30 +9,6 @@ use borrow.Author.Needs.{needs}
 use Rattle.writer.proofs.tie.put_value_line.Statement.{statement}
 use Rattle.writer.proofs.tie.put_value_line.Tie as tie
 
-row-of-pair-requires : tie.Need-row-of-pair-requires
-row-of-pair-requires c κs = search needs
-
-put-key-requires : tie.Need-put-key-requires
-put-key-requires c κs = search needs
-
-put-holder-requires : tie.Need-put-holder-requires
-put-holder-requires c κs = search needs
-
-put-byte-requires : tie.Need-put-byte-requires
-put-byte-requires c κs = search needs
-
-add-put-name : tie.Need-add-put-name
-add-put-name c = search needs
-
-put-name-requires : tie.Need-put-name-requires
-put-name-requires c κs = search needs
-
-put-byte-requires-2 : tie.Need-put-byte-requires-2
-put-byte-requires-2 c κs = search needs
-
-put-pair-atom-requires : tie.Need-put-pair-atom-requires
-put-pair-atom-requires c κs = search needs
-
 put-byte-requires-3 : tie.Need-put-byte-requires-3
 put-byte-requires-3 c κs =
     let p0 = c .before .before .before .before .before .before .before .before .before .before .before .before .before .before .before .before .before .before .before .before .before .before .before .put-key .ensures in
@@ -43,9 +19,6 @@ put-byte-requires-3 c κs =
     let p5 = c .before .before .before .put-pair-atom .ensures in
     let g : c .before .before .before .put-pair-atom .result < far = omega (arith, p0 .1, p1 .1, p2 .behind, p3 .1, p4 .behind, p5 .1, c .before .before .before .before .before .before .before .before .before .before .before .before .before .before .before .before .before .before .before .before .before .before .before .before .before .before .before .before .pre .0) in
     g
-
-same-length : tie.Need-same-length
-same-length c = search needs
 
 returns : tie.Need-returns
 unfolding valueLineText
@@ -63,14 +36,5 @@ pub put-value-line-spec : {M : Type 1} → statement M
 put-value-line-spec =
     tie.close
     (tie.spec
-    row-of-pair-requires
-    put-key-requires
-    put-holder-requires
-    put-byte-requires
-    add-put-name
-    put-name-requires
-    put-byte-requires-2
-    put-pair-atom-requires
-    put-byte-requires-3
-    same-length
-    returns)
+    (λ c κs. search needs) (λ c κs. search needs) (λ c κs. search needs) (λ c κs. search needs) (λ c. search needs) (λ c κs. search needs)
+    (λ c κs. search needs) (λ c κs. search needs) put-byte-requires-3 (λ c. search needs) returns)

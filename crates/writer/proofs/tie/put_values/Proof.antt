@@ -17,20 +17,8 @@ Inv-loop out₀ at book count n₀ h₀ out n h = (h ≤ count) × Laid out₀ a
 abbrev μ-loop : tie.MeasureT-loop
 μ-loop out₀ at book count n₀ h₀ out n h = count - h
 
-count-requires : tie.Need-count-requires Inv-loop μ-loop
-count-requires c κs = search needs
-
 loop-holds : tie.Need-loop-holds Inv-loop μ-loop
 loop-holds c = let a = c .before .before .before .args in (omega arith, laid-none (a .out .now) (a .at), omega arith)
-
-put-values-of-requires : tie.Need-put-values-of-requires Inv-loop μ-loop
-put-values-of-requires c κs = search needs
-
-add-h : tie.Need-add-h Inv-loop μ-loop
-add-h c = search needs
-
-loop-less : tie.Need-loop-less Inv-loop μ-loop
-loop-less c = search needs
 
 loop-again : tie.Need-loop-again Inv-loop μ-loop
 loop-again c =
@@ -54,13 +42,4 @@ pub put-values-spec : {M : Type 1} → statement M
 put-values-spec =
     tie.close
     (tie.spec
-    Inv-loop
-    μ-loop
-    count-requires
-    loop-holds
-    put-values-of-requires
-    add-h
-    loop-less
-    loop-again
-    same-length
-    returns)
+    Inv-loop μ-loop (λ c κs. search needs) loop-holds (λ c κs. search needs) (λ c. search needs) (λ c. search needs) loop-again same-length returns)

@@ -22,27 +22,6 @@ Inv-loop out₀ at book h start own n₀ p₀ out n p = (p ≤ 256) × (p < 256 
 abbrev μ-loop : tie.MeasureT-loop
 μ-loop out₀ at book h start own n₀ p₀ out n p = 256 - p
 
-mul-start : tie.Need-mul-start Inv-loop μ-loop
-mul-start c = search needs
-
-add-start : tie.Need-add-start Inv-loop μ-loop
-add-start c = search needs
-
-add-own : tie.Need-add-own Inv-loop μ-loop
-add-own c = search needs
-
-mul-own : tie.Need-mul-own Inv-loop μ-loop
-mul-own c = search needs
-
-sub-own : tie.Need-sub-own Inv-loop μ-loop
-sub-own c = search needs
-
-part-own-start : tie.Need-part-own-start Inv-loop μ-loop
-part-own-start c = search needs
-
-part-own-end : tie.Need-part-own-end Inv-loop μ-loop
-part-own-end c = search needs
-
 first-from-requires : tie.Need-first-from-requires Inv-loop μ-loop
 first-from-requires c κs =
     let a = c .before .before .before .args in
@@ -61,12 +40,6 @@ loop-holds c =
     let long = own-long (a .book .now) (a .h) (pre .2) (pre .1) in
     let v = next-value (a .book .now) (a .h) same long (omega arith) (c .first-from .ensures) in
     (v .within, v .held, laid-as (v .passes) (laid-none (a .out .now) (a .at)), omega arith)
-
-put-value-line-requires : tie.Need-put-value-line-requires Inv-loop μ-loop
-put-value-line-requires c κs = search needs
-
-add-first-from : tie.Need-add-first-from Inv-loop μ-loop
-add-first-from c = search needs
 
 first-from-requires-2 : tie.Need-first-from-requires-2 Inv-loop μ-loop
 first-from-requires-2 c κs =
@@ -114,21 +87,5 @@ pub put-values-of-spec : {M : Type 1} → statement M
 put-values-of-spec =
     tie.close
     (tie.spec
-    Inv-loop
-    μ-loop
-    mul-start
-    add-start
-    add-own
-    mul-own
-    sub-own
-    part-own-start
-    part-own-end
-    first-from-requires
-    loop-holds
-    put-value-line-requires
-    add-first-from
-    first-from-requires-2
-    loop-less
-    loop-again
-    same-length
-    returns)
+    Inv-loop μ-loop (λ c. search needs) (λ c. search needs) (λ c. search needs) (λ c. search needs) (λ c. search needs) (λ c. search needs) (λ c. search needs)
+    first-from-requires loop-holds (λ c κs. search needs) (λ c. search needs) first-from-requires-2 loop-less loop-again same-length returns)

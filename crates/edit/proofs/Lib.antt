@@ -1,0 +1,7 @@
+-- Laws about edits.
+pub mod EditLines
+pub mod EditTies
+pub mod EditTables
+pub mod EditRefusals
+pub mod EditedSets
+pub mod EditCalls

@@ -1,0 +1,19 @@
+-- `edit::apply` meets its contract. Assumes nothing.
+use Rattle.tielines.specs.TieSteps.{tieBy}
+use Rattle.edit.proofs.EditTables.{edited-lower, applied}
+use borrow.Author.Needs.{needs}
+use Rattle.edit.proofs.apply.Statement.{statement}
+use Rattle.edit.proofs.apply.Tie as tie
+
+returns : tie.Need-returns
+returns c =
+    let start = c .before .before .before .before .before .before .before .before .before .before .before in
+    let t = start .args .t in
+    let changed = c .before .before .before .before .before .before .before .change in
+    let kept = c .before .before .refresh in
+    applied (start .args .plus) (tieBy (t .kind) (t .lower) (t .upper)) (start .args .words .now) (changed .last .0) (start .args .table .now) (kept .last .0)
+    (t .lower) (kept .result) (edited-lower (t .kind) (t .lower) (t .upper)) (changed .ensures) (kept .ensures)
+
+pub apply-spec : {M : Type 1} → statement M
+apply-spec =
+    tie.close (tie.spec (λ c κs. search needs) (λ c κs. search needs) (λ c. search needs) (λ c. search needs) returns)

@@ -1,0 +1,104 @@
+-- `edit::edit` meets its contract: one law for each way out. Assumes nothing.
+use mathlib.Core.Path.{sym, _∙_}
+use lib.Dec.{eqb}
+use native.Mathlib.Omega.{arith}
+use Rattle.tielines.specs.TieSteps.{tieBy}
+use Rattle.edit.proofs.EditRefusals.{unsigned, lineOf, signed-line, line-refused, tie-fitting, tie-refusal}
+use Rattle.edit.proofs.EditCalls.{without-table, refused-call, accepted-call}
+use borrow.Author.Needs.{needs}
+use Rattle.edit.proofs.edit.Statement.{statement}
+use Rattle.edit.proofs.edit.Tie as tie
+
+returns : tie.Need-returns
+returns c =
+    let start = c .before .before .before .before in
+    let r = c .refused in
+    without-table (start .args .line .now) (start .args .book .now) (start .args .table .now) (r .result .number) (r .result .count)
+    (c .before .if1 .taken) (r .ensures .0) (r .ensures .1)
+
+returns-2 : tie.Need-returns-2
+returns-2 c =
+    let start = c .before .before .before .before .before .before in
+    let line = start .args .line .now in
+    let book = start .args .book .now in
+    let table = start .args .table .now in
+    let long = c .before .before .before .if1 .left in
+    let sign = c .before .before .sign in
+    let r = c .refused2 in
+    refused-call line book table (r .result .number) (r .result .count) long (λ z. omega (arith, z, r .ensures .0)) (r .ensures .1)
+    (λ S code standing held. unsigned S line (sign .result) (sign .ensures) (c .before .if2 .taken) ∙ sym (r .ensures .0))
+
+sub-tie-of-line : tie.Need-sub-tie-of-line
+sub-tie-of-line c = c .before .before .before .sign .ensures .within (c .before .before .if2 .left)
+
+part-tie-of-line-start : tie.Need-part-tie-of-line-start
+part-tie-of-line-start c = c .before .before .before .sign .ensures .within (c .before .before .if2 .left)
+
+returns-3 : tie.Need-returns-3
+returns-3 c =
+    let start = c .before .before .before .before .before .before .before .before .before .before .before .before in
+    let line = start .args .line .now in
+    let book = start .args .book .now in
+    let table = start .args .table .now in
+    let long = c .before .before .before .before .before .before .before .before .before .if1 .left in
+    let sign = c .before .before .before .before .before .before .before .before .sign in
+    let plus = eqb (sign .result) 1 in
+    let there = c .before .before .before .before .before .before .before .if2 .left in
+    let signed = signed-line line (sign .result) (sign .ensures) there in
+    let told = c .before .before .before .tie-of-line in
+    let t = tieBy (told .result .kind) (told .result .lower) (told .result .upper) in
+    let r = c .refused3 in
+    let some-number = c .before .if3 .taken in
+    refused-call line book table (r .result .number) (r .result .count) long (λ z. some-number (sym (r .ensures .0) ∙ z)) (r .ensures .1)
+    (λ S code standing held.
+    line-refused S line plus (lineOf line) signed (told .result .number) t (told .ensures S code standing held) some-number ∙ sym (r .ensures .0))
+
+returns-4 : tie.Need-returns-4
+returns-4 c =
+    let start = c .before .before .before .before .before .before .before .before .before .before .before .before .before .before in
+    let line = start .args .line .now in
+    let book = start .args .book .now in
+    let table = start .args .table .now in
+    let long = c .before .before .before .before .before .before .before .before .before .before .before .if1 .left in
+    let sign = c .before .before .before .before .before .before .before .before .before .before .sign in
+    let plus = eqb (sign .result) 1 in
+    let there = c .before .before .before .before .before .before .before .before .before .if2 .left in
+    let signed = signed-line line (sign .result) (sign .ensures) there in
+    let told = c .before .before .before .before .before .tie-of-line in
+    let t = tieBy (told .result .kind) (told .result .lower) (told .result .upper) in
+    let found = c .before .before .judged in
+    let r = c .refused4 in
+    let zero = c .before .before .before .if3 .left in
+    refused-call line book table (r .result .number) (r .result .count) long (λ z. c .before .if4 .taken (sym (r .ensures .0) ∙ z)) (r .ensures .1)
+    (λ S code standing held.
+    let read = told .ensures S code standing held in
+    let fits = tie-fitting S line plus (lineOf line) signed (told .result .number) t read zero in
+    tie-refusal S line plus (lineOf line) signed (told .result .number) t read zero ∙ sym (found .ensures S code standing held fits) ∙ sym (r .ensures .0))
+
+returns-5 : tie.Need-returns-5
+returns-5 c =
+    let start = c .before .before .before .before .before .before .before .before .before .before .before .before .before .before .before .before .before .before in
+    let line = start .args .line .now in
+    let book = start .args .book .now in
+    let table = start .args .table .now in
+    let long = c .before .before .before .before .before .before .before .before .before .before .before .before .before .before .before .if1 .left in
+    let sign = c .before .before .before .before .before .before .before .before .before .before .before .before .before .before .sign in
+    let plus = eqb (sign .result) 1 in
+    let there = c .before .before .before .before .before .before .before .before .before .before .before .before .before .if2 .left in
+    let signed = signed-line line (sign .result) (sign .ensures) there in
+    let told = c .before .before .before .before .before .before .before .before .before .tie-of-line in
+    let t = tieBy (told .result .kind) (told .result .lower) (told .result .upper) in
+    let found = c .before .before .before .before .before .before .judged in
+    let done = c .before .before .apply in
+    let zero = c .before .before .before .before .before .before .before .if3 .left in
+    let none-found = c .before .before .before .before .before .if4 .left in
+    accepted-call line book table (done .last .1 .0) (done .last .0) (done .result) long (done .kept .1 .0) (done .kept .0)
+    plus (lineOf line) signed (told .result .number) t (told .ensures) zero (found .result) (found .ensures) none-found (done .ensures)
+
+pub edit-spec : {M : Type 1} → statement M
+edit-spec =
+    tie.close
+    (tie.spec
+    (λ c κs. search needs) returns (λ c κs. search needs) (λ c κs. search needs) returns-2 sub-tie-of-line part-tie-of-line-start (λ c. search needs)
+    (λ c κs. search needs) (λ c κs. search needs) returns-3 (λ c κs. search needs) (λ c κs. search needs) returns-4 (λ c κs. search needs) (λ c. search needs)
+    returns-5)

@@ -1,0 +1,2 @@
+-- Laws about answers as bytes.
+pub mod PrintedLines

@@ -1,0 +1,43 @@
+// Answers as bytes, each laid over the output behind the one before.
+ghost use Prim.Native.Nat.{_+_, _≤_};
+ghost use lib.ListN.{length};
+ghost use Rattle.model.specs.Ledger.{decided};
+ghost use Rattle.model.specs.Gate.{printed};
+ghost use Rattle.output.specs.Laid.{far};
+ghost use Rattle.request.specs.Decisions.{decisionOf};
+ghost use Rattle.printing.specs.Printing.{answerBytes, PrintedAt, pairLine, numberLine};
+use request::Decision;
+
+// A key and two numbers.
+pub fn put_pair(out: &mut [u8], at: usize, key: &[u8], number: u32, other: u32) -> usize
+    requires { ⌜ (at + answerBytes ≤ far) × (length (now key) ≤ 10) ⌝ }
+    ensures { λ r. ⌜ PrintedAt (now (out .entry)) at (pairLine (now (key .entry)) number other) (now (out .exit)) r ⌝ }
+{
+    let a = output::put(out, at, key);
+    let b = output::put_decimal(out, a, number);
+    let c = output::put_byte(out, b, b',');
+    let d = output::put_decimal(out, c, other);
+    output::put_byte(out, d, b'\n')
+}
+
+// A text and one number.
+pub fn put_number(out: &mut [u8], at: usize, text: &[u8], n: u32) -> usize
+    requires { ⌜ (at + answerBytes ≤ far) × (length (now text) ≤ 20) ⌝ }
+    ensures { λ r. ⌜ PrintedAt (now (out .entry)) at (numberLine (now (text .entry)) n) (now (out .exit)) r ⌝ }
+{
+    let a = output::put(out, at, text);
+    let b = output::put_decimal(out, a, n);
+    output::put_byte(out, b, b'\n')
+}
+
+pub fn put_decision(out: &mut [u8], at: usize, decision: Decision) -> usize
+    requires { ⌜ at + answerBytes ≤ far ⌝ }
+    ensures { λ r. ⌜ PrintedAt (now (out .entry)) at (printed (decided (decisionOf decision))) (now (out .exit)) r ⌝ }
+{
+    match decision {
+        Decision::Permit(rule) => put_number(out, at, b"try=permit,", rule as u32),
+        Decision::Deny => output::put(out, at, b"try=deny\n"),
+        Decision::Undefined => output::put(out, at, b"try=undefined\n"),
+        Decision::Refused(number) => put_number(out, at, b"try=refused,", number as u32),
+    }
+}
