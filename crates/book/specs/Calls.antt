@@ -5,9 +5,20 @@ use mathlib.Core.List.{List}
 use Rattle.model.specs.Limits.{Edition}
 use Rattle.model.specs.Bytes.{Bytes}
 use Rattle.model.specs.State.{State, empty}
-use Rattle.model.specs.Ledger.{Call, Answer, loaded, edited, tableAfter, Outcome, outcome}
+use Rattle.model.specs.Decision.{numberAndValues}
+use Rattle.model.specs.Ledger.{Call, Answer, loaded, edited, decided, tableAfter, Outcome, outcome}
 use Rattle.model.specs.Standing.{Standing}
 use Rattle.book.specs.Held.{Holds}
+
+-- the number of an answer
+abbrev pub answerNumber : Answer → ℕ
+answerNumber (loaded number line) = number
+answerNumber (edited number count) = number
+answerNumber (decided d) = numberAndValues d .0
+
+-- the answer of a refused edit: its count is "0 if refused"
+abbrev pub refusedEdit : ℕ → Answer
+refusedEdit number = edited number 0
 
 -- a call's outcome: its answer, the words of the table after it, and a book that holds its state
 pub record Gives (o : Outcome) (answer : Answer) (words book : List ℕ) (code : Bytes) : Type 0 where
@@ -22,10 +33,14 @@ pub record Together (S : State) (book : List ℕ) (code : Bytes) (words : List �
   pub kept : tableAfter words S ≡ words
 
 -- "A load gives both anew": whatever book and table were before, and of whatever edition
-abbrev pub Loads : Bytes → List ℕ → ℕ → ℕ → List ℕ → List ℕ → Bytes → Type 0
-Loads file words number line words′ book′ code′ = Gives (outcome (empty Edition.first) words (Call.load file)) (loaded number line) words′ book′ code′
+abbrev pub Loads : Bytes → List ℕ → Answer → List ℕ → List ℕ → Bytes → Type 0
+Loads file words a words′ book′ code′ = Gives (outcome (empty Edition.first) words (Call.load file)) a words′ book′ code′
 
 -- an edit, on a book and a table that go together
-abbrev pub Edits : Bytes → List ℕ → List ℕ → ℕ → ℕ → List ℕ → List ℕ → Type 0
-Edits line book words number count words′ book′ =
-    (S : State) (code : Bytes) → Together S book code words → Gives (outcome S words (Call.edit line)) (edited number count) words′ book′ code
+abbrev pub Edits : Bytes → List ℕ → List ℕ → Answer → List ℕ → List ℕ → Type 0
+Edits line book words a words′ book′ =
+    (S : State) (code : Bytes) → Together S book code words → Gives (outcome S words (Call.edit line)) a words′ book′ code
+
+-- a request, on a book and a table that go together
+abbrev pub AnswersRequest : Bytes → List ℕ → Bytes → List ℕ → Answer → Type 0
+AnswersRequest block book code words a = (S : State) → Together S book code words → outcome S words (Call.request block) .answer ≡ a

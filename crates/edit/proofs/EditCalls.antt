@@ -20,7 +20,7 @@ use Rattle.model.specs.Ledger.{Call, Answer, edited, tableAfter, Outcome, outco
 use Rattle.model.specs.Standing.{Standing}
 use Rattle.model.proofs.Outcomes.{outcome-by}
 use Rattle.book.specs.Held.{Holds}
-use Rattle.book.specs.Calls.{Gives, Together, Edits}
+use Rattle.book.specs.Calls.{refusedEdit, Gives, Together, Edits}
 use Rattle.edit.specs.EditSteps.{LineTie, TieJudged, Applied, Untouched, SetsElsewhere, EditCall}
 use Rattle.edit.proofs.EditedSets.{sets-elsewhere}
 use Rattle.edit.proofs.EditRefusals.{SignedLine, tie-fitting, tie-refusal, edited-tie, adds-is}
@@ -57,58 +57,62 @@ module _ (S : State) (words : List ℕ) (line : Bytes) where
         state = record { declared = S .declared; ties = editedTies b o (S .ties) };
       }) a e
 
+-- the same answer in other words
+pub answer-as : {line : Bytes} {book words : List ℕ} {a b : Answer} {words′ book′ : List ℕ} → a ≡ b → EditCall line book words b words′ book′ → EditCall line book words a words′ book′
+answer-as {line} {book} {words} {words′ = words′} {book′ = book′} e call = subst (λ (a : Answer). EditCall line book words a words′ book′) (sym e) call
+
 -- an edit that gives the ledger's outcome leaves the sets elsewhere
-elsewhere-by : (line : Bytes) {book words : List ℕ} {number count : ℕ} {words′ book′ : List ℕ} → Edits line book words number count words′ book′
+elsewhere-by : (line : Bytes) {book words : List ℕ} {a : Answer} {words′ book′ : List ℕ} → Edits line book words a words′ book′
     → (S : State) (code : Bytes) → Together S book code words → SetsElsewhere S line words words′
 elsewhere-by line edits S code together = sets-elsewhere line together (edits S code together)
 
-module _ (line : Bytes) (book words : List ℕ) (number count : ℕ) where
-  untouched : count ≡ 0 → Untouched book words count words book
-  untouched z = record { uncounted = z; same-table = refl; same-book = refl }
+module _ (line : Bytes) (book words : List ℕ) (number : ℕ) where
+  untouched : Untouched book words words book
+  untouched = record { same-table = refl; same-book = refl }
 
   -- "1: table not 1,024 words, any call. Table untouched; … an edit keeps its own" book
-  pub without-table : (length words ≡ tableWords Edition.first → ⊥) → number ≡ refusal.wrongTable → count ≡ 0 → EditCall line book words number count words book
+  pub without-table : (length words ≡ tableWords Edition.first → ⊥) → number ≡ refusal.wrongTable → EditCall line book words (refusedEdit number) words book
   unfolding wrongTable
-  without-table wrong one none′ = record {
+  without-table wrong one = record {
     edits = given;
     elsewhere = elsewhere-by line given;
-    wrong-table = λ _. (one, untouched none′);
-    refused = λ _. untouched none′;
+    wrong-table = λ _. (ap refusedEdit one, untouched);
+    refused = λ _. (refl, untouched);
     table-long = refl;
     book-long = refl;
   }
     where
-      given : Edits line book words number count words book
+      given : Edits line book words (refusedEdit number) words book
       given S code together =
-          subst (λ (o : Outcome). Gives o (edited number count) words book code)
+          subst (λ (o : Outcome). Gives o (refusedEdit number) words book code)
           (sym (outcome-by S words (Call.edit line) (ap not (ne-eqb (length words) (tableWords (S .declared .edition)) (λ e. wrong (e ∙ ap tableWords (together .holds .edition)))))))
-          (record { answered = ap₂ edited (sym one) (sym none′); table = refl; holds = together .holds })
+          (record { answered = ap refusedEdit (sym one); table = refl; holds = together .holds })
 
   -- "a refused edit changes nothing"
-  pub refused-call : length words ≡ tableWords Edition.first → (number ≡ 0 → ⊥) → count ≡ 0
-      → ((S : State) (code : Bytes) → Standing S → Holds book code S → editRefusal S line ≡ number) → EditCall line book words number count words book
-  refused-call size z none′ judged = record {
+  pub refused-call : length words ≡ tableWords Edition.first → (number ≡ 0 → ⊥)
+      → ((S : State) (code : Bytes) → Standing S → Holds book code S → editRefusal S line ≡ number) → EditCall line book words (refusedEdit number) words book
+  refused-call size z judged = record {
     edits = given;
     elsewhere = elsewhere-by line given;
     wrong-table = λ wrong. absurd (wrong size);
-    refused = λ _. untouched none′;
+    refused = λ _. (refl, untouched);
     table-long = refl;
     book-long = refl;
   }
     where
-      given : Edits line book words number count words book
+      given : Edits line book words (refusedEdit number) words book
       given S code together =
           let n = judged S code (together .standing) (together .holds) in
           let right = size ∙ ap tableWords (sym (together .holds .edition)) in
           let is-refused = refuses S words line (λ e. z (sym n ∙ e)) in
-          subst (λ (o : Outcome). Gives o (edited number count) words book code) (sym (on-table S words line right is-refused))
-          (record { answered = ap₂ edited n (sym none′); table = sym (kept-table S words line right (together .kept)); holds = together .holds })
+          subst (λ (o : Outcome). Gives o (refusedEdit number) words book code) (sym (on-table S words line right is-refused))
+          (record { answered = ap refusedEdit n; table = sym (kept-table S words line right (together .kept)); holds = together .holds })
 
 -- "The answer is 0 and the number of holders whose stored set changed"
 pub accepted-call : (edit : Bytes) (book words words′ book′ : List ℕ) (count : ℕ)
     → length words ≡ tableWords Edition.first → length words′ ≡ length words → length book′ ≡ length book
     → (plus : Bool) (line : Bytes) → SignedLine edit plus line → (n : ℕ) (t : Tie) → LineTie book line n t → n ≡ 0 → (r : ℕ) → TieJudged book plus t r → r ≡ 0
-    → Applied plus t book book′ words words′ count → EditCall edit book words 0 count words′ book′
+    → Applied plus t book book′ words words′ count → EditCall edit book words (edited 0 count) words′ book′
 accepted-call edit book words words′ book′ count size long book-long′ plus line signed n t told z r judged y applied = record {
   edits = given;
   elsewhere = elsewhere-by edit given;
@@ -118,7 +122,7 @@ accepted-call edit book words words′ book′ count size long book-long′ plus
   book-long = book-long′;
 }
   where
-    given : Edits edit book words 0 count words′ book′
+    given : Edits edit book words (edited 0 count) words′ book′
     given S code together =
         let right = size ∙ ap tableWords (sym (together .holds .edition)) in
         let read = told S code (together .standing) (together .holds) in
@@ -127,5 +131,5 @@ accepted-call edit book words words′ book′ count size long book-long′ plus
         let zero′ = tie-refusal S edit plus line signed n t read z ∙ sym passed in
         let is-accepted = accepts S words edit zero′ (adds-is S edit plus line signed) (edited-tie S edit plus line signed n t read z) in
         let done = applied S code (together .standing) (together .holds) (kept-table S words edit right (together .kept)) fits passed in
-        subst (λ (o : Outcome). Gives o (Answer.edited 0 count) words′ book′ code) (sym (on-table S words edit right is-accepted))
-        (record { answered = ap (Answer.edited 0) (sym (done .counted)); table = sym (done .table-is); holds = done .holds })
+        subst (λ (o : Outcome). Gives o (edited 0 count) words′ book′ code) (sym (on-table S words edit right is-accepted))
+        (record { answered = ap (edited 0) (sym (done .counted)); table = sym (done .table-is); holds = done .holds })

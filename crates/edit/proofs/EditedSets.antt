@@ -17,7 +17,7 @@ use Rattle.model.specs.State.{State}
 use Rattle.model.specs.Refusals.{editRefusal}
 use Rattle.model.specs.Edits as model
 use Rattle.model.specs.Ledger as ledger
-use Rattle.model.specs.Ledger.{Call, outcome}
+use Rattle.model.specs.Ledger.{Call, Answer, outcome}
 use Rattle.model.proofs.WordTables.{same-refl}
 use Rattle.model.proofs.Lists.{count-below}
 use Rattle.model.proofs.Ledger.{edit-standing, edit-elsewhere, refused-edit}
@@ -27,7 +27,7 @@ use Rattle.model.proofs.Outcomes.{edit-by-table}
 use Rattle.model.proofs.TableLayout.{words-same, set-in-table}
 use Rattle.model.proofs.Changes.{setChanged, changes-exact}
 use Rattle.model.specs.Standing.{Standing}
-use Rattle.book.specs.Calls.{Gives, Together}
+use Rattle.book.specs.Calls.{answerNumber, Gives, Together}
 use Rattle.edit.specs.EditSteps.{SetsElsewhere}
 
 stored-same : (D E : Declarations) (T U : Ties) (k : ℕ) → E ≡ D → ((p : ℕ) → effectiveSet D U k p ≡ effectiveSet D T k p) → storedSet E U k ≡ storedSet D T k
@@ -53,33 +53,31 @@ count-exact {S} standing line = go (eqb (editRefusal S line) 0) (edit-standing S
     go true after = changes-exact (S .declared) (S .ties) (model.accepting S line .state .ties) standing after
     go false after = sym (none-changed (holderNumbers (S .declared .edition)) (table (S .declared) (S .ties)))
 
-module _ (line : Bytes) {S : State} {book words : List ℕ} {code : Bytes} {number changed : ℕ} {words′ book′ : List ℕ} {code′ : Bytes}
-    (together : Together S book code words) (given : Gives (outcome S words (Call.edit line)) (ledger.edited number changed) words′ book′ code′) where
+module _ (line : Bytes) {S : State} {book words : List ℕ} {code : Bytes} {a : Answer} {words′ book′ : List ℕ} {code′ : Bytes}
+    (together : Together S book code words) (given : Gives (outcome S words (Call.edit line)) a words′ book′ code′) where
   -- no holder that is neither the edited one nor below it
   pub sets-elsewhere : SetsElsewhere S line words words′
   unfolding effectiveSet
   sets-elsewhere k h far =
       ap (λ (w : List ℕ). setIn w k) (sym (given .table))
-      ∙ edit-by-table S words line (together .kept) (λ a w u T. setIn u k ≡ setIn w k) refl
+      ∙ edit-by-table S words line (together .kept) (λ b w u T. setIn u k ≡ setIn w k) refl
       (set-in-table (model.edit S line .state .declared) (model.edit S line .state .ties) k (subst (λ (e : Edition). k < holderNumbers e) (sym (edit-edition S line)) h)
       ∙ stored-same (S .declared) (model.edit S line .state .declared) (S .ties) (model.edit S line .state .ties) k (edit-declared S line) (λ p. edit-elsewhere S line k p far)
       ∙ sym (set-in-table (S .declared) (S .ties) k h))
 
   -- "a refused edit changes nothing"
-  pub refused-sets : (number ≡ 0 → ⊥) → words′ ≡ words
+  pub refused-sets : (answerNumber a ≡ 0 → ⊥) → words′ ≡ words
   refused-sets refused =
       sym (given .table)
-      ∙ edit-by-table S words line (together .kept) (λ a w u T. a ≡ ledger.edited number changed → u ≡ w) (λ e. refl)
-      (λ e.
-      let n : model.edit S line .number ≡ number = cc in
-      ap (λ (T : State). table (T .declared) (T .ties)) (refused-edit S line (λ z. refused (sym n ∙ z)) .0))
+      ∙ edit-by-table S words line (together .kept) (λ b w u T. b ≡ a → u ≡ w) (λ e. refl)
+      (λ e. ap (λ (T : State). table (T .declared) (T .ties)) (refused-edit S line (λ z. refused (sym (ap answerNumber e) ∙ z)) .0))
       (given .answered)
 
   -- the count is that of the holders whose four words differ
-  pub sets-counted : changed ≡ countOf (setChanged words words′) (below (holderNumbers (S .declared .edition)))
-  sets-counted =
-      edit-by-table S words line (together .kept) (λ a w u T. a ≡ ledger.edited number changed → changed ≡ countOf (setChanged w u) (below (holderNumbers (S .declared .edition))))
+  pub sets-counted : {number changed : ℕ} → a ≡ ledger.edited number changed → changed ≡ countOf (setChanged words words′) (below (holderNumbers (S .declared .edition)))
+  sets-counted {number} {changed} is =
+      edit-by-table S words line (together .kept) (λ b w u T. b ≡ ledger.edited number changed → changed ≡ countOf (setChanged w u) (below (holderNumbers (S .declared .edition))))
       (λ e. let z : changed ≡ 0 = cc in z ∙ sym (none-changed (holderNumbers (S .declared .edition)) words))
       (λ e. let n : changed ≡ model.edit S line .changed = cc in n ∙ count-exact (together .standing) line)
-      (given .answered)
+      (given .answered ∙ is)
       ∙ ap (λ (u : List ℕ). countOf (setChanged words u) (below (holderNumbers (S .declared .edition)))) (given .table)

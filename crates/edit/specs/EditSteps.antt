@@ -18,6 +18,7 @@ use Rattle.model.specs.Table.{table, setIn}
 use Rattle.model.specs.State.{State, tieOf}
 use Rattle.model.specs.Refusals.{Test, _if_, first, unframed, otherKey, malformed, undeclared, wrongSort, tieCloses}
 use Rattle.model.specs.Edits.{editedTie, editedTies, changes}
+use Rattle.model.specs.Ledger.{Answer, edited}
 use Rattle.model.specs.Standing.{Standing, TieFits}
 use Rattle.codes.specs.Codes.{keyCode}
 use Rattle.sets.specs.Refreshed.{Refreshed}
@@ -25,7 +26,8 @@ use Rattle.book.specs.Sections as section
 use Rattle.book.specs.Sections.{sectionWords}
 use Rattle.book.specs.Held.{Holds}
 use Rattle.tielines.specs.TieSteps.{TiesEdited}
-use Rattle.book.specs.Calls.{Together, Edits}
+use Rattle.book.specs.Calls.{answerNumber, refusedEdit, Together, Edits}
+use Rattle.edit.specs.declared.Edited.{Edited}
 
 -- a number by tests, and the tie of the line that was read where it is 0
 pub record ReadTie (S : State) (tests : List Test) (l : Option Line) (number : ℕ) (t : Tie) : Type 0 where
@@ -96,9 +98,8 @@ Applied plus t book book′ words words′ count =
     (S : State) (code : Bytes) → Standing S → Holds book code S → words ≡ table (S .declared) (S .ties) → TieFits (S .declared) t
     → 0 ≡ first (signTests S plus t) → Changed S code plus t book′ words′ count
 
--- what is left as it was, by an answer with no count
-pub record Untouched (book words : List ℕ) (count : ℕ) (words′ book′ : List ℕ) : Type 0 where
-  pub uncounted : count ≡ 0
+-- what is left as it was
+pub record Untouched (book words words′ book′ : List ℕ) : Type 0 where
   pub same-table : words′ ≡ words
   pub same-book : book′ ≡ book
 
@@ -108,11 +109,15 @@ SetsElsewhere S line words words′ =
     (k : ℕ) → k < holderNumbers (S .declared .edition) → ((t : Tie) → editedTie S line ≡ some t → (k ≡ editedHolder t → ⊥) × (Below (S .ties) k (editedHolder t) → ⊥))
     → setIn words′ k ≡ setIn words k
 
+-- what the code answers, as the ledger has it
+abbrev pub editedOf : Edited → Answer
+editedOf r = edited (r .number) (r .count)
+
 -- the call. The last four hold of every book and table
-pub record EditCall (line : Bytes) (book words : List ℕ) (number count : ℕ) (words′ book′ : List ℕ) : Type 0 where
-  pub edits : Edits line book words number count words′ book′
+pub record EditCall (line : Bytes) (book words : List ℕ) (a : Answer) (words′ book′ : List ℕ) : Type 0 where
+  pub edits : Edits line book words a words′ book′
   pub elsewhere : (S : State) (code : Bytes) → Together S book code words → SetsElsewhere S line words words′
-  pub wrong-table : (length words ≡ tableWords Edition.first → ⊥) → (number ≡ refusal.wrongTable) × Untouched book words count words′ book′
-  pub refused : (number ≡ 0 → ⊥) → Untouched book words count words′ book′
+  pub wrong-table : (length words ≡ tableWords Edition.first → ⊥) → (a ≡ refusedEdit refusal.wrongTable) × Untouched book words words′ book′
+  pub refused : (answerNumber a ≡ 0 → ⊥) → (a ≡ refusedEdit (answerNumber a)) × Untouched book words words′ book′
   pub table-long : length words′ ≡ length words
   pub book-long : length book′ ≡ length book

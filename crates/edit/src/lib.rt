@@ -5,8 +5,9 @@ ghost use Rattle.model.specs.Limits.{Edition, tableWords};
 ghost use Rattle.model.specs.Keys.{Key};
 ghost use Rattle.model.specs.Lines.{readFields};
 ghost use Rattle.book.specs.Sections.{bookWords};
+ghost use Rattle.book.specs.Calls.{refusedEdit};
 ghost use Rattle.tielines.specs.TieSteps.{tieBy};
-ghost use Rattle.edit.specs.EditSteps.{FieldsTie, TwoFieldsTie, KeyTie, LineTie, TieJudged, TieChanged, TableKept, Applied, EditCall};
+ghost use Rattle.edit.specs.EditSteps.{FieldsTie, TwoFieldsTie, KeyTie, LineTie, TieJudged, TieChanged, TableKept, Applied, editedOf, EditCall};
 use book::BOOK_WORDS;
 use book::OWN_AT;
 use book::RULES_AT;
@@ -35,7 +36,7 @@ pub struct Edited {
 }
 
 fn refused(number: u8) -> Edited
-    ensures { λ r. ⌜ (r .number ≡ number) × (r .count ≡ 0) ⌝ }
+    ensures { λ r. ⌜ editedOf r ≡ refusedEdit number ⌝ }
 {
     Edited { number, count: 0 }
 }
@@ -175,7 +176,7 @@ fn apply(words: &mut [u64], table: &mut [u64], plus: bool, t: Tie) -> u32
 
 // An edit: its line with the sign, on the book and the table that go together.
 pub fn edit(line: &[u8], book: &mut [u64; BOOK_WORDS], table: &mut [u64]) -> Edited
-    ensures { λ r. ⌜ EditCall (now (line .entry)) (now (book .entry)) (now (table .entry)) (r .number) (r .count) (now (table .exit)) (now (book .exit)) ⌝ }
+    ensures { λ r. ⌜ EditCall (now (line .entry)) (now (book .entry)) (now (table .entry)) (editedOf r) (now (table .exit)) (now (book .exit)) ⌝ }
 {
     if table.len() != TABLE_WORDS {
         return refused(WRONG_TABLE);

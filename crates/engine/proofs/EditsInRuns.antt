@@ -1,7 +1,7 @@
 -- What an edit does in a run: it changes the words of no holder that is neither the edited one nor below it, where it is refused those of none, and its
 -- count is that of the holders whose words changed. Assumes nothing.
 use Prim.Native.Nat.{ℕ}
-use mathlib.Core.Path.{_≡_}
+use mathlib.Core.Path.{_≡_, refl}
 use mathlib.Core.List.{List}
 use Rattle.model.specs.Notation.{countOf, below}
 use Rattle.model.specs.Limits.{holderNumbers}
@@ -35,4 +35,4 @@ module _ {first : Memory} {calls : List Call} {S : State} {before after : Memory
 
   -- the count is that of the holders whose four words differ
   pub count-in-run : changed ≡ countOf (setChanged (before .words) (after .words)) (below (holderNumbers (S .declared .edition)))
-  count-in-run = sets-counted line together given
+  count-in-run = sets-counted line together given refl

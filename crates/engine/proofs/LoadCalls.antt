@@ -41,21 +41,21 @@ module _ (file : Bytes) (words : List ℕ) where
   unfolding wrongTable namedEdition
   right-is long = ap not (eq-eqb (length words) (tableWords Edition.first) long)
 
-  pub without-table : {book words′ : List ℕ} {code : Bytes} → (length words ≡ tableWords Edition.first → ⊥) → Holds book code (empty Edition.first) → Cleared words words′ → Loads file words refusal.wrongTable 0 words′ book code
+  pub without-table : {book words′ : List ℕ} {code : Bytes} → (length words ≡ tableWords Edition.first → ⊥) → Holds book code (empty Edition.first) → Cleared words words′ → Loads file words (loaded refusal.wrongTable 0) words′ book code
   unfolding namedEdition
   without-table {book} {words′} {code} n held cleared =
       subst (λ (o : Outcome). Gives o (loaded refusal.wrongTable 0) words′ book code) (by-table true (wrong-is n)) (record { answered = refl; table = sym (cleared .kept n); holds = held })
 
   module _ (long : length words ≡ tableWords Edition.first) {book : List ℕ} {code : Bytes} (number line : ℕ) (words′ : List ℕ) where
     by-load : number ≡ model.load file .number → line ≡ model.load file .line → table (model.load file .state .declared) (model.load file .state .ties) ≡ words′
-        → Holds book code (model.load file .state) → Loads file words number line words′ book code
+        → Holds book code (model.load file .state) → Loads file words (loaded number line) words′ book code
     by-load n l t held =
         subst (λ (o : Outcome). Gives o (loaded number line) words′ book code) (by-table false (right-is long))
         (record { answered = ap₂ loaded (sym n) (sym l); table = t; holds = held })
 
     -- "Book empty, table all 0"
     pub refused-file : number ≡ model.load file .number → line ≡ model.load file .line → (number ≡ 0 → ⊥)
-        → length words′ ≡ length words → Holds book code (empty Edition.first) → Cleared words words′ → Loads file words number line words′ book code
+        → length words′ ≡ length words → Holds book code (empty Edition.first) → Cleared words words′ → Loads file words (loaded number line) words′ book code
     unfolding namedEdition
     refused-file n l off same held cleared =
         let nothing : model.load file .state ≡ empty Edition.first =
@@ -68,7 +68,7 @@ module _ (file : Bytes) (words : List ℕ) where
             ext-getD 0 (replicate {A = ℕ} (tableWords Edition.first) 0) words′ (length-replicate {A = ℕ} (tableWords Edition.first) 0 ∙ sym (same ∙ long))
             (λ i h. getD-replicate {A = ℕ} (tableWords Edition.first) i 0 0 (omega (arith, h, length-replicate {A = ℕ} (tableWords Edition.first) 0)) ∙ sym (cleared .zeros long i))
 
-    pub accepted-file : LoadedAs (model.load file) book code number line → number ≡ 0 → length book ≡ bookWords → TableFilled book words′ → Loads file words number line words′ book code
+    pub accepted-file : LoadedAs (model.load file) book code number line → number ≡ 0 → length book ≡ bookWords → TableFilled book words′ → Loads file words (loaded number line) words′ book code
     accepted-file answer z size filled =
         let held = answer .holds z in
         by-load (answer .number-is) (answer .line-is)

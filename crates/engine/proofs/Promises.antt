@@ -10,13 +10,12 @@ use Rattle.model.specs.Limits.{Edition, tableWords}
 use Rattle.model.specs.Bytes.{Bytes}
 use Rattle.model.specs.Table.{table}
 use Rattle.model.specs.Refusals.{wrongTable}
-use Rattle.model.specs.Ledger.{Call, step, withTable, withoutTable, tableAfter}
+use Rattle.model.specs.Ledger.{Call, Answer, decided, step, withTable, withoutTable, tableAfter}
 use Rattle.request.specs.declared.Decision.{Decision}
 use Rattle.request.specs.Decisions.{decisionOf, Decides}
-use Rattle.book.specs.Calls.{Loads}
+use Rattle.book.specs.Calls.{Loads, AnswersRequest}
 use Rattle.edit.specs.EditSteps.{EditCall}
-use Rattle.engine.specs.Runs.{Memory, Does, loads, edits, decides, AnswersRequest}
-use Rattle.model.specs.Ledger.{loaded, edited, decided}
+use Rattle.engine.specs.Runs.{Memory, Does, loads, edits, decides}
 
 -- a table that is refused has not the words of the edition
 right-length : (d : Edition) (n : ℕ) → wrongTable d n ≡ true → n ≡ tableWords d → ⊥
@@ -24,7 +23,7 @@ unfolding wrongTable
 right-length d n e long = true≢false (sym e ∙ ap (λ (b : Bool). if b then false else true) (eq-eqb n (tableWords d) long))
 
 -- `decide`
-pub request-answered : {block code : Bytes} {book words : List ℕ} {r : Decision} → Decides block book code words r → AnswersRequest block book code words (decisionOf r)
+pub request-answered : {block code : Bytes} {book words : List ℕ} {r : Decision} → Decides block book code words r → AnswersRequest block book code words (decided (decisionOf r))
 unfolding step tableAfter
 request-answered {block} {code} {book} {words} {r} promise S together = go (wrongTable (S .declared .edition) (length words)) refl (together .kept)
   where
@@ -34,13 +33,12 @@ request-answered {block} {code} {book} {words} {r} promise S together = go (wron
     go false e k = ap decided (sym (promise .decision S (together .standing) (together .holds) (sym k)))
 
 -- `load`: its contract is what a run asks
-pub file-loaded : {file : Bytes} {number line : ℕ} (before after : Memory) → Loads file (before .words) number line (after .words) (after .book) (after .code)
-    → Does (Call.load file) before (loaded number line) after
+pub file-loaded : {file : Bytes} {a : Answer} (before after : Memory) → Loads file (before .words) a (after .words) (after .book) (after .code) → Does (Call.load file) before a after
 file-loaded before after promise = loads promise
 
 -- `edit`, which is lent no rules
-pub line-edited : {line : Bytes} {number count : ℕ} (before after : Memory) → EditCall line (before .book) (before .words) number count (after .words) (after .book)
-    → after .code ≡ before .code → Does (Call.edit line) before (edited number count) after
+pub line-edited : {line : Bytes} {a : Answer} (before after : Memory) → EditCall line (before .book) (before .words) a (after .words) (after .book)
+    → after .code ≡ before .code → Does (Call.edit line) before a after
 line-edited before after promise same = edits (promise .edits) same
 
 -- `decide`, which writes nothing

@@ -6,9 +6,8 @@ use mathlib.Core.List.{List, [], _∷_, _++_}
 use Rattle.model.specs.Limits.{Edition}
 use Rattle.model.specs.Bytes.{Bytes}
 use Rattle.model.specs.State.{State, empty}
-use Rattle.model.specs.Decision.{Decision}
-use Rattle.model.specs.Ledger.{Call, load, edit, request, Answer, loaded, edited, decided, Outcome, outcome}
-use Rattle.book.specs.Calls.{Together, Loads, Edits}
+use Rattle.model.specs.Ledger.{Call, load, edit, request, Answer, Outcome, outcome}
+use Rattle.book.specs.Calls.{Loads, Edits, AnswersRequest}
 
 -- what is lent to a call: the book's words, its rules' bytes, and the table
 pub record Memory : Type 0 where
@@ -16,18 +15,12 @@ pub record Memory : Type 0 where
   pub code : Bytes
   pub words : List ℕ
 
--- a request, on a book and a table that go together
-abbrev pub AnswersRequest : Bytes → List ℕ → Bytes → List ℕ → Decision → Type 0
-AnswersRequest block book code words d = (S : State) → Together S book code words → outcome S words (request block) .answer ≡ decided d
-
 -- what each call does by its promise: from what it was lent to its answer and what it leaves. A request writes nothing, an edit no rule
 pub data Does : Call → Memory → Answer → Memory → Type 0 where
-  loads : {file : Bytes} {number line : ℕ} {before after : Memory} → Loads file (before .words) number line (after .words) (after .book) (after .code)
-      → Does (load file) before (loaded number line) after
-  edits : {line : Bytes} {number count : ℕ} {before after : Memory} → Edits line (before .book) (before .words) number count (after .words) (after .book)
-      → after .code ≡ before .code → Does (edit line) before (edited number count) after
-  decides : {block : Bytes} {d : Decision} {lent : Memory} → AnswersRequest block (lent .book) (lent .code) (lent .words) d
-      → Does (request block) lent (decided d) lent
+  loads : {file : Bytes} {a : Answer} {before after : Memory} → Loads file (before .words) a (after .words) (after .book) (after .code) → Does (load file) before a after
+  edits : {line : Bytes} {a : Answer} {before after : Memory} → Edits line (before .book) (before .words) a (after .words) (after .book) → after .code ≡ before .code
+      → Does (edit line) before a after
+  decides : {block : Bytes} {a : Answer} {lent : Memory} → AnswersRequest block (lent .book) (lent .code) (lent .words) a → Does (request block) lent a lent
 
 -- what is seen after a call
 pub record CallSeen : Type 0 where

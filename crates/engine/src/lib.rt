@@ -6,6 +6,7 @@ ghost use Rattle.model.specs.State.{empty};
 ghost use Rattle.book.specs.Sections.{bookWords, ruleBytes};
 ghost use Rattle.book.specs.Held.{Holds};
 ghost use Rattle.book.specs.Calls.{Loads};
+ghost use Rattle.file.specs.LoadAnswers.{loadedOf};
 ghost use Rattle.engine.specs.LoadSteps.{TableFilled, Cleared};
 use book::BOOK_WORDS;
 use book::OWN_AT;
@@ -49,7 +50,7 @@ pub fn load(
     rules: &mut [u8; RULE_BYTES],
     table: &mut [u64],
 ) -> Loaded
-    ensures { λ r. ⌜ Loads (now (file .entry)) (now (table .entry)) (r .number) (r .line) (now (table .exit)) (now (book .exit)) (now (rules .exit)) ⌝ }
+    ensures { λ r. ⌜ Loads (now (file .entry)) (now (table .entry)) (loadedOf r) (now (table .exit)) (now (book .exit)) (now (rules .exit)) ⌝ }
 {
     if table.len() != TABLE_WORDS {
         refuse(book, rules, table);

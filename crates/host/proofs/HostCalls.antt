@@ -18,28 +18,28 @@ use Rattle.model.specs.Refusals.{wrongTable}
 use Rattle.model.specs.Load as model
 use Rattle.model.specs.Decision as decision
 use Rattle.model.specs.Decision.{numberAndValues}
-use Rattle.model.specs.Ledger.{Call, Answer, loaded, edited, decided, tableAfter, Outcome, outcome, ledger}
+use Rattle.model.specs.Ledger.{Call, decided, tableAfter, Outcome, outcome, ledger}
 use Rattle.model.specs.Host.{hostCall, hostTable}
 use Rattle.model.proofs.Table.{table-length}
 use Rattle.model.proofs.Editions.{load-edition}
 use Rattle.model.proofs.Outcomes.{outcomeBy, outcome-by}
 use Rattle.request.specs.Decisions.{decisionOf, numberAndValuesOf}
-use Rattle.book.specs.Calls.{Loads}
+use Rattle.book.specs.Calls.{answerNumber, Loads}
 use Rattle.edit.specs.EditSteps.{EditCall}
 use Rattle.engine.specs.Runs.{Memory, Does, endWords}
 use Rattle.engine.proofs.Promises.{file-loaded, line-edited, request-decided}
-use Rattle.host.specs.AnswerNumbers.{high, carriedValue, RequestNumber}
+use Rattle.host.specs.AnswerNumbers.{high, loadAnswer, editAnswer, carriedValue, RequestNumber}
 
 -- ---- each call for hosts is one of a run, by what its contract says
 
 -- `zhul_load`
-pub load-does : {file : Bytes} (r : ℕ) (before after : Memory) → Loads file (before .words) (r % high) (r / high) (after .words) (after .book) (after .code)
-    → Does (Call.load file) before (loaded (r % high) (r / high)) after
+pub load-does : {file : Bytes} (r : ℕ) (before after : Memory) → Loads file (before .words) (loadAnswer r) (after .words) (after .book) (after .code)
+    → Does (Call.load file) before (loadAnswer r) after
 load-does r before after promise = file-loaded before after promise
 
 -- `zhul_edit`, which is lent no rules
-pub edit-does : {line : Bytes} (r : ℕ) (before after : Memory) → EditCall line (before .book) (before .words) (r % high) (r / high) (after .words) (after .book)
-    → after .code ≡ before .code → Does (Call.edit line) before (edited (r % high) (r / high)) after
+pub edit-does : {line : Bytes} (r : ℕ) (before after : Memory) → EditCall line (before .book) (before .words) (editAnswer r) (after .words) (after .book)
+    → after .code ≡ before .code → Does (Call.edit line) before (editAnswer r) after
 edit-does r before after promise same = line-edited before after promise same
 
 -- `zhul_decide`: the decision that the number and the rule are those of
@@ -48,12 +48,6 @@ pub decide-does : {block : Bytes} {r : ℕ} (lent : Memory) → RequestNumber bl
 decide-does lent promise = (decisionOf (promise .decision), request-decided lent (promise .decides), promise .number, promise .rule)
 
 -- ---- `zhul_pass` is a load and then a request
-
--- the number of an answer
-abbrev pub answerNumber : Answer → ℕ
-answerNumber (loaded number line) = number
-answerNumber (edited number count) = number
-answerNumber (decided d) = numberAndValues d .0
 
 -- the first number of a list's outcomes that is not 0, and 0 where all are
 abbrev pub firstNumber : List Outcome → ℕ

@@ -3,22 +3,22 @@ use Prim.Native.Nat.{ℕ, _/_, _%_}
 use mathlib.Core.Path.{sym, subst}
 use mathlib.Core.List.{List}
 use Rattle.model.specs.Bytes.{Bytes}
-use Rattle.model.specs.Ledger.{Outcome, loaded}
+use Rattle.model.specs.Ledger.{Outcome, loaded, edited}
 use Rattle.book.specs.Calls.{Gives}
 use Rattle.edit.specs.EditSteps.{EditCall}
 use Rattle.writer.specs.WriteCalls.{WriteCall}
-use Rattle.host.specs.AnswerNumbers.{high, Packs}
+use Rattle.host.specs.AnswerNumbers.{high, loadAnswer, editAnswer, Packs}
 
 unpacked : (P : ℕ → ℕ → Type 0) {number carried r : ℕ} → Packs number carried r → P number carried → P (r % high) (r / high)
 unpacked P {number} {carried} {r} packs p = subst (λ (n : ℕ). P n (r / high)) (sym (packs .low-bits)) (subst (λ (c : ℕ). P number c) (sym (packs .high-bits)) p)
 
 pub load-unpacked : {o : Outcome} {words book : List ℕ} {code : Bytes} {number line r : ℕ} → Packs number line r → Gives o (loaded number line) words book code
-    → Gives o (loaded (r % high) (r / high)) words book code
+    → Gives o (loadAnswer r) words book code
 load-unpacked {o} {words} {book} {code} packs g = unpacked (λ n l. Gives o (loaded n l) words book code) packs g
 
-pub edit-unpacked : {line : Bytes} {book words words′ book′ : List ℕ} {number count r : ℕ} → Packs number count r → EditCall line book words number count words′ book′
-    → EditCall line book words (r % high) (r / high) words′ book′
-edit-unpacked {line} {book} {words} {words′} {book′} packs g = unpacked (λ n c. EditCall line book words n c words′ book′) packs g
+pub edit-unpacked : {line : Bytes} {book words words′ book′ : List ℕ} {number count r : ℕ} → Packs number count r → EditCall line book words (edited number count) words′ book′
+    → EditCall line book words (editAnswer r) words′ book′
+edit-unpacked {line} {book} {words} {words′} {book′} packs g = unpacked (λ n c. EditCall line book words (edited n c) words′ book′) packs g
 
 pub write-unpacked : {book : List ℕ} {rules before after : Bytes} {number long r : ℕ} → Packs number long r → WriteCall book rules before number long after
     → WriteCall book rules before (r % high) (r / high) after

@@ -27,7 +27,7 @@ use Rattle.request.specs.declared.Decision.{Decision}
 use Rattle.request.specs.Decisions.{numberAndValuesOf, Decides}
 use Rattle.book.specs.Calls.{Gives, Loads}
 
-module _ (file block : Bytes) (words words′ book : List ℕ) (code : Bytes) (number line : ℕ) (given : Loads file words number line words′ book code) where
+module _ (file block : Bytes) (words words′ book : List ℕ) (code : Bytes) (number line : ℕ) (given : Loads file words (loaded number line) words′ book code) where
   -- whether the table is wrong for the file, and what the load gives then
   abbrev wrong : Bool
   wrong = wrongTable (namedEdition file) (length words)

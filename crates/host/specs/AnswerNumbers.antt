@@ -3,6 +3,7 @@ use Prim.Native.Nat.{ℕ, _/_, _%_}
 use mathlib.Core.Path.{_≡_}
 use mathlib.Core.List.{List, [], _∷_}
 use Rattle.model.specs.Bytes.{Bytes}
+use Rattle.model.specs.Ledger.{Answer, loaded, edited}
 use Rattle.request.specs.declared.Decision.{Decision}
 use Rattle.request.specs.Decisions.{numberAndValuesOf, Decides}
 
@@ -14,6 +15,13 @@ high = 4294967296
 pub record Packs (number carried r : ℕ) : Type 0 where
   pub low-bits : r % high ≡ number
   pub high-bits : r / high ≡ carried
+
+-- the answer of a load and that of an edit: the number in the low bits, the line or the count in the high ones
+abbrev pub loadAnswer : ℕ → Answer
+loadAnswer r = loaded (r % high) (r / high)
+
+abbrev pub editAnswer : ℕ → Answer
+editAnswer r = edited (r % high) (r / high)
 
 -- the value that a decision carries, 0 where it carries none
 abbrev pub carriedValue : List ℕ → ℕ

@@ -7,7 +7,7 @@ ghost use Rattle.request.specs.Decisions.{numberAndValuesOf};
 ghost use Rattle.book.specs.Calls.{Loads};
 ghost use Rattle.edit.specs.EditSteps.{EditCall};
 ghost use Rattle.writer.specs.WriteCalls.{WriteCall, LengthCall};
-ghost use Rattle.host.specs.AnswerNumbers.{high, carriedValue, Packs, RequestNumber};
+ghost use Rattle.host.specs.AnswerNumbers.{high, loadAnswer, editAnswer, carriedValue, Packs, RequestNumber};
 use book::BOOK_WORDS;
 use book::RULE_BYTES;
 use codes::DENY;
@@ -69,7 +69,7 @@ pub extern "C" fn zhul_load(
     rules: &mut [u8; RULE_BYTES],
     table: &mut [u64],
 ) -> u64
-    ensures { λ r. ⌜ Loads (now (file .entry)) (now (table .entry)) (r % high) (r / high) (now (table .exit)) (now (book .exit)) (now (rules .exit)) ⌝ }
+    ensures { λ r. ⌜ Loads (now (file .entry)) (now (table .entry)) (loadAnswer r) (now (table .exit)) (now (book .exit)) (now (rules .exit)) ⌝ }
 {
     let loaded = engine::load(file, book, rules, table);
     pack(loaded.number as u32, loaded.line)
@@ -78,7 +78,7 @@ pub extern "C" fn zhul_load(
 // An edit of the host's own book: the number, and the count in the high bits.
 #[no_mangle]
 pub extern "C" fn zhul_edit(line: &[u8], book: &mut [u64; BOOK_WORDS], table: &mut [u64]) -> u64
-    ensures { λ r. ⌜ EditCall (now (line .entry)) (now (book .entry)) (now (table .entry)) (r % high) (r / high) (now (table .exit)) (now (book .exit)) ⌝ }
+    ensures { λ r. ⌜ EditCall (now (line .entry)) (now (book .entry)) (now (table .entry)) (editAnswer r) (now (table .exit)) (now (book .exit)) ⌝ }
 {
     let edited = edit::edit(line, book, table);
     pack(edited.number as u32, edited.count)

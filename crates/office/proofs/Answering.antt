@@ -6,7 +6,7 @@ use mathlib.Core.Option.{Option, none, some}
 use lib.ListN.{length}
 use Rattle.model.specs.Bytes.{Bytes, bytes}
 use Rattle.model.specs.State.{State}
-use Rattle.model.specs.Ledger.{Call, Answer, edited, decided, step, outcome}
+use Rattle.model.specs.Ledger.{Call, Answer, decided, step, outcome}
 use Rattle.model.specs.Gate.{callOf, printed, output}
 use Rattle.model.specs.Standing.{Standing}
 use Rattle.book.specs.Calls.{Gives}
@@ -63,13 +63,13 @@ bad-answered line l e p = record {
 pub edit-answered : (line : Bytes) (book words book′ words′ : List ℕ) (code out : Bytes) (at : ℕ) (out′ : Bytes) (r : ℕ) → callOf line ≡ some (Call.edit line)
     → EditAnswered line book words book′ words′ out at out′ r → CommandAnswered line (memory book code words) (memory book′ code words′) out at out′ r
 edit-answered line book words book′ words′ code out at out′ r e p =
-    call-answered line (Call.edit line) (memory book code words) (memory book′ code words′) (edited (p .number) (p .count)) e
-    (line-edited (memory book code words) (memory book′ code words′) (p .call) refl) (p .table-long) (p .answer)
+    call-answered line (Call.edit line) (memory book code words) (memory book′ code words′) (p .answer) e
+    (line-edited (memory book code words) (memory book′ code words′) (p .call) refl) (p .table-long) (p .prints)
 
 pub request-answered : (line block : Bytes) (l : Memory) (out : Bytes) (at : ℕ) (out′ : Bytes) (r : ℕ) → callOf line ≡ some (Call.request block)
     → RequestAnswered block l out at out′ r → CommandAnswered line l l out at out′ r
 request-answered line block l out at out′ r e p =
-    call-answered line (Call.request block) l l (decided (decisionOf (p .decision))) e (request-decided l (p .call)) (p .table-long) (p .answer)
+    call-answered line (Call.request block) l l (decided (decisionOf (p .decision))) e (request-decided l (p .call)) (p .table-long) (p .prints)
 
 pub told-as : (line block : Bytes) {k kind : Command} → CommandTold line block k → k ≡ kind → CommandTold line block kind
 told-as line block t e = subst (λ (k : Command). CommandTold line block k) e t

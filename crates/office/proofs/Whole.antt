@@ -58,7 +58,7 @@ nothing-left commands T = go (drop (length commands) commands) (length-drop (len
 
 module _ (input : Bytes) (places : Places) (short : length input ≤ inputBytes) (split : Split input places) {out : Bytes}
     (words : List ℕ) (long : length words ≡ lentWords) {number line : ℕ} (after : Memory)
-    (l : Loads (take (places .file) input) words number line (after .words) (after .book) (after .code)) {out₁ : Bytes} {at : ℕ}
+    (l : Loads (take (places .file) input) words (loaded number line) (after .words) (after .book) (after .code)) {out₁ : Bytes} {at : ℕ}
     (p : PrintedAt out 0 (printed (loaded number line)) out₁ at) where
   abbrev pub commands : Bytes
   commands = drop (places .commands) input

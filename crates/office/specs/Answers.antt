@@ -8,7 +8,7 @@ use Rattle.model.specs.Notation.{map}
 use Rattle.model.specs.Limits.{Edition, tableWords}
 use Rattle.model.specs.Bytes.{Bytes, linesOf}
 use Rattle.model.specs.State.{State}
-use Rattle.model.specs.Ledger.{Call, edited, decided}
+use Rattle.model.specs.Ledger.{Call, Answer, decided}
 use Rattle.model.specs.Gate.{callOf, printed, output}
 use Rattle.output.specs.Laid.{Laid}
 use Rattle.book.specs.Calls.{Together}
@@ -39,18 +39,17 @@ pub record Prints (S : State) (commands : List (Option Call)) (text : Bytes) (re
 
 -- an edit made, and its answer
 pub record EditAnswered (line : Bytes) (book words book′ words′ : List ℕ) (out : Bytes) (at : ℕ) (out′ : Bytes) (r : ℕ) : Type 0 where
-  pub number : ℕ
-  pub count : ℕ
+  pub answer : Answer
   pub table-long : length words ≡ lentWords
-  pub call : EditCall line book words number count words′ book′
-  pub answer : PrintedAt out at (printed (edited number count)) out′ r
+  pub call : EditCall line book words answer words′ book′
+  pub prints : PrintedAt out at (printed answer) out′ r
 
 -- a request decided, and its answer
 pub record RequestAnswered (block : Bytes) (l : Memory) (out : Bytes) (at : ℕ) (out′ : Bytes) (r : ℕ) : Type 0 where
   pub decision : Decision
   pub table-long : length (l .words) ≡ lentWords
   pub call : Decides block (l .book) (l .code) (l .words) decision
-  pub answer : PrintedAt out at (printed (decided (decisionOf decision))) out′ r
+  pub prints : PrintedAt out at (printed (decided (decisionOf decision))) out′ r
 
 -- one command answered
 pub record CommandAnswered (line : Bytes) (before after : Memory) (out : Bytes) (at : ℕ) (out′ : Bytes) (r : ℕ) : Type 0 where

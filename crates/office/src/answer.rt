@@ -30,7 +30,7 @@ pub fn answer_edit(
     ensures { λ r. ⌜ EditAnswered (now (line .entry)) (now (book .entry)) (now (table .entry)) (now (book .exit)) (now (table .exit)) (now (out .entry)) at (now (out .exit)) r ⌝ }
 {
     let edited = edit::edit(line, book, table);
-    printing::put_pair(out, at, b"edit=", edited.number as u32, edited.count)
+    printing::put_edit(out, at, edited)
 }
 
 pub fn answer_request(

@@ -8,6 +8,7 @@ use book::BOOK_WORDS;
 use book::RULE_BYTES;
 use book::TABLE_WORDS;
 use codes::TOO_LONG;
+use file::Loaded;
 
 pub mod answer;
 pub mod command;
@@ -21,7 +22,14 @@ pub fn run(input: &[u8], out: &mut [u8]) -> usize
     ensures { λ r. ⌜ Laid (now (out .entry)) 0 (gate (now (input .entry))) (now (out .exit)) r × (r ≤ answerBytes + answerBytes * length (now (input .entry))) ⌝ }
 {
     if INPUT_BYTES < input.len() {
-        return printing::put_pair(out, 0, b"load=", TOO_LONG as u32, 0);
+        return printing::put_load(
+            out,
+            0,
+            Loaded {
+                number: TOO_LONG,
+                line: 0,
+            },
+        );
     }
     let places = input::split(input);
     let file = places.file;
@@ -30,6 +38,6 @@ pub fn run(input: &[u8], out: &mut [u8]) -> usize
     let mut rules: [u8; RULE_BYTES] = [0; RULE_BYTES];
     let mut table: [u64; TABLE_WORDS] = [0; TABLE_WORDS];
     let loaded = engine::load(&input[..file], &mut book, &mut rules, &mut table);
-    let at = printing::put_pair(out, 0, b"load=", loaded.number as u32, loaded.line);
+    let at = printing::put_load(out, 0, loaded);
     answer::answer_commands(&input[commands..], &mut book, &rules, &mut table, out, at)
 }

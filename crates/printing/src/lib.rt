@@ -4,12 +4,16 @@ ghost use lib.ListN.{length};
 ghost use Rattle.model.specs.Ledger.{decided};
 ghost use Rattle.model.specs.Gate.{printed};
 ghost use Rattle.output.specs.Laid.{far};
+ghost use Rattle.file.specs.LoadAnswers.{loadedOf};
 ghost use Rattle.request.specs.Decisions.{decisionOf};
+ghost use Rattle.edit.specs.EditSteps.{editedOf};
 ghost use Rattle.printing.specs.Printing.{answerBytes, PrintedAt, pairLine, numberLine};
+use edit::Edited;
+use file::Loaded;
 use request::Decision;
 
 // A key and two numbers.
-pub fn put_pair(out: &mut [u8], at: usize, key: &[u8], number: u32, other: u32) -> usize
+fn put_pair(out: &mut [u8], at: usize, key: &[u8], number: u32, other: u32) -> usize
     requires { ⌜ (at + answerBytes ≤ far) × (length (now key) ≤ 10) ⌝ }
     ensures { λ r. ⌜ PrintedAt (now (out .entry)) at (pairLine (now (key .entry)) number other) (now (out .exit)) r ⌝ }
 {
@@ -20,8 +24,24 @@ pub fn put_pair(out: &mut [u8], at: usize, key: &[u8], number: u32, other: u32) 
     output::put_byte(out, d, b'\n')
 }
 
+// The answer of a load.
+pub fn put_load(out: &mut [u8], at: usize, loaded: Loaded) -> usize
+    requires { ⌜ at + answerBytes ≤ far ⌝ }
+    ensures { λ r. ⌜ PrintedAt (now (out .entry)) at (printed (loadedOf loaded)) (now (out .exit)) r ⌝ }
+{
+    put_pair(out, at, b"load=", loaded.number as u32, loaded.line)
+}
+
+// The answer of an edit.
+pub fn put_edit(out: &mut [u8], at: usize, edited: Edited) -> usize
+    requires { ⌜ at + answerBytes ≤ far ⌝ }
+    ensures { λ r. ⌜ PrintedAt (now (out .entry)) at (printed (editedOf edited)) (now (out .exit)) r ⌝ }
+{
+    put_pair(out, at, b"edit=", edited.number as u32, edited.count)
+}
+
 // A text and one number.
-pub fn put_number(out: &mut [u8], at: usize, text: &[u8], n: u32) -> usize
+fn put_number(out: &mut [u8], at: usize, text: &[u8], n: u32) -> usize
     requires { ⌜ (at + answerBytes ≤ far) × (length (now text) ≤ 20) ⌝ }
     ensures { λ r. ⌜ PrintedAt (now (out .entry)) at (numberLine (now (text .entry)) n) (now (out .exit)) r ⌝ }
 {
@@ -30,6 +50,7 @@ pub fn put_number(out: &mut [u8], at: usize, text: &[u8], n: u32) -> usize
     output::put_byte(out, b, b'\n')
 }
 
+// The answer of a request.
 pub fn put_decision(out: &mut [u8], at: usize, decision: Decision) -> usize
     requires { ⌜ at + answerBytes ≤ far ⌝ }
     ensures { λ r. ⌜ PrintedAt (now (out .entry)) at (printed (decided (decisionOf decision))) (now (out .exit)) r ⌝ }

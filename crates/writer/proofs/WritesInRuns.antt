@@ -21,7 +21,7 @@ use Rattle.model.proofs.Lengths.{Moves, edit-moves}
 use Rattle.model.proofs.Writer
 use Rattle.model.proofs.Writer.{writtenBytes, TooLong, Fits}
 use Rattle.book.specs.Held.{Holds}
-use Rattle.book.specs.Calls.{Gives}
+use Rattle.book.specs.Calls.{answerNumber, Gives}
 use Rattle.engine.specs.Runs.{Memory, Does, Leads, endState}
 use Rattle.model.proofs.Outcomes.{edit-by-table}
 use Rattle.engine.proofs.Runs.{does-gives, leads-together, leads-where-the-ledger-ends}
@@ -140,32 +140,32 @@ module _ {first : Memory} {calls : List Call} {S : State} {lent : Memory} (run :
 
 -- ---- an edit between two lengths
 
-module _ {first : Memory} {calls : List Call} {S : State} {before after : Memory} {line : Bytes} {number changed : ℕ}
-    (run : Leads first calls S before) (does : Does (Call.edit line) before (Answer.edited number changed) after)
+module _ {first : Memory} {calls : List Call} {S : State} {before after : Memory} {line : Bytes} {a : Answer}
+    (run : Leads first calls S before) (does : Does (Call.edit line) before a after)
     {told told′ : ℕ} (tells : LengthCall (before .book) (before .code) told) (tells′ : LengthCall (after .book) (after .code) told′) where
   abbrev next : Outcome
   next = outcome S (before .words) (Call.edit line)
 
-  answered : next .answer ≡ Answer.edited number changed
+  answered : next .answer ≡ a
   answered = does-gives (leads-together run) does .answered
 
   told-next : told′ ≡ writtenLength (next .state)
   told-next = tells-state (Leads.from-there run does) tells′
 
   -- an accepted edit makes the file longer or shorter by just its line
-  pub edit-in-run : number ≡ 0 → Moves line told told′
+  pub edit-in-run : answerNumber a ≡ 0 → Moves line told told′
   edit-in-run accepted =
       subst (λ (k : ℕ). Moves line k told′) (sym (tells-state run tells)) (subst (λ (k : ℕ). Moves line (writtenLength S) k) (sym told-next)
-      (edit-by-table S (before .words) line (leads-together run .kept) (λ a w u T. a ≡ Answer.edited number changed → Moves line (writtenLength S) (writtenLength T))
-      (λ e. let n : refusal.wrongTable ≡ number = cc in absurd (omega (arith, n, accepted)))
-      (λ e. let n : edit S line .number ≡ number = cc in edit-moves (leads-together run .standing) line (n ∙ accepted))
+      (edit-by-table S (before .words) line (leads-together run .kept) (λ b w u T. b ≡ a → Moves line (writtenLength S) (writtenLength T))
+      (λ e. let n : refusal.wrongTable ≡ answerNumber a = ap answerNumber e in absurd (omega (arith, n, accepted)))
+      (λ e. edit-moves (leads-together run .standing) line (ap answerNumber e ∙ accepted))
       answered))
 
   -- and a refused one leaves it as it was
-  pub refused-edit-in-run : (number ≡ 0 → ⊥) → told′ ≡ told
+  pub refused-edit-in-run : (answerNumber a ≡ 0 → ⊥) → told′ ≡ told
   refused-edit-in-run refused =
       told-next
-      ∙ edit-by-table S (before .words) line (leads-together run .kept) (λ a w u T. a ≡ Answer.edited number changed → writtenLength T ≡ writtenLength S) (λ e. refl)
-      (λ e. let n : edit S line .number ≡ number = cc in ap (λ (T : State). writtenLength T) (refused-edit S line (λ z. refused (sym n ∙ z)) .0))
+      ∙ edit-by-table S (before .words) line (leads-together run .kept) (λ b w u T. b ≡ a → writtenLength T ≡ writtenLength S) (λ e. refl)
+      (λ e. ap (λ (T : State). writtenLength T) (refused-edit S line (λ z. refused (sym (ap answerNumber e) ∙ z)) .0))
       answered
       ∙ sym (tells-state run tells)

@@ -1,10 +1,11 @@
 -- `edit::edit` meets its contract: one law for each way out. Assumes nothing.
-use mathlib.Core.Path.{sym, _∙_}
+use mathlib.Core.Path.{refl, sym, _∙_}
 use lib.Dec.{eqb}
 use native.Mathlib.Omega.{arith}
+use Rattle.model.specs.Numbers as refusal
 use Rattle.tielines.specs.TieSteps.{tieBy}
 use Rattle.edit.proofs.EditRefusals.{unsigned, lineOf, signed-line, line-refused, tie-fitting, tie-refusal}
-use Rattle.edit.proofs.EditCalls.{without-table, refused-call, accepted-call}
+use Rattle.edit.proofs.EditCalls.{answer-as, without-table, refused-call, accepted-call}
 use borrow.Author.Needs.{needs}
 use Rattle.edit.proofs.edit.Statement.{statement}
 use Rattle.edit.proofs.edit.Tie as tie
@@ -12,9 +13,7 @@ use Rattle.edit.proofs.edit.Tie as tie
 returns : tie.Need-returns
 returns c =
     let start = c .before .before .before .before in
-    let r = c .refused in
-    without-table (start .args .line .now) (start .args .book .now) (start .args .table .now) (r .result .number) (r .result .count)
-    (c .before .if1 .taken) (r .ensures .0) (r .ensures .1)
+    answer-as (c .refused .ensures) (without-table (start .args .line .now) (start .args .book .now) (start .args .table .now) refusal.wrongTable (c .before .if1 .taken) refl)
 
 returns-2 : tie.Need-returns-2
 returns-2 c =
@@ -24,9 +23,8 @@ returns-2 c =
     let table = start .args .table .now in
     let long = c .before .before .before .if1 .left in
     let sign = c .before .before .sign in
-    let r = c .refused2 in
-    refused-call line book table (r .result .number) (r .result .count) long (λ z. omega (arith, z, r .ensures .0)) (r .ensures .1)
-    (λ S code standing held. unsigned S line (sign .result) (sign .ensures) (c .before .if2 .taken) ∙ sym (r .ensures .0))
+    answer-as (c .refused2 .ensures) (refused-call line book table refusal.unframed long (λ z. omega (arith, z))
+    (λ S code standing held. unsigned S line (sign .result) (sign .ensures) (c .before .if2 .taken)))
 
 sub-tie-of-line : tie.Need-sub-tie-of-line
 sub-tie-of-line c = c .before .before .before .sign .ensures .within (c .before .before .if2 .left)
@@ -47,11 +45,9 @@ returns-3 c =
     let signed = signed-line line (sign .result) (sign .ensures) there in
     let told = c .before .before .before .tie-of-line in
     let t = tieBy (told .result .kind) (told .result .lower) (told .result .upper) in
-    let r = c .refused3 in
     let some-number = c .before .if3 .taken in
-    refused-call line book table (r .result .number) (r .result .count) long (λ z. some-number (sym (r .ensures .0) ∙ z)) (r .ensures .1)
-    (λ S code standing held.
-    line-refused S line plus (lineOf line) signed (told .result .number) t (told .ensures S code standing held) some-number ∙ sym (r .ensures .0))
+    answer-as (c .refused3 .ensures) (refused-call line book table (told .result .number) long some-number
+    (λ S code standing held. line-refused S line plus (lineOf line) signed (told .result .number) t (told .ensures S code standing held) some-number))
 
 returns-4 : tie.Need-returns-4
 returns-4 c =
@@ -67,13 +63,12 @@ returns-4 c =
     let told = c .before .before .before .before .before .tie-of-line in
     let t = tieBy (told .result .kind) (told .result .lower) (told .result .upper) in
     let found = c .before .before .judged in
-    let r = c .refused4 in
     let zero = c .before .before .before .if3 .left in
-    refused-call line book table (r .result .number) (r .result .count) long (λ z. c .before .if4 .taken (sym (r .ensures .0) ∙ z)) (r .ensures .1)
+    answer-as (c .refused4 .ensures) (refused-call line book table (found .result) long (c .before .if4 .taken)
     (λ S code standing held.
     let read = told .ensures S code standing held in
     let fits = tie-fitting S line plus (lineOf line) signed (told .result .number) t read zero in
-    tie-refusal S line plus (lineOf line) signed (told .result .number) t read zero ∙ sym (found .ensures S code standing held fits) ∙ sym (r .ensures .0))
+    tie-refusal S line plus (lineOf line) signed (told .result .number) t read zero ∙ sym (found .ensures S code standing held fits)))
 
 returns-5 : tie.Need-returns-5
 returns-5 c =
