@@ -4,6 +4,7 @@ ghost use mathlib.Core.Bool.{_||_, _&&_, not};
 ghost use Prim.Native.Nat.{ℕ, _*_, _<_, _≤_};
 ghost use lib.Dec.{eqb, leb};
 ghost use lib.ListN.{length};
+ghost use Rattle.model.specs.Notation.{if_then_else_};
 ghost use Rattle.bits.specs.Bits.{bit, member, Bits, Numbers, differ, countBelow};
 ghost use Rattle.bits.specs.Lowest.{Lowest, FirstFrom};
 
@@ -29,6 +30,17 @@ pub fn without(w: u64, i: usize) -> u64
     ensures { λ r. ⌜ Bits r (λ j. bit w j && not (eqb j i)) ⌝ }
 {
     w & !(1 << i)
+}
+
+// w with bit i set or clear.
+pub fn put(w: u64, i: usize, on: bool) -> u64
+    requires { ⌜ i < 64 ⌝ }
+    ensures { λ r. ⌜ Bits r (λ j. if eqb j i then on else bit w j) ⌝ }
+{
+    if on {
+        return with(w, i);
+    }
+    without(w, i)
 }
 
 // The lowest bit of w that is set, 64 where none is. A walk over the bits of a word takes the lowest of those that are left, and goes on without it.

@@ -65,34 +65,34 @@ row-inside s book i w h =
         let e : s .start + i + t ≡ s .start + (i + t) = omega arith in
         ap (λ (j : ℕ). sectionWords s (set b j v)) e ∙ word-inside s b (i + t) v (omega arith)
 
-module _ (book : List ℕ) (k source kind low high : ℕ) (few : k < attributeLimit) where
+module _ (book : List ℕ) (k source ty : ℕ) (packed : Packed) (few : k < attributeLimit) where
   abbrev written : List ℕ
-  written = putRow book (attributePlace k) (source, kind, low, high)
+  written = putRow book (attributePlace k) (source, ty, packed .low, packed .high)
 
-  put-beside : (s : Section) → apart s section.attributes ≡ true → apart s section.counts ≡ true → sectionWords s (attributePut book k source kind low high) ≡ sectionWords s book
+  put-beside : (s : Section) → apart s section.attributes ≡ true → apart s section.counts ≡ true → sectionWords s (attributePut book k source ty packed) ≡ sectionWords s book
   unfolding attributePut
   put-beside s a b =
       word-beside s section.counts written b 0 (k + 1) (omega arith) (omega arith)
-      ∙ row-beside s section.attributes book (attributePlace k) (source, kind, low, high) a (omega arith) (omega arith)
+      ∙ row-beside s section.attributes book (attributePlace k) (source, ty, packed .low, packed .high) a (omega arith) (omega arith)
 
-  put-rows : sectionWords section.attributes (attributePut book k source kind low high) ≡ putRow (sectionWords section.attributes book) (8 * k) (source, kind, low, high)
+  put-rows : sectionWords section.attributes (attributePut book k source ty packed) ≡ putRow (sectionWords section.attributes book) (8 * k) (source, ty, packed .low, packed .high)
   unfolding attributePut
   put-rows =
       word-beside section.attributes section.counts written refl 0 (k + 1) (omega arith) (omega arith)
-      ∙ row-inside section.attributes book (8 * k) (source, kind, low, high) (omega arith)
+      ∙ row-inside section.attributes book (8 * k) (source, ty, packed .low, packed .high) (omega arith)
 
-  put-count : sectionWords section.counts (attributePut book k source kind low high) ≡ set (sectionWords section.counts book) 0 (k + 1)
+  put-count : sectionWords section.counts (attributePut book k source ty packed) ≡ set (sectionWords section.counts book) 0 (k + 1)
   unfolding attributePut
   put-count =
       word-inside section.counts written 0 (k + 1) (omega arith)
       ∙ ap (λ (l : List ℕ). set l 0 (k + 1))
-      (row-beside section.counts section.attributes book (attributePlace k) (source, kind, low, high) refl (omega arith) (omega arith))
+      (row-beside section.counts section.attributes book (attributePlace k) (source, ty, packed .low, packed .high) refl (omega arith) (omega arith))
 
-  put-long : length (attributePut book k source kind low high) ≡ length book
+  put-long : length (attributePut book k source ty packed) ≡ length book
   unfolding attributePut putRow
   put-long = simp length-set
 
-  pub attribute-same-length : (next : List ℕ) → next ≡ attributePut book k source kind low high → length next ≡ length book
+  pub attribute-same-length : (next : List ℕ) → next ≡ attributePut book k source ty packed → length next ≡ length book
   attribute-same-length next e = ap length e ∙ put-long
 
 -- ---- the rows with one more
@@ -170,25 +170,23 @@ module _ (D : Declarations) (a : Attribute) where
 -- the book with an attribute more
 pub attribute-held : (book : List ℕ) (code : Bytes) (S : State) (s : Source) (n : Bytes) (t : AtomType) (k : ℕ) → Holds book code S → WellDeclared (S .declared)
     → k ≡ length (S .declared .attributes) → k < attributeLimit
-    → Holds (attributePut book k (sourceCode s) (typeCode t) (packedOf n .low) (packedOf n .high)) code (after (attr s n t) S)
+    → Holds (attributePut book k (sourceCode s) (typeCode t) (packedOf n)) code (after (attr s n t) S)
 unfolding after operationNumber
 attribute-held book code S s n t k held well at few =
     let D = S .declared in
     let a : Attribute = record { source = s; name = n; type = t } in
     let E = withAttribute a D in
     let long = held .long in
-    let low = packedOf n .low in
-    let high = packedOf n .high in
-    let beside = put-beside book k (sourceCode s) (typeCode t) low high few in
+    let beside = put-beside book k (sourceCode s) (typeCode t) (packedOf n) few in
     record {
       edition = held .edition;
-      long = put-long book k (sourceCode s) (typeCode t) low high few ∙ held .long;
+      long = put-long book k (sourceCode s) (typeCode t) (packedOf n) few ∙ held .long;
       code-long = held .code-long;
       counts =
-          subst (λ (w : List ℕ). CountsOf w E) (sym (put-count book k (sourceCode s) (typeCode t) low high few))
+          subst (λ (w : List ℕ). CountsOf w E) (sym (put-count book k (sourceCode s) (typeCode t) (packedOf n) few))
           (counts-more D a (sectionWords section.counts book) k (omega (arith, section-long section.counts book (omega arith))) at (held .counts));
       attributes =
-          subst (λ (w : List ℕ). AttributeRows w E) (sym (put-rows book k (sourceCode s) (typeCode t) low high few))
+          subst (λ (w : List ℕ). AttributeRows w E) (sym (put-rows book k (sourceCode s) (typeCode t) (packedOf n) few))
           (rows-more D a well (sectionWords section.attributes book) k (section-long section.attributes book (omega arith)) at few (held .attributes));
       operations = subst (λ (w : List ℕ). OperationRows w (E .operations)) (sym (beside section.operations refl refl)) (held .operations);
       pairs =
@@ -196,7 +194,7 @@ attribute-held book code S s n t k held well at few =
           (indexed-same (pairRow D) (pairRow E) (same-pair-rows D a well) (held .pairs));
       holders = subst (λ (w : List ℕ). Indexed w bookHolders (holderRow E)) (sym (beside section.holders refl refl)) (held .holders);
       sorts = subst (λ (w : List ℕ). SortRows w E) (sym (beside section.sorts refl refl)) (sorts-kept D E refl (sectionWords section.sorts book) (held .sorts));
-      groups = rw (beside section.slots refl refl, beside section.seats refl refl) (groups-kept D E refl _ _ (held .groups));
+      groups = rw (beside section.slots refl refl, beside section.slotOf refl refl) (groups-kept D E refl _ _ (held .groups));
       ties = rw (beside section.ups refl refl, beside section.own refl refl, beside section.slots refl refl) (held .ties);
       rules =
           subst (λ (w : List ℕ). RuleRows w code E) (sym (beside section.rules refl refl))
@@ -218,17 +216,17 @@ text-type AtomType.str = refl
 text-type AtomType.bool = refl
 
 -- the four ways; k is the number that was found, m the count
-module _ (book : List ℕ) (source kind low high : ℕ) where
-  sorted : (s : Source) (t : AtomType) (b : Bool) → source ≡ sourceCode s → kind ≡ typeCode t → b ≡ blockText source kind
+module _ (book : List ℕ) (source ty : ℕ) (packed : Packed) where
+  sorted : (s : Source) (t : AtomType) (b : Bool) → source ≡ sourceCode s → ty ≡ typeCode t → b ≡ blockText source ty
       → (fromBlock s && sameType t AtomType.str) ≡ b
   sorted s t b e f g = ap₂ (λ (x y : Bool). x && y) (block-source s) (text-type t) ∙ sym (g ∙ rw (e, f))
 
-  pub attribute-sorted : (b : Bool) → b ≡ blockText source kind → b ≡ true → AttributeStep book source kind low high book refusal.wrongSort
+  pub attribute-sorted : (b : Bool) → b ≡ blockText source ty → b ≡ true → AttributeStep book source ty packed book refusal.wrongSort
   attribute-sorted b g on code s n t name from type words S standing held =
       (test-sort S (attr s n t) refl refl refl (sorted s t b from type g ∙ on), λ z. absurd (omega arith))
 
-  module _ (b : Bool) (g : b ≡ blockText source kind) (off : b ≡ false) (k : ℕ) (found : Numbered (sectionWords section.attributes book) source low high k) where
-    pub attribute-repeated : (k ≡ attributeLimit → ⊥) → AttributeStep book source kind low high book refusal.repeated
+  module _ (b : Bool) (g : b ≡ blockText source ty) (off : b ≡ false) (k : ℕ) (found : Numbered (sectionWords section.attributes book) source (packed .low) (packed .high) k) where
+    pub attribute-repeated : (k ≡ attributeLimit → ⊥) → AttributeStep book source ty packed book refusal.repeated
     attribute-repeated other code s n t name from type words S standing held =
         let e = found .number (S .declared) (standing .declarations) (held .attributes) s n name from words in (
           test-repeated S (attr s n t) refl refl refl (sorted s t b from type g ∙ off) (number-there attributeLimit (attributeNumber (S .declared) s n) k e other),
@@ -236,7 +234,7 @@ module _ (book : List ℕ) (source kind low high : ℕ) where
         )
 
     module _ (free : k ≡ attributeLimit) (m : ℕ) (count : m ≡ getD book 0 0) where
-      new : (s : Source) (n : Bytes) → isName n ≡ true → source ≡ sourceCode s → packedOf n ≡ record { low = low; high = high } → (code : Bytes) (S : State)
+      new : (s : Source) (n : Bytes) → isName n ≡ true → source ≡ sourceCode s → packedOf n ≡ packed → (code : Bytes) (S : State)
           → Standing S → Holds book code S → not (isNone (attributeNumber (S .declared) s n)) ≡ false
       unfolding attributeNumber
       new s n name from words code S standing held =
@@ -251,7 +249,7 @@ module _ (book : List ℕ) (source kind low high : ℕ) where
       counted : (code : Bytes) (S : State) → Holds book code S → m ≡ length (S .declared .attributes)
       counted code S held = count ∙ sym (section-word section.counts book 0 (omega arith)) ∙ held .counts .attributes
 
-      pub attribute-full : attributeLimit ≤ m → AttributeStep book source kind low high book refusal.full
+      pub attribute-full : attributeLimit ≤ m → AttributeStep book source ty packed book refusal.full
       attribute-full over code s n t name from type words S standing held =
           let at = counted code S held in (
             test-full S (attr s n t) refl refl refl (sorted s t b from type g ∙ off) (new s n name from words code S standing held)
@@ -259,7 +257,7 @@ module _ (book : List ℕ) (source kind low high : ℕ) where
             λ z. absurd (omega arith),
           )
 
-      pub attribute-step : m < attributeLimit → (next : List ℕ) → next ≡ attributePut book m source kind low high → AttributeStep book source kind low high next 0
+      pub attribute-step : m < attributeLimit → (next : List ℕ) → next ≡ attributePut book m source ty packed → AttributeStep book source ty packed next 0
       attribute-step few next e code s n t name from type words S standing held =
           let at = counted code S held in (
             accepted S (attr s n t) refl refl refl (sorted s t b from type g ∙ off) (new s n name from words code S standing held)
@@ -268,7 +266,7 @@ module _ (book : List ℕ) (source kind low high : ℕ) where
                 subst (λ (l : List ℕ). Holds l code (after (attr s n t) S))
                 (sym
                 (e
-                ∙ ap₂ (λ (x y : ℕ). attributePut book m x y low high) from type
-                ∙ ap (λ (p : Packed). attributePut book m (sourceCode s) (typeCode t) (p .low) (p .high)) (sym words)))
+                ∙ ap₂ (λ (x y : ℕ). attributePut book m x y packed) from type
+                ∙ ap (attributePut book m (sourceCode s) (typeCode t)) (sym words)))
                 (attribute-held book code S s n t m held (standing .declarations) at few),
           )

@@ -87,8 +87,8 @@ module _ (book : List ℕ) (long : length book ≡ bookWords) (zeros : (i : ℕ)
         sorts = λ k l. zero-part section.sorts (omega arith) k;
         groups =
             record {
-              seated = λ k s e i. none-is-some e;
-              unseated = λ k l f. zero-part section.seats (omega arith) k;
+              in-slot = λ k s e i. none-is-some e;
+              no-slot = λ k l f. zero-part section.slotOf (omega arith) k;
               taken = λ q l. absurd (omega arith);
               free = λ q l m. zero-part section.slots (omega arith) q;
             };
@@ -103,6 +103,6 @@ module _ (book : List ℕ) (long : length book ≡ bookWords) (zeros : (i : ℕ)
           indexed-same (λ _. none) rows same (empty-indexed (sectionWords s book) 256 (section-long s book fits ∙ e) (λ i l. zero-part s fits i))
 
   -- with holder 0
-  pub emptied : (next : List ℕ) → HolderPut book 0 (sortCode Sort.admin) (packedOf (bytes "admin") .low) (packedOf (bytes "admin") .high) next → Emptied next
+  pub emptied : (next : List ℕ) → HolderPut book 0 (sortCode Sort.admin) (packedOf (bytes "admin")) next → Emptied next
   emptied next put code code-long =
       holder-held book code nobody noTies (record { number = 0; sort = Sort.admin; name = bytes "admin" }) 0 (zeros-held code code-long) (λ i r f. none-is-some f) refl refl refl (omega arith) next put refl

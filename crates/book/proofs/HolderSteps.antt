@@ -39,14 +39,14 @@ group-code Sort.ogroup e = refl
 group-code Sort.user e = refl
 group-code Sort.object e = refl
 
-module _ (book : List ℕ) (key low high k : ℕ) (found : HolderFound (sectionWords section.holders book) low high k) where
-  pub holder-repeated : (k ≡ bookHolders → ⊥) → HolderStep book key low high book refusal.repeated
+module _ (book : List ℕ) (key : ℕ) (packed : Packed) (k : ℕ) (found : HolderFound (sectionWords section.holders book) (packed .low) (packed .high) k) where
+  pub holder-repeated : (k ≡ bookHolders → ⊥) → HolderStep book key packed book refusal.repeated
   holder-repeated other code s n sort name from words S standing held =
       let e = found (S .declared) (standing .declarations) (held .holders) n name words in
       (test-repeated S (holder s n) refl refl refl refl (number-there bookHolders (holderNumber (S .declared) n) k e other), λ z. absurd (omega arith))
 
   module _ (free : k ≡ bookHolders) (m : ℕ) (count : m ≡ getD book 3 0) where
-    new : (n : Bytes) → isName n ≡ true → packedOf n ≡ record { low = low; high = high } → (code : Bytes) (S : State) → Standing S → Holds book code S
+    new : (n : Bytes) → isName n ≡ true → packedOf n ≡ packed → (code : Bytes) (S : State) → Standing S → Holds book code S
         → not (isNone (holderNumber (S .declared) n)) ≡ false
     new n name words code S standing held =
         ap (λ (o : Option ℕ). not (isNone o))
@@ -59,7 +59,7 @@ module _ (book : List ℕ) (key low high k : ℕ) (found : HolderFound (sectionW
     numbered : (code : Bytes) (S : State) → Holds book code S → m ≡ length (S .declared .holders)
     numbered code S held = counted code S held ∙ numbers-length (S .declared)
 
-    pub holder-full : bookHolders ≤ m → HolderStep book key low high book refusal.full
+    pub holder-full : bookHolders ≤ m → HolderStep book key packed book refusal.full
     holder-full over code s n sort name from words S standing held =
         let at = counted code S held in (
           test-full S (holder s n) refl refl refl refl (new n name words code S standing held)
@@ -76,14 +76,13 @@ module _ (book : List ℕ) (key low high k : ℕ) (found : HolderFound (sectionW
           ap₂ (λ (x y : Bool). x || y) (lt-leb (holderNumbers (S .declared .edition)) (length (holderNumbersOf (S .declared))) (omega (arith, ap holderNumbers (held .edition)))) e
 
       -- what was put, in the terms of the line
-      told : (s : Sort) (n : Bytes) → key ≡ sortCode s → packedOf n ≡ record { low = low; high = high } → {next : List ℕ} → HolderPut book m key low high next
-          → HolderPut book m (sortCode s) (packedOf n .low) (packedOf n .high) next
+      told : (s : Sort) (n : Bytes) → key ≡ sortCode s → packedOf n ≡ packed → {next : List ℕ} → HolderPut book m key packed next
+          → HolderPut book m (sortCode s) (packedOf n) next
       told s n from words {next} put =
-          subst (λ (x : ℕ). HolderPut book m x (packedOf n .low) (packedOf n .high) next) from
-          (subst (λ (p : Packed). HolderPut book m key (p .low) (p .high) next) (sym words) put)
+          subst (λ (x : ℕ). HolderPut book m x (packedOf n) next) from (subst (λ (p : Packed). HolderPut book m key p next) (sym words) put)
 
       -- a user or an object
-      pub holder-step : sortCode Sort.user ≤ key → (next : List ℕ) → HolderPut book m key low high next → HolderStep book key low high next 0
+      pub holder-step : sortCode Sort.user ≤ key → (next : List ℕ) → HolderPut book m key packed next → HolderStep book key packed next 0
       unfolding after
       holder-step plain next e code s n sort name from words S standing held =
           let no-group : isGroup s ≡ false = group-code s sort ∙ le-ltb (sortCode s) (sortCode Sort.user) (omega arith) in (
@@ -102,7 +101,7 @@ module _ (book : List ℕ) (key low high k : ℕ) (found : HolderFound (sectionW
         grouped : (code : Bytes) (S : State) → Holds book code S → g ≡ groups (S .declared)
         grouped code S held = groups-are ∙ sym (section-word section.counts book 4 (omega arith)) ∙ held .counts .groups-are
 
-        pub group-full : groupLimit ≤ g → HolderStep book key low high book refusal.full
+        pub group-full : groupLimit ≤ g → HolderStep book key packed book refusal.full
         group-full over code s n sort name from words S standing held =
             let at = grouped code S held in (
               test-full S (holder s n) refl refl refl refl (new n name words code S standing held)
@@ -110,7 +109,7 @@ module _ (book : List ℕ) (key low high k : ℕ) (found : HolderFound (sectionW
               λ z. absurd (omega arith),
             )
 
-        pub group-step : g < groupLimit → (first next : List ℕ) → HolderPut book m key low high first → next ≡ groupPut first m g → HolderStep book key low high next 0
+        pub group-step : g < groupLimit → (first next : List ℕ) → HolderPut book m key packed first → next ≡ groupPut first m g → HolderStep book key packed next 0
         unfolding after
         group-step low-count first next w e code s n sort name from words S standing held =
             let at = grouped code S held in

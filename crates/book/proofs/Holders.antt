@@ -20,6 +20,7 @@ use Rattle.model.proofs.WordTables.{none-is-some}
 use Rattle.model.proofs.Numbered.{length-inserted, count-inserted, length-map}
 use Rattle.model.proofs.Declared.{holder-with}
 use Rattle.codes.specs.Codes.{coded}
+use Rattle.text.specs.declared.Packed.{Packed}
 use Rattle.text.specs.Packing.{packedOf}
 use Rattle.rows.specs.Rows.{AttributeRows, isPairOf}
 use Rattle.index.specs.Index.{Row, Indexed, Added, withRow}
@@ -35,8 +36,8 @@ use Rattle.book.proofs.Kept.{NamesKnown, rules-kept, attributes-kept}
 
 -- ---- what is written, by sections
 
-abbrev rowOfName : ℕ → ℕ → Row
-rowOfName low high = (1, low, high, 0)
+abbrev rowOfName : Packed → Row
+rowOfName p = (1, p .low, p .high, 0)
 
 module _ (book : List ℕ) (n sort : ℕ) (rows : List ℕ) (long : length book ≡ bookWords) (few : n < bookHolders) (rows-long : length rows ≡ section.holders .size) where
   abbrev h1 : List ℕ
@@ -80,16 +81,16 @@ module _ (book : List ℕ) (n sort : ℕ) (rows : List ℕ) (long : length book 
   holder-long =
       length-set h2 3 (n + 1) ∙ length-set h1 (section.sorts .start + n) sort ∙ section-same-length section.holders book rows (omega arith) rows-long
 
-module _ (book : List ℕ) (n sort low high : ℕ) (long : length book ≡ bookWords) (few : n < bookHolders) where
-  put-long : {next : List ℕ} (put : HolderPut book n sort low high next) → length (put .rows) ≡ section.holders .size
+module _ (book : List ℕ) (n sort : ℕ) (packed : Packed) (long : length book ≡ bookWords) (few : n < bookHolders) where
+  put-long : {next : List ℕ} (put : HolderPut book n sort packed next) → length (put .rows) ≡ section.holders .size
   put-long put = put .row .long ∙ section-long section.holders book (omega arith)
 
-  pub holder-same-length : (next : List ℕ) → HolderPut book n sort low high next → length next ≡ length book
+  pub holder-same-length : (next : List ℕ) → HolderPut book n sort packed next → length next ≡ length book
   holder-same-length next put = ap length (put .written) ∙ holder-long book n sort (put .rows) long few (put-long put)
 
   -- what the code writes
-  module _ (t : List ℕ) (adds : Added (sectionWords section.holders book) t n (rowOfName low high)) where
-    pub wrote-holder : HolderPut book n sort low high (set (set (withSection section.holders book t) (section.sorts .start + n) sort) 3 (n + 1))
+  module _ (t : List ℕ) (adds : Added (sectionWords section.holders book) t n (rowOfName packed)) where
+    pub wrote-holder : HolderPut book n sort packed (set (set (withSection section.holders book t) (section.sorts .start + n) sort) 3 (n + 1))
     unfolding holderPut
     wrote-holder = record { rows = t; row = adds; written = refl }
 
@@ -107,53 +108,53 @@ module _ (book : List ℕ) (n g : ℕ) (long : length book ≡ bookWords) (few :
   g1 = withSection section.slots book slots
 
   abbrev g2 : List ℕ
-  g2 = set g1 (section.seats .start + n) (g + 1)
+  g2 = set g1 (section.slotOf .start + n) (g + 1)
 
   slots-long : length slots ≡ section.slots .size
   slots-long = length-set (sectionWords section.slots book) g n ∙ section-long section.slots book (omega arith)
 
-  group-beside : (s : Section) → apart s section.slots ≡ true → apart s section.seats ≡ true → apart s section.counts ≡ true
+  group-beside : (s : Section) → apart s section.slots ≡ true → apart s section.slotOf ≡ true → apart s section.counts ≡ true
       → sectionWords s (groupPut book n g) ≡ sectionWords s book
   unfolding groupPut
   group-beside s a b c =
       word-beside s section.counts g2 c 4 (g + 1) (omega arith) (omega arith)
-      ∙ word-beside s section.seats g1 b (section.seats .start + n) (g + 1) (omega arith) (omega arith)
+      ∙ word-beside s section.slotOf g1 b (section.slotOf .start + n) (g + 1) (omega arith) (omega arith)
       ∙ section-beside s section.slots book a slots (omega arith) slots-long
 
   group-slots : sectionWords section.slots (groupPut book n g) ≡ set (sectionWords section.slots book) g n
   unfolding groupPut
   group-slots =
       word-beside section.slots section.counts g2 refl 4 (g + 1) (omega arith) (omega arith)
-      ∙ word-beside section.slots section.seats g1 refl (section.seats .start + n) (g + 1) (omega arith) (omega arith)
+      ∙ word-beside section.slots section.slotOf g1 refl (section.slotOf .start + n) (g + 1) (omega arith) (omega arith)
       ∙ section-inside section.slots book slots (omega arith) slots-long
 
-  group-seats : sectionWords section.seats (groupPut book n g) ≡ set (sectionWords section.seats book) n (g + 1)
+  group-slot-of : sectionWords section.slotOf (groupPut book n g) ≡ set (sectionWords section.slotOf book) n (g + 1)
   unfolding groupPut
-  group-seats =
-      word-beside section.seats section.counts g2 refl 4 (g + 1) (omega arith) (omega arith)
-      ∙ word-inside section.seats g1 n (g + 1) (omega arith)
-      ∙ ap (λ (l : List ℕ). set l n (g + 1)) (section-beside section.seats section.slots book refl slots (omega arith) slots-long)
+  group-slot-of =
+      word-beside section.slotOf section.counts g2 refl 4 (g + 1) (omega arith) (omega arith)
+      ∙ word-inside section.slotOf g1 n (g + 1) (omega arith)
+      ∙ ap (λ (l : List ℕ). set l n (g + 1)) (section-beside section.slotOf section.slots book refl slots (omega arith) slots-long)
 
   group-count : sectionWords section.counts (groupPut book n g) ≡ set (sectionWords section.counts book) 4 (g + 1)
   unfolding groupPut
   group-count =
       word-inside section.counts g2 4 (g + 1) (omega arith)
       ∙ ap (λ (l : List ℕ). set l 4 (g + 1))
-      (word-beside section.counts section.seats g1 refl (section.seats .start + n) (g + 1) (omega arith) (omega arith)
+      (word-beside section.counts section.slotOf g1 refl (section.slotOf .start + n) (g + 1) (omega arith) (omega arith)
       ∙ section-beside section.counts section.slots book refl slots (omega arith) slots-long)
 
   group-long : length (groupPut book n g) ≡ length book
   unfolding groupPut
   group-long =
-      length-set g2 4 (g + 1) ∙ length-set g1 (section.seats .start + n) (g + 1) ∙ section-same-length section.slots book slots (omega arith) slots-long
+      length-set g2 4 (g + 1) ∙ length-set g1 (section.slotOf .start + n) (g + 1) ∙ section-same-length section.slots book slots (omega arith) slots-long
 
   pub group-same-length : (next : List ℕ) → next ≡ groupPut book n g → length next ≡ length book
   group-same-length next e = ap length e ∙ group-long
 
   pub wrote-group : (t : List ℕ) → t ≡ set (sectionWords section.slots book) g n
-      → set (set (withSection section.slots book t) (section.seats .start + n) (g + 1)) 4 (g + 1) ≡ groupPut book n g
+      → set (set (withSection section.slots book t) (section.slotOf .start + n) (g + 1)) 4 (g + 1) ≡ groupPut book n g
   unfolding groupPut
-  wrote-group t e = ap (λ (l : List ℕ). set (set (withSection section.slots book l) (section.seats .start + n) (g + 1)) 4 (g + 1)) e
+  wrote-group t e = ap (λ (l : List ℕ). set (set (withSection section.slots book l) (section.slotOf .start + n) (g + 1)) 4 (g + 1)) e
 
   pub wrote-slots-long : (t : List ℕ) → t ≡ set (sectionWords section.slots book) g n → (i v : ℕ) → length (set (withSection section.slots book t) i v) ≡ bookWords
   wrote-slots-long t e i v =
@@ -191,18 +192,18 @@ module _ (D : Declarations) (h : Holder) (free : holderOf D (h .number) ≡ none
   groups-one e = rw e at groups-more
 
   -- its row in the index, and its sort
-  rows-more : (s t : List ℕ) (n : ℕ) → n ≡ h .number → Added s t n (rowOfName (packedOf (h .name) .low) (packedOf (h .name) .high)) → Indexed s bookHolders (holderRow D)
+  rows-more : (s t : List ℕ) (n : ℕ) → n ≡ h .number → Added s t n (rowOfName (packedOf (h .name))) → Indexed s bookHolders (holderRow D)
       → Indexed t bookHolders (holderRow E)
   rows-more s t n at adds ix =
       indexed-same (withRow (holderRow D) n w) (holderRow E) same
-      (adds .index bookHolders (holderRow D) ix (λ z. omega arith) (ap (λ (o : Option Holder). o >>= λ x. some (rowOfName (packedOf (x .name) .low) (packedOf (x .name) .high))) (ap (holderOf D) at ∙ free)))
+      (adds .index bookHolders (holderRow D) ix (λ z. omega arith) (ap (λ (o : Option Holder). o >>= λ x. some (rowOfName (packedOf (x .name)))) (ap (holderOf D) at ∙ free)))
     where
       w : Row
-      w = rowOfName (packedOf (h .name) .low) (packedOf (h .name) .high)
+      w = rowOfName (packedOf (h .name))
 
       same : (k : ℕ) → withRow (holderRow D) n w k ≡ holderRow E k
       same k =
-          holder-with D h free k (λ o. withRow (holderRow D) n w k ≡ (o >>= λ x. some (rowOfName (packedOf (x .name) .low) (packedOf (x .name) .high))))
+          holder-with D h free k (λ o. withRow (holderRow D) n w k ≡ (o >>= λ x. some (rowOfName (packedOf (x .name)))))
           (λ e. rw (eq-eqb k n (sym (at ∙ e))) refl) (λ e. rw (ne-eqb k n (λ z. e (sym (z ∙ at)))) refl)
 
   sorts-more : (words : List ℕ) (n : ℕ) → length words ≡ bookHolders → n ≡ h .number → n < bookHolders → SortRows words D
@@ -217,54 +218,54 @@ module _ (D : Declarations) (h : Holder) (free : holderOf D (h .number) ≡ none
       go (no z) =
           getD-set-other words n k (sortCode (h .sort)) 0 z ∙ rows k l ∙ ap (coded sortCode) (sym (sort-old k (λ e. z (e ∙ sym at))))
 
-  -- no group: slots and seats stay
-  slots-plain : (slots seats : List ℕ) → isGroup (h .sort) ≡ false → GroupSlots slots seats D → GroupSlots slots seats E
-  slots-plain slots seats no-group g = record {
-    seated = λ k s e i. go k s e i (ℕ-discrete k (h .number));
-    unseated = λ k l f. g .unseated k l (λ s e. f s (sort-old k (sort-other k s e) ∙ e));
+  -- no group: the words of slots stay
+  slots-plain : (slots slotOf : List ℕ) → isGroup (h .sort) ≡ false → GroupSlots slots slotOf D → GroupSlots slots slotOf E
+  slots-plain slots slotOf no-group g = record {
+    in-slot = λ k s e i. go k s e i (ℕ-discrete k (h .number));
+    no-slot = λ k l f. g .no-slot k l (λ s e. f s (sort-old k (sort-other k s e) ∙ e));
     taken = λ q l. let (s, e, i) = g .taken q (omega (arith, groups-plain no-group)) in (s, sort-old _ (sort-other _ s e) ∙ e, i);
     free = λ q l m. g .free q (omega (arith, groups-plain no-group)) m;
   }
     where
       go : (k : ℕ) (s : Sort) → sortOf E k ≡ some s → isGroup s ≡ true → Dec (k ≡ h .number)
-          → (q : ℕ) × (getD seats k 0 ≡ suc q) × (q < groups E) × (getD slots q 0 ≡ k)
+          → (q : ℕ) × (getD slotOf k 0 ≡ suc q) × (q < groups E) × (getD slots q 0 ≡ k)
       go k s e i (yes z) =
           absurd (true≢false (sym i ∙ ap isGroup (Option·some-injective _ _ (sym e ∙ ap (sortOf E) z ∙ sort-new)) ∙ no-group))
       go k s e i (no z) =
-          let (q, a, b, c) = g .seated k s (sym (sort-old k z) ∙ e) i in
+          let (q, a, b, c) = g .in-slot k s (sym (sort-old k z) ∙ e) i in
           (q, a, omega (arith, groups-plain no-group), c)
 
   -- a group: it has the next slot
-  module _ (slots seats : List ℕ) (n q : ℕ) (is-group : isGroup (h .sort) ≡ true) (at : n ≡ h .number) (next : q ≡ groups D) (few : n < bookHolders)
-      (low : q < groupLimit) (long : length slots ≡ groupLimit) (long′ : length seats ≡ bookHolders) (g : GroupSlots slots seats D) where
-    slots-group : GroupSlots (set slots q n) (set seats n (q + 1)) E
+  module _ (slots slotOf : List ℕ) (n q : ℕ) (is-group : isGroup (h .sort) ≡ true) (at : n ≡ h .number) (next : q ≡ groups D) (few : n < bookHolders)
+      (low : q < groupLimit) (long : length slots ≡ groupLimit) (long′ : length slotOf ≡ bookHolders) (g : GroupSlots slots slotOf D) where
+    slots-group : GroupSlots (set slots q n) (set slotOf n (q + 1)) E
     slots-group = record {
-      seated = λ k s e i. sits k s e i (ℕ-discrete k n);
-      unseated = λ k l f. stands k l f (ℕ-discrete k n);
+      in-slot = λ k s e i. sits k s e i (ℕ-discrete k n);
+      no-slot = λ k l f. stands k l f (ℕ-discrete k n);
       taken = λ r l. takes r l (ℕ-discrete r q);
       free = λ r l m. let z = groups-one is-group in getD-set-other slots q r n 0 (λ y. omega arith) ∙ g .free r (omega arith) m;
     }
       where
         sits : (k : ℕ) (s : Sort) → sortOf E k ≡ some s → isGroup s ≡ true → Dec (k ≡ n)
-            → (r : ℕ) × (getD (set seats n (q + 1)) k 0 ≡ suc r) × (r < groups E) × (getD (set slots q n) r 0 ≡ k)
+            → (r : ℕ) × (getD (set slotOf n (q + 1)) k 0 ≡ suc r) × (r < groups E) × (getD (set slots q n) r 0 ≡ k)
         sits k s e i (yes z) = (
           q,
-          ap (λ (j : ℕ). getD (set seats n (q + 1)) j 0) z ∙ getD-set-same seats n (q + 1) 0 (omega arith) ∙ omega arith,
+          ap (λ (j : ℕ). getD (set slotOf n (q + 1)) j 0) z ∙ getD-set-same slotOf n (q + 1) 0 (omega arith) ∙ omega arith,
           omega (arith, groups-one is-group),
           getD-set-same slots q n 0 (omega arith) ∙ sym z,
         )
         sits k s e i (no z) =
-            let (r, a, b, c) = g .seated k s (sym (sort-old k (λ y. z (y ∙ sym at))) ∙ e) i in (
+            let (r, a, b, c) = g .in-slot k s (sym (sort-old k (λ y. z (y ∙ sym at))) ∙ e) i in (
               r,
-              getD-set-other seats n k (q + 1) 0 z ∙ a,
+              getD-set-other slotOf n k (q + 1) 0 z ∙ a,
               omega (arith, groups-one is-group),
               getD-set-other slots q r n 0 (λ y. omega arith) ∙ c,
             )
 
-        stands : (k : ℕ) → k < bookHolders → ((s : Sort) → sortOf E k ≡ some s → isGroup s ≡ false) → Dec (k ≡ n) → getD (set seats n (q + 1)) k 0 ≡ 0
+        stands : (k : ℕ) → k < bookHolders → ((s : Sort) → sortOf E k ≡ some s → isGroup s ≡ false) → Dec (k ≡ n) → getD (set slotOf n (q + 1)) k 0 ≡ 0
         stands k l f (yes z) = absurd (true≢false (sym is-group ∙ f (h .sort) (ap (sortOf E) (z ∙ at) ∙ sort-new)))
         stands k l f (no z) =
-            getD-set-other seats n k (q + 1) 0 z ∙ g .unseated k l (λ s e. f s (sort-old k (λ y. z (y ∙ sym at)) ∙ e))
+            getD-set-other slotOf n k (q + 1) 0 z ∙ g .no-slot k l (λ s e. f s (sort-old k (λ y. z (y ∙ sym at)) ∙ e))
 
         takes : (r : ℕ) → r < groups E → Dec (r ≡ q) → (s : Sort) × (sortOf E (getD (set slots q n) r 0) ≡ some s) × (isGroup s ≡ true)
         takes r l (yes z) = (
@@ -325,11 +326,11 @@ module _ (D : Declarations) (h : Holder) (free : holderOf D (h .number) ≡ none
 record Grown (book next : List ℕ) (D : Declarations) (T : Ties) (h : Holder) (n : ℕ) : Type 0 where
   size : length next ≡ length book
   same : (s : Section) → apart s section.holders ≡ true → apart s section.sorts ≡ true → apart s section.counts ≡ true → apart s section.slots ≡ true
-      → apart s section.seats ≡ true → sectionWords s next ≡ sectionWords s book
+      → apart s section.slotOf ≡ true → sectionWords s next ≡ sectionWords s book
   counted : CountsOf (sectionWords section.counts next) (withHolder h D)
   row : Indexed (sectionWords section.holders next) bookHolders (holderRow (withHolder h D))
   sort : sectionWords section.sorts next ≡ set (sectionWords section.sorts book) n (sortCode (h .sort))
-  slotted : GroupSlots (sectionWords section.slots next) (sectionWords section.seats next) (withHolder h D)
+  slotted : GroupSlots (sectionWords section.slots next) (sectionWords section.slotOf next) (withHolder h D)
   tied : KeepsTies (sectionWords section.ups next) (sectionWords section.own next) (sectionWords section.slots next) T
 
 grown-held : (book next : List ℕ) (code : Bytes) (D : Declarations) (T : Ties) (h : Holder) (n : ℕ) → Holds book code (record { declared = D; ties = T }) → NamesKnown D
@@ -361,12 +362,12 @@ grown-held book next code D T h n held known free at few grown =
 
 module _ (book : List ℕ) (code : Bytes) (D : Declarations) (T : Ties) (h : Holder) (n : ℕ) (held : Holds book code (record { declared = D; ties = T }))
     (known : NamesKnown D) (free : holderOf D (h .number) ≡ none) (at : n ≡ h .number) (next-number : n ≡ length (D .holders)) (few : n < bookHolders)
-    (put : List ℕ) (wrote : HolderPut book n (sortCode (h .sort)) (packedOf (h .name) .low) (packedOf (h .name) .high) put) where
+    (put : List ℕ) (wrote : HolderPut book n (sortCode (h .sort)) (packedOf (h .name)) put) where
   long : length book ≡ bookWords
   long = held .long
 
   rows-long : length (wrote .rows) ≡ section.holders .size
-  rows-long = put-long book n (sortCode (h .sort)) (packedOf (h .name) .low) (packedOf (h .name) .high) long few wrote
+  rows-long = put-long book n (sortCode (h .sort)) (packedOf (h .name)) long few wrote
 
   in-put : (P : List ℕ → Type 0) → P (holderPut book n (sortCode (h .sort)) (wrote .rows)) → P put
   in-put P x = subst P (sym (wrote .written)) x
@@ -401,8 +402,8 @@ module _ (book : List ℕ) (code : Bytes) (D : Declarations) (T : Ties) (h : Hol
         row = subst (λ (w : List ℕ). Indexed w bookHolders (holderRow (withHolder h D))) (sym rows-are) indexed;
         sort = sorts-are;
         slotted =
-            rw (beside section.slots refl refl refl, beside section.seats refl refl refl)
-            (slots-plain D h free (sectionWords section.slots book) (sectionWords section.seats book) no-group (held .groups));
+            rw (beside section.slots refl refl refl, beside section.slotOf refl refl refl)
+            (slots-plain D h free (sectionWords section.slots book) (sectionWords section.slotOf book) no-group (held .groups));
         tied = rw (beside section.ups refl refl refl, beside section.own refl refl refl, beside section.slots refl refl refl) (held .ties);
       })
 
@@ -413,13 +414,13 @@ module _ (book : List ℕ) (code : Bytes) (D : Declarations) (T : Ties) (h : Hol
       let long′ : length put ≡ bookWords = put-words ∙ long in
       let beside′ = group-beside put n g long′ few low in
       let slots = sectionWords section.slots book in
-      let seats = sectionWords section.seats book in
+      let slotOf = sectionWords section.slotOf book in
       let slots-are : sectionWords section.slots (groupPut put n g) ≡ set slots g n =
       group-slots put n g long′ few low ∙ ap (λ (l : List ℕ). set l g n) (beside section.slots refl refl refl) in
-      let seats-are : sectionWords section.seats (groupPut put n g) ≡ set seats n (g + 1) =
-      group-seats put n g long′ few low ∙ ap (λ (l : List ℕ). set l n (g + 1)) (beside section.seats refl refl refl) in
+      let slot-of-are : sectionWords section.slotOf (groupPut put n g) ≡ set slotOf n (g + 1) =
+      group-slot-of put n g long′ few low ∙ ap (λ (l : List ℕ). set l n (g + 1)) (beside section.slotOf refl refl refl) in
       let slots-long = section-long section.slots book (omega (arith, long)) in
-      let seats-long = section-long section.seats book (omega (arith, long)) in
+      let slot-of-long = section-long section.slotOf book (omega (arith, long)) in
       grown-held book (groupPut put n g) code D T h n held known free at few (record {
         size = group-long put n g long′ few low ∙ put-words;
         same = λ s a b c d e. beside′ s d e c ∙ beside s a b c;
@@ -430,10 +431,10 @@ module _ (book : List ℕ) (code : Bytes) (D : Declarations) (T : Ties) (h : Hol
         row = subst (λ (w : List ℕ). Indexed w bookHolders (holderRow (withHolder h D))) (sym (beside′ section.holders refl refl refl ∙ rows-are)) indexed;
         sort = beside′ section.sorts refl refl refl ∙ sorts-are;
         slotted =
-            rw (slots-are, seats-are)
-            (slots-group D h free slots seats n g is-group at next few low slots-long seats-long (held .groups));
+            rw (slots-are, slot-of-are)
+            (slots-group D h free slots slotOf n g is-group at next few low slots-long slot-of-long (held .groups));
         tied =
             rw (beside′ section.ups refl refl refl ∙ beside section.ups refl refl refl, beside′ section.own refl refl refl ∙ beside section.own refl refl refl, slots-are)
-            (ties-group D h free slots seats n g is-group at next few low slots-long seats-long (held .groups) (sectionWords section.ups book) (sectionWords section.own book) T some-holder
+            (ties-group D h free slots slotOf n g is-group at next few low slots-long slot-of-long (held .groups) (sectionWords section.ups book) (sectionWords section.own book) T some-holder
             (held .ties));
       })

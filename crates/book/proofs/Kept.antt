@@ -93,11 +93,11 @@ module _ (D E : Declarations) (same : E .holders ≡ D .holders) where
   unfolding sortOf
   sorts-kept words rows k h = rw same (rows k h)
 
-  pub groups-kept : (slots seats : List ℕ) → GroupSlots slots seats D → GroupSlots slots seats E
+  pub groups-kept : (slots slotOf : List ℕ) → GroupSlots slots slotOf D → GroupSlots slots slotOf E
   unfolding sortOf groups
-  groups-kept slots seats g = record {
-    seated = rw same (g .seated);
-    unseated = rw same (g .unseated);
+  groups-kept slots slotOf g = record {
+    in-slot = rw same (g .in-slot);
+    no-slot = rw same (g .no-slot);
     taken = rw same (g .taken);
     free = rw same (g .free);
   }

@@ -34,41 +34,41 @@ use Rattle.book.proofs.Kept.{length-more, NamesKnown, rules-kept, sorts
 use Rattle.book.proofs.DeclarationTests.{test-repeated, test-full, accepted, number-there, number-nowhere, place-few}
 
 -- what is written, by sections
-module _ (book : List ℕ) (k low high : ℕ) (few : k < operationLimit) where
+module _ (book : List ℕ) (k : ℕ) (packed : Packed) (few : k < operationLimit) where
   -- the book after each word
   abbrev b1 : List ℕ
-  b1 = set book (operationPlace k) low
+  b1 = set book (operationPlace k) (packed .low)
 
   abbrev b2 : List ℕ
-  b2 = set b1 (operationPlace k + 1) high
+  b2 = set b1 (operationPlace k + 1) (packed .high)
 
   rows-beside : (s : Section) → apart s section.operations ≡ true → sectionWords s b2 ≡ sectionWords s book
   rows-beside s a =
-      word-beside s section.operations b1 a (operationPlace k + 1) high (omega arith) (omega arith)
-      ∙ word-beside s section.operations book a (operationPlace k) low (omega arith) (omega arith)
+      word-beside s section.operations b1 a (operationPlace k + 1) (packed .high) (omega arith) (omega arith)
+      ∙ word-beside s section.operations book a (operationPlace k) (packed .low) (omega arith) (omega arith)
 
-  put-beside : (s : Section) → apart s section.operations ≡ true → apart s section.counts ≡ true → sectionWords s (operationPut book k low high) ≡ sectionWords s book
+  put-beside : (s : Section) → apart s section.operations ≡ true → apart s section.counts ≡ true → sectionWords s (operationPut book k packed) ≡ sectionWords s book
   unfolding operationPut
   put-beside s a b = word-beside s section.counts b2 b 1 (k + 1) (omega arith) (omega arith) ∙ rows-beside s a
 
-  put-rows : sectionWords section.operations (operationPut book k low high) ≡ set (set (sectionWords section.operations book) (2 * k) low) (2 * k + 1) high
+  put-rows : sectionWords section.operations (operationPut book k packed) ≡ set (set (sectionWords section.operations book) (2 * k) (packed .low)) (2 * k + 1) (packed .high)
   unfolding operationPut
   put-rows =
       let e : operationPlace k + 1 ≡ section.operations .start + (2 * k + 1) = omega arith in
       word-beside section.operations section.counts b2 refl 1 (k + 1) (omega arith) (omega arith)
-      ∙ ap (λ (i : ℕ). sectionWords section.operations (set b1 i high)) e
-      ∙ word-inside section.operations b1 (2 * k + 1) high (omega arith)
-      ∙ ap (λ (l : List ℕ). set l (2 * k + 1) high) (word-inside section.operations book (2 * k) low (omega arith))
+      ∙ ap (λ (i : ℕ). sectionWords section.operations (set b1 i (packed .high))) e
+      ∙ word-inside section.operations b1 (2 * k + 1) (packed .high) (omega arith)
+      ∙ ap (λ (l : List ℕ). set l (2 * k + 1) (packed .high)) (word-inside section.operations book (2 * k) (packed .low) (omega arith))
 
-  put-count : sectionWords section.counts (operationPut book k low high) ≡ set (sectionWords section.counts book) 1 (k + 1)
+  put-count : sectionWords section.counts (operationPut book k packed) ≡ set (sectionWords section.counts book) 1 (k + 1)
   unfolding operationPut
   put-count = word-inside section.counts b2 1 (k + 1) (omega arith) ∙ ap (λ (l : List ℕ). set l 1 (k + 1)) (rows-beside section.counts refl)
 
-  put-long : length (operationPut book k low high) ≡ length book
+  put-long : length (operationPut book k packed) ≡ length book
   unfolding operationPut
   put-long = simp length-set
 
-  pub operation-same-length : (next : List ℕ) → next ≡ operationPut book k low high → length next ≡ length book
+  pub operation-same-length : (next : List ℕ) → next ≡ operationPut book k packed → length next ≡ length book
   operation-same-length next e = ap length e ∙ put-long
 
 -- the rows of operations with one more
@@ -133,30 +133,28 @@ module _ (book : List ℕ) (code : Bytes) (D : Declarations) (n : Bytes) (k : �
 
 -- the book with an operation more
 pub operation-held : (book : List ℕ) (code : Bytes) (S : State) (n : Bytes) (k : ℕ) → Holds book code S → NamesKnown (S .declared)
-    → k ≡ length (S .declared .operations) → k < operationLimit → Holds (operationPut book k (packedOf n .low) (packedOf n .high)) code (after (op n) S)
+    → k ≡ length (S .declared .operations) → k < operationLimit → Holds (operationPut book k (packedOf n)) code (after (op n) S)
 unfolding after attributeNumber operationNumber isPairOf
 operation-held book code S n k held known at few =
     let D = S .declared in
     let E = withOperation n D in
-    let low = packedOf n .low in
-    let high = packedOf n .high in
     let long = held .long in
-    let beside = put-beside book k low high few in
+    let beside = put-beside book k (packedOf n) few in
     record {
       edition = held .edition;
-      long = put-long book k low high few ∙ held .long;
+      long = put-long book k (packedOf n) few ∙ held .long;
       code-long = held .code-long;
       counts =
-          subst (λ (w : List ℕ). CountsOf w E) (sym (put-count book k low high few))
+          subst (λ (w : List ℕ). CountsOf w E) (sym (put-count book k (packedOf n) few))
           (counts-more book code D n k (sectionWords section.counts book) (omega (arith, section-long section.counts book (omega arith))) at (held .counts));
       attributes = subst (λ (w : List ℕ). AttributeRows w E) (sym (beside section.attributes refl refl)) (attributes-kept D E refl (λ i p. refl) _ (held .attributes));
       operations =
-          subst (λ (w : List ℕ). OperationRows w (E .operations)) (sym (put-rows book k low high few))
+          subst (λ (w : List ℕ). OperationRows w (E .operations)) (sym (put-rows book k (packedOf n) few))
           (rows-more (sectionWords section.operations book) (D .operations) n k (section-long section.operations book (omega arith)) at few (held .operations));
       pairs = subst (λ (w : List ℕ). Indexed w 256 (pairRow E)) (sym (beside section.pairs refl refl)) (held .pairs);
       holders = subst (λ (w : List ℕ). Indexed w 256 (holderRow E)) (sym (beside section.holders refl refl)) (held .holders);
       sorts = subst (λ (w : List ℕ). SortRows w E) (sym (beside section.sorts refl refl)) (sorts-kept D E refl (sectionWords section.sorts book) (held .sorts));
-      groups = rw (beside section.slots refl refl, beside section.seats refl refl) (groups-kept D E refl _ _ (held .groups));
+      groups = rw (beside section.slots refl refl, beside section.slotOf refl refl) (groups-kept D E refl _ _ (held .groups));
       ties = rw (beside section.ups refl refl, beside section.own refl refl, beside section.slots refl refl) (held .ties);
       rules =
           subst (λ (w : List ℕ). RuleRows w code E) (sym (beside section.rules refl refl))
@@ -164,14 +162,14 @@ operation-held book code S n k held known at few =
     }
 
 -- the three ways of the step; k is the number that was found, m the count
-module _ (book : List ℕ) (low high k : ℕ) (found : OperationFound (sectionWords section.operations book) low high k) where
-  pub operation-repeated : (k ≡ operationLimit → ⊥) → OperationStep book low high book refusal.repeated
+module _ (book : List ℕ) (packed : Packed) (k : ℕ) (found : OperationFound (sectionWords section.operations book) (packed .low) (packed .high) k) where
+  pub operation-repeated : (k ≡ operationLimit → ⊥) → OperationStep book packed book refusal.repeated
   operation-repeated other code n name words S standing held =
       let e = found (S .declared) (standing .declarations) (held .operations) n name words in
       (test-repeated S (op n) refl refl refl refl (number-there operationLimit (operationNumber (S .declared) n) k e other), λ z. absurd (omega arith))
 
   module _ (free : k ≡ operationLimit) (m : ℕ) (count : m ≡ getD book 1 0) where
-    new : (n : Bytes) → isName n ≡ true → packedOf n ≡ record { low = low; high = high } → (code : Bytes) (S : State) → Standing S → Holds book code S
+    new : (n : Bytes) → isName n ≡ true → packedOf n ≡ packed → (code : Bytes) (S : State) → Standing S → Holds book code S
         → not (isNone (operationNumber (S .declared) n)) ≡ false
     unfolding operationNumber
     new n name words code S standing held =
@@ -183,17 +181,17 @@ module _ (book : List ℕ) (low high k : ℕ) (found : OperationFound (sectionWo
     counted : (code : Bytes) (S : State) → Holds book code S → m ≡ length (S .declared .operations)
     counted code S held = count ∙ sym (section-word section.counts book 1 (omega arith)) ∙ held .counts .operations
 
-    pub operation-full : operationLimit ≤ m → OperationStep book low high book refusal.full
+    pub operation-full : operationLimit ≤ m → OperationStep book packed book refusal.full
     operation-full over code n name words S standing held =
         let at = counted code S held in
         let over′ = le-leb operationLimit (length (S .declared .operations)) (omega arith) in
         (test-full S (op n) refl refl refl refl (new n name words code S standing held) over′, λ z. absurd (omega arith))
 
-    pub operation-step : m < operationLimit → (next : List ℕ) → next ≡ operationPut book m low high → OperationStep book low high next 0
+    pub operation-step : m < operationLimit → (next : List ℕ) → next ≡ operationPut book m packed → OperationStep book packed next 0
     operation-step few next e code n name words S standing held =
         let at = counted code S held in (
           accepted S (op n) refl refl refl refl (new n name words code S standing held) (lt-leb operationLimit (length (S .declared .operations)) (omega arith)),
           λ _.
-              subst (λ (l : List ℕ). Holds l code (after (op n) S)) (sym (e ∙ ap (λ (p : Packed). operationPut book m (p .low) (p .high)) (sym words)))
+              subst (λ (l : List ℕ). Holds l code (after (op n) S)) (sym (e ∙ ap (operationPut book m) (sym words)))
               (operation-held book code S n m held (λ i r f. standing .declarations .rules .each i r f .names-declared) at few),
         )

@@ -261,7 +261,7 @@ pair-held book next code D T q n k held known number at few low put =
           (rows-more D q k n number at (sectionWords section.pairs book) (put .rows) (put .row) (held .pairs));
       holders = subst (λ (w : List ℕ). Indexed w bookHolders (holderRow E)) (sym (beside section.holders refl refl refl)) (held .holders);
       sorts = subst (λ (w : List ℕ). SortRows w E) (sym (beside section.sorts refl refl refl)) (sorts-kept D E refl (sectionWords section.sorts book) (held .sorts));
-      groups = rw (beside section.slots refl refl refl, beside section.seats refl refl refl) (groups-kept D E refl _ _ (held .groups));
+      groups = rw (beside section.slots refl refl refl, beside section.slotOf refl refl refl) (groups-kept D E refl _ _ (held .groups));
       ties = rw (beside section.ups refl refl refl, beside section.own refl refl refl, beside section.slots refl refl refl) (held .ties);
       rules =
           subst (λ (w : List ℕ). RuleRows w code E) (sym (beside section.rules refl refl refl))

@@ -23,6 +23,7 @@ use Rattle.model.proofs.Lists.{or-left, place-nth}
 use Rattle.codes.specs.Codes.{sourceCode, typeCode}
 use Rattle.codes.proofs.Codes.{type-injective}
 use Rattle.text.specs.declared.Words.{Words}
+use Rattle.text.specs.declared.Packed.{Packed}
 use Rattle.text.specs.declared.Value.{Value}
 use Rattle.text.specs.Packing.{packedOf}
 use Rattle.text.specs.Values.{atomValue}
@@ -49,8 +50,9 @@ same-type-code AtomType.bool AtomType.str = refl
 same-type-code AtomType.bool AtomType.bool = refl
 
 -- k is the number of the attribute that was found
-module _ (book : List ℕ) (source low high : ℕ) (value : Value) (k : ℕ) (found : Numbered (sectionWords section.attributes book) source low high k) where
-  pub pair-undeclared : attributeLimit ≤ k → PairStep book source low high value book refusal.undeclared
+module _ (book : List ℕ) (source : ℕ) (packed : Packed) (value : Value) (k : ℕ)
+    (found : Numbered (sectionWords section.attributes book) source (packed .low) (packed .high) k) where
+  pub pair-undeclared : attributeLimit ≤ k → PairStep book source packed value book refusal.undeclared
   unfolding attributeNumber
   pair-undeclared over code s n a name written from words atom-is S standing held =
       let e = found .number (S .declared) (standing .declarations) (held .attributes) s n name from words in
@@ -73,10 +75,10 @@ module _ (book : List ℕ) (source low high : ℕ) (value : Value) (k : ℕ) (fo
       number-is : attributeNumber (S .declared) s n ≡ some k
       attribute-is : nth (S .declared .attributes) k ≡ some attribute
       of-name : attributeOf (S .declared) s n ≡ some attribute
-      kind-is : getD book (section.attributes .start + (8 * k + 1)) 0 ≡ typeCode (attribute .type)
+      ty-is : getD book (section.attributes .start + (8 * k + 1)) 0 ≡ typeCode (attribute .type)
 
     declared : (code : Bytes) (S : State) → Standing S → Holds book code S → (s : Source) (n : Bytes) → isName n ≡ true → source ≡ sourceCode s
-        → packedOf n ≡ record { low = low; high = high } → Declared code S s n
+        → packedOf n ≡ packed → Declared code S s n
     unfolding attributeOf attributeNumber
     declared code S standing held s n name from words =
         let e = found .number (S .declared) (standing .declarations) (held .attributes) s n name from words in
@@ -87,10 +89,10 @@ module _ (book : List ℕ) (source low high : ℕ) (value : Value) (k : ℕ) (fo
           number-is = f;
           attribute-is = g;
           of-name = ap (λ (o : Option ℕ). o >>= nth (S .declared .attributes)) f ∙ g;
-          kind-is = sym (section-word section.attributes book (8 * k + 1) (omega arith)) ∙ held .attributes .row k b g .type;
+          ty-is = sym (section-word section.attributes book (8 * k + 1) (omega arith)) ∙ held .attributes .row k b g .type;
         }
 
-    pub pair-of-block : sourceCode Source.env ≤ source → PairStep book source low high value book refusal.wrongSort
+    pub pair-of-block : sourceCode Source.env ≤ source → PairStep book source packed value book refusal.wrongSort
     pair-of-block block code s n a name written from words atom-is S standing held =
         let d = declared code S standing held s n name from words in (
           test-sort S (atom s n a) refl refl (ap isNone (d .number-is))
@@ -106,32 +108,32 @@ module _ (book : List ℕ) (source low high : ℕ) (value : Value) (k : ℕ) (fo
           ap₂ (λ (x y : Bool). x || y) (block-source s ∙ lt-leb (sourceCode Source.env) (sourceCode s) (omega arith))
           (ap (λ (o : Option Attribute). o is λ c. not (sameType (c .type) (typeOf a))) of ∙ ap not (same-type-code (b .type) (typeOf a)) ∙ e)
 
-      pub pair-of-type : (getD book (section.attributes .start + (8 * k + 1)) 0 ≡ value .kind → ⊥) → PairStep book source low high value book refusal.wrongSort
+      pub pair-of-type : (getD book (section.attributes .start + (8 * k + 1)) 0 ≡ value .ty → ⊥) → PairStep book source packed value book refusal.wrongSort
       pair-of-type other code s n a name written from words atom-is S standing held =
           let d = declared code S standing held s n name from words in (
             test-sort S (atom s n a) refl refl (ap isNone (d .number-is))
                 (sorted S s n a (d .attribute) from (d .of-name) true
-                (ap not (ne-eqb _ _ (λ z. other (d .kind-is ∙ z ∙ ap (λ (v : Value). v .kind) atom-is))))),
+                (ap not (ne-eqb _ _ (λ z. other (d .ty-is ∙ z ∙ ap (λ (v : Value). v .ty) atom-is))))),
             λ z. absurd (omega arith),
           )
 
-      module _ (typed : getD book (section.attributes .start + (8 * k + 1)) 0 ≡ value .kind) (p : ℕ) (found-pair : PairFound (sectionWords section.pairs book) k (value .words) p) where
+      module _ (typed : getD book (section.attributes .start + (8 * k + 1)) 0 ≡ value .ty) (p : ℕ) (found-pair : PairFound (sectionWords section.pairs book) k (value .words) p) where
         right-type : (a : Atom) (b : Attribute) → atomValue a ≡ value → getD book (section.attributes .start + (8 * k + 1)) 0 ≡ typeCode (b .type)
             → typeCode (b .type) ≡ typeCode (typeOf a)
-        right-type a b atom-is kind = sym kind ∙ typed ∙ sym (ap (λ (v : Value). v .kind) atom-is)
+        right-type a b atom-is ty = sym ty ∙ typed ∙ sym (ap (λ (v : Value). v .ty) atom-is)
 
         sorted-right : (S : State) (s : Source) (n : Bytes) (a : Atom) (code : Bytes) (d : Declared code S s n) → source ≡ sourceCode s → atomValue a ≡ value
             → (fromBlock s || (attributeOf (S .declared) s n is λ c. not (sameType (c .type) (typeOf a)))) ≡ false
         sorted-right S s n a code d from atom-is =
-            sorted S s n a (d .attribute) from (d .of-name) false (ap not (eq-eqb _ _ (right-type a (d .attribute) atom-is (d .kind-is))))
+            sorted S s n a (d .attribute) from (d .of-name) false (ap not (eq-eqb _ _ (right-type a (d .attribute) atom-is (d .ty-is))))
 
         numbered : (S : State) (s : Source) (n : Bytes) (a : Atom) (code : Bytes) → Standing S → Holds book code S → Declared code S s n → isAtom a ≡ true → atomValue a ≡ value
             → p ≡ numberOr pairLimit (pairNumber (S .declared) s n a)
         numbered S s n a code standing held d written atom-is =
             found-pair (S .declared) (standing .declarations) (held .pairs) s n (d .attribute) a (d .number-is) (d .attribute-is)
-            (type-injective _ _ (right-type a (d .attribute) atom-is (d .kind-is))) written (ap (λ (v : Value). v .words) atom-is)
+            (type-injective _ _ (right-type a (d .attribute) atom-is (d .ty-is))) written (ap (λ (v : Value). v .words) atom-is)
 
-        pub pair-repeated : (p ≡ pairLimit → ⊥) → PairStep book source low high value book refusal.repeated
+        pub pair-repeated : (p ≡ pairLimit → ⊥) → PairStep book source packed value book refusal.repeated
         pair-repeated other code s n a name written from words atom-is S standing held =
             let d = declared code S standing held s n name from words in (
               test-repeated S (atom s n a) refl refl (ap isNone (d .number-is)) (sorted-right S s n a code d from atom-is)
@@ -155,7 +157,7 @@ module _ (book : List ℕ) (source low high : ℕ) (value : Value) (k : ℕ) (fo
           counted : (code : Bytes) (S : State) → Holds book code S → m ≡ length (S .declared .pairs)
           counted code S held = count ∙ sym (section-word section.counts book 2 (omega arith)) ∙ held .counts .pairs
 
-          pub pair-full : pairLimit ≤ m → PairStep book source low high value book refusal.full
+          pub pair-full : pairLimit ≤ m → PairStep book source packed value book refusal.full
           pair-full over code s n a name written from words atom-is S standing held =
               let d = declared code S standing held s n name from words in
               let at = counted code S held in (
@@ -164,7 +166,7 @@ module _ (book : List ℕ) (source low high : ℕ) (value : Value) (k : ℕ) (fo
                 λ z. absurd (omega arith),
               )
 
-          pub pair-step : m < pairLimit → (next : List ℕ) → PairPut book m k (value .words) next → PairStep book source low high value next 0
+          pub pair-step : m < pairLimit → (next : List ℕ) → PairPut book m k (value .words) next → PairStep book source packed value next 0
           unfolding after
           pair-step few next put code s n a name written from words atom-is S standing held =
               let d = declared code S standing held s n name from words in

@@ -57,11 +57,11 @@ sortCode Sort.object = 7
 abbrev pub SortRows : List ℕ → Declarations → Type 0
 SortRows words D = (k : ℕ) → k < bookHolders → getD words k 0 ≡ coded sortCode (sortOf D k)
 
--- each group has a slot: slots are taken in the order of the groups, and a group's seat is 1 + its slot
-pub record GroupSlots (slots seats : List ℕ) (D : Declarations) : Type 0 where
-  pub seated : (k : ℕ) (s : Sort) → sortOf D k ≡ some s → isGroup s ≡ true
-      → (q : ℕ) × (getD seats k 0 ≡ suc q) × (q < groups D) × (getD slots q 0 ≡ k)
-  pub unseated : (k : ℕ) → k < bookHolders → ((s : Sort) → sortOf D k ≡ some s → isGroup s ≡ false) → getD seats k 0 ≡ 0
+-- each group has a slot: slots are taken in the order of the groups, and a group's own word is 1 + its slot
+pub record GroupSlots (slots slotOf : List ℕ) (D : Declarations) : Type 0 where
+  pub in-slot : (k : ℕ) (s : Sort) → sortOf D k ≡ some s → isGroup s ≡ true
+      → (q : ℕ) × (getD slotOf k 0 ≡ suc q) × (q < groups D) × (getD slots q 0 ≡ k)
+  pub no-slot : (k : ℕ) → k < bookHolders → ((s : Sort) → sortOf D k ≡ some s → isGroup s ≡ false) → getD slotOf k 0 ≡ 0
   pub taken : (q : ℕ) → q < groups D → (s : Sort) × (sortOf D (getD slots q 0) ≡ some s) × (isGroup s ≡ true)
   pub free : (q : ℕ) → groups D ≤ q → q < groupLimit → getD slots q 0 ≡ 0
 
@@ -86,6 +86,6 @@ pub record Holds (book : List ℕ) (code : Bytes) (S : State) : Type 0 where
   pub pairs : Indexed (sectionWords section.pairs book) pairLimit (pairRow (S .declared))
   pub holders : Indexed (sectionWords section.holders book) bookHolders (holderRow (S .declared))
   pub sorts : SortRows (sectionWords section.sorts book) (S .declared)
-  pub groups : GroupSlots (sectionWords section.slots book) (sectionWords section.seats book) (S .declared)
+  pub groups : GroupSlots (sectionWords section.slots book) (sectionWords section.slotOf book) (S .declared)
   pub ties : KeepsTies (sectionWords section.ups book) (sectionWords section.own book) (sectionWords section.slots book) (S .ties)
   pub rules : RuleRows (sectionWords section.rules book) code (S .declared)

@@ -39,8 +39,8 @@ holders = record { start = 1816; size = 1536 }
 abbrev pub sorts : Section
 sorts = record { start = 3352; size = 256 }
 
-abbrev pub seats : Section
-seats = record { start = 3608; size = 256 }
+abbrev pub slotOf : Section
+slotOf = record { start = 3608; size = 256 }
 
 -- ties: the holder number of each slot; a mask over slots for each holder; four words of own pairs for each holder
 abbrev pub slots : Section

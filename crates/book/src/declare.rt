@@ -14,7 +14,7 @@ use crate::OPERATION_COUNT;
 use crate::OPERATIONS_AT;
 use crate::PAIR_COUNT;
 use crate::PAIRS_AT;
-use crate::SEATS_AT;
+use crate::SLOT_OF_AT;
 use crate::SLOTS_AT;
 use crate::SORTS_AT;
 use crate::UPS_AT;
@@ -29,6 +29,7 @@ use codes::STR;
 use codes::UNDECLARED;
 use codes::WRONG_SORT;
 use rows::ATTRIBUTES;
+use text::Packed;
 use text::Value;
 use text::Words;
 
@@ -40,83 +41,82 @@ pub const ADMIN_SORT: u8 = 1;
 
 const ADMIN_NAME: u64 = 474215179361;
 
-fn wide(count: u64) -> usize
-    ensures { λ r. ⌜ r ≡ count ⌝ }
-{
-    count as usize
-}
-
 // Whether an attribute would be a str of env or connect.
-fn is_block_text(source: u8, kind: u8) -> bool
-    ensures { λ r. ⌜ r ≡ blockText source kind ⌝ }
+fn is_block_text(source: u8, ty: u8) -> bool
+    ensures { λ r. ⌜ r ≡ blockText source ty ⌝ }
 {
     if source < ENV {
         return false;
     }
-    kind == STR
+    ty == STR
 }
 
 // Writes attribute n, of which there are no pairs yet, and counts it.
-fn put_attribute(book: &mut [u64], n: usize, source: u8, kind: u8, low: u64, high: u64)
+fn put_attribute(book: &mut [u64], n: usize, source: u8, ty: u8, name: Packed)
     requires { ⌜ (length (now book) ≡ bookWords) × (n < attributeLimit) ⌝ }
-    ensures { λ _. ⌜ now (book .exit) ≡ attributePut (now (book .entry)) n source kind low high ⌝ }
+    ensures { λ _. ⌜ now (book .exit) ≡ attributePut (now (book .entry)) n source ty name ⌝ }
 {
     index::put_row(
         book,
         ATTRIBUTES_AT + 8 * n,
         source as u64,
-        kind as u64,
-        low,
-        high,
+        ty as u64,
+        name.low,
+        name.high,
     );
     book[ATTRIBUTE_COUNT] = n as u64 + 1;
 }
 
 // The step of a line `attr`: 9, 10, 11 or 0.
-pub fn attribute(book: &mut [u64], source: u8, kind: u8, low: u64, high: u64) -> u8
+pub fn attribute(book: &mut [u64], source: u8, ty: u8, name: Packed) -> u8
     requires { ⌜ length (now book) ≡ bookWords ⌝ }
-    ensures { λ r. ⌜ Keeps r (now (book .entry)) (now (book .exit)) × AttributeStep (now (book .entry)) source kind low high (now (book .exit)) r ⌝ }
+    ensures { λ r. ⌜ Keeps r (now (book .entry)) (now (book .exit)) × AttributeStep (now (book .entry)) source ty name (now (book .exit)) r ⌝ }
 {
-    if is_block_text(source, kind) {
+    if is_block_text(source, ty) {
         return WRONG_SORT;
     }
-    let k = rows::attribute_number(&book[ATTRIBUTES_AT..OPERATIONS_AT], source, low, high);
+    let k = rows::attribute_number(
+        &book[ATTRIBUTES_AT..OPERATIONS_AT],
+        source,
+        name.low,
+        name.high,
+    );
     if k != ATTRIBUTES {
         return REPEATED;
     }
-    let n = wide(book[ATTRIBUTE_COUNT]);
+    let n = codes::word_to_index(book[ATTRIBUTE_COUNT]);
     if n >= ATTRIBUTES {
         return FULL;
     }
-    put_attribute(book, n, source, kind, low, high);
+    put_attribute(book, n, source, ty, name);
     0
 }
 
 // Writes operation n, and counts it.
-fn put_operation(book: &mut [u64], n: usize, low: u64, high: u64)
+fn put_operation(book: &mut [u64], n: usize, name: Packed)
     requires { ⌜ (length (now book) ≡ bookWords) × (n < operationLimit) ⌝ }
-    ensures { λ _. ⌜ now (book .exit) ≡ operationPut (now (book .entry)) n low high ⌝ }
+    ensures { λ _. ⌜ now (book .exit) ≡ operationPut (now (book .entry)) n name ⌝ }
 {
     let at = OPERATIONS_AT + 2 * n;
-    book[at] = low;
-    book[at + 1] = high;
+    book[at] = name.low;
+    book[at + 1] = name.high;
     book[OPERATION_COUNT] = n as u64 + 1;
 }
 
 // The step of a line `op`: 10, 11 or 0.
-pub fn operation(book: &mut [u64], low: u64, high: u64) -> u8
+pub fn operation(book: &mut [u64], name: Packed) -> u8
     requires { ⌜ length (now book) ≡ bookWords ⌝ }
-    ensures { λ r. ⌜ Keeps r (now (book .entry)) (now (book .exit)) × OperationStep (now (book .entry)) low high (now (book .exit)) r ⌝ }
+    ensures { λ r. ⌜ Keeps r (now (book .entry)) (now (book .exit)) × OperationStep (now (book .entry)) name (now (book .exit)) r ⌝ }
 {
-    let k = crate::find::operation_number(&book[OPERATIONS_AT..PAIRS_AT], low, high);
+    let k = crate::find::operation_number(&book[OPERATIONS_AT..PAIRS_AT], name.low, name.high);
     if k != OPERATIONS {
         return REPEATED;
     }
-    let n = wide(book[OPERATION_COUNT]);
+    let n = codes::word_to_index(book[OPERATION_COUNT]);
     if n >= OPERATIONS {
         return FULL;
     }
-    put_operation(book, n, low, high);
+    put_operation(book, n, name);
     0
 }
 
@@ -141,27 +141,32 @@ fn put_pair(book: &mut [u64], n: usize, k: usize, words: Words)
 }
 
 // The step of a line `atom`: 8, 9, 10, 11 or 0.
-pub fn pair(book: &mut [u64], source: u8, low: u64, high: u64, value: Value) -> u8
+pub fn pair(book: &mut [u64], source: u8, name: Packed, atom: Value) -> u8
     requires { ⌜ length (now book) ≡ bookWords ⌝ }
-    ensures { λ r. ⌜ Keeps r (now (book .entry)) (now (book .exit)) × PairStep (now (book .entry)) source low high value (now (book .exit)) r ⌝ }
+    ensures { λ r. ⌜ Keeps r (now (book .entry)) (now (book .exit)) × PairStep (now (book .entry)) source name atom (now (book .exit)) r ⌝ }
 {
-    let k = rows::attribute_number(&book[ATTRIBUTES_AT..OPERATIONS_AT], source, low, high);
+    let k = rows::attribute_number(
+        &book[ATTRIBUTES_AT..OPERATIONS_AT],
+        source,
+        name.low,
+        name.high,
+    );
     if k >= ATTRIBUTES {
         return UNDECLARED;
     }
     if source >= ENV {
         return WRONG_SORT;
     }
-    let kind = value.kind;
-    if book[ATTRIBUTES_AT + (8 * k + 1)] != kind as u64 {
+    let ty = atom.ty;
+    if book[ATTRIBUTES_AT + (8 * k + 1)] != ty as u64 {
         return WRONG_SORT;
     }
-    let words = value.words;
+    let words = atom.words;
     let p = crate::find::pair_number(&book[PAIRS_AT..HOLDERS_AT], k, words);
     if p != PAIRS {
         return REPEATED;
     }
-    let n = wide(book[PAIR_COUNT]);
+    let n = codes::word_to_index(book[PAIR_COUNT]);
     if n >= PAIRS {
         return FULL;
     }
@@ -170,11 +175,18 @@ pub fn pair(book: &mut [u64], source: u8, low: u64, high: u64, value: Value) -> 
 }
 
 // Writes holder n, and counts it.
-fn put_holder(book: &mut [u64], n: usize, sort: u8, low: u64, high: u64)
+fn put_holder(book: &mut [u64], n: usize, sort: u8, name: Packed)
     requires { ⌜ (length (now book) ≡ bookWords) × (n < bookHolders) ⌝ }
-    ensures { λ _. ⌜ HolderPut (now (book .entry)) n sort low high (now (book .exit)) ⌝ }
+    ensures { λ _. ⌜ HolderPut (now (book .entry)) n sort name (now (book .exit)) ⌝ }
 {
-    index::add(&mut book[HOLDERS_AT..SORTS_AT], n, 1, low, high, 0);
+    index::add(
+        &mut book[HOLDERS_AT..SORTS_AT],
+        n,
+        1,
+        name.low,
+        name.high,
+        0,
+    );
     book[SORTS_AT + n] = sort as u64;
     book[HOLDER_COUNT] = n as u64 + 1;
 }
@@ -185,32 +197,32 @@ fn put_group(book: &mut [u64], n: usize, g: usize)
     ensures { λ _. ⌜ now (book .exit) ≡ groupPut (now (book .entry)) n g ⌝ }
 {
     ties::give_slot(&mut book[SLOTS_AT..UPS_AT], g, n);
-    book[SEATS_AT + n] = g as u64 + 1;
+    book[SLOT_OF_AT + n] = g as u64 + 1;
     book[GROUP_COUNT] = g as u64 + 1;
 }
 
 // The step of a line that declares a holder, by its key: 10, 11 or 0. A group gets the next slot.
-pub fn holder(book: &mut [u64], key: u8, low: u64, high: u64) -> u8
+pub fn holder(book: &mut [u64], key: u8, name: Packed) -> u8
     requires { ⌜ length (now book) ≡ bookWords ⌝ }
-    ensures { λ r. ⌜ Keeps r (now (book .entry)) (now (book .exit)) × HolderStep (now (book .entry)) key low high (now (book .exit)) r ⌝ }
+    ensures { λ r. ⌜ Keeps r (now (book .entry)) (now (book .exit)) × HolderStep (now (book .entry)) key name (now (book .exit)) r ⌝ }
 {
-    let k = crate::find::holder_number(&book[HOLDERS_AT..SORTS_AT], low, high);
+    let k = crate::find::holder_number(&book[HOLDERS_AT..SORTS_AT], name.low, name.high);
     if k != HOLDERS {
         return REPEATED;
     }
-    let n = wide(book[HOLDER_COUNT]);
+    let n = codes::word_to_index(book[HOLDER_COUNT]);
     if n >= HOLDERS {
         return FULL;
     }
     if key >= KEY_USER {
-        put_holder(book, n, key, low, high);
+        put_holder(book, n, key, name);
         return 0;
     }
-    let g = wide(book[GROUP_COUNT]);
+    let g = codes::word_to_index(book[GROUP_COUNT]);
     if g >= GROUPS {
         return FULL;
     }
-    put_holder(book, n, key, low, high);
+    put_holder(book, n, key, name);
     put_group(book, n, g);
     0
 }
@@ -230,5 +242,9 @@ pub fn clear(book: &mut [u64])
     ensures { λ _. ⌜ (length (now (book .exit)) ≡ length (now (book .entry))) × Emptied (now (book .exit)) ⌝ }
 {
     zero(book);
-    put_holder(book, 0, ADMIN_SORT, ADMIN_NAME, 0);
+    let name = Packed {
+        low: ADMIN_NAME,
+        high: 0,
+    };
+    put_holder(book, 0, ADMIN_SORT, name);
 }

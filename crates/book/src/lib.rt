@@ -26,7 +26,7 @@ pub const HOLDERS_AT: usize = 1816;
 
 pub const SORTS_AT: usize = 3352;
 
-pub const SEATS_AT: usize = 3608;
+pub const SLOT_OF_AT: usize = 3608;
 
 pub const SLOTS_AT: usize = 3864;
 

@@ -1,7 +1,7 @@
 -- The call of an edit gives the ledger's outcome: on a table of another length, where it is refused, and where it is accepted. Assumes nothing.
 use Prim.Native.Nat.{ℕ}
 use mathlib.Core.Path.{_≡_, refl, sym, ap, ap₂, subst, _∙_}
-use mathlib.Core.Bool.{Bool, true, false, not}
+use mathlib.Core.Bool.{Bool, not}
 use mathlib.Core.List.{List}
 use mathlib.Core.Option.{Option, some}
 use lib.ListN.{length}
@@ -21,9 +21,10 @@ use Rattle.model.specs.Standing.{Standing}
 use Rattle.model.proofs.Outcomes.{outcome-by}
 use Rattle.book.specs.Held.{Holds}
 use Rattle.book.specs.Calls.{refusedEdit, Gives, Together, Edits}
-use Rattle.edit.specs.EditSteps.{LineTie, TieJudged, Applied, Untouched, SetsElsewhere, EditCall}
+use Rattle.tielines.specs.TieSteps.{TieJudged}
+use Rattle.edit.specs.EditSteps.{LineTie, Applied, Untouched, SetsElsewhere, EditCall}
 use Rattle.edit.proofs.EditedSets.{sets-elsewhere}
-use Rattle.edit.proofs.EditRefusals.{SignedLine, tie-fitting, tie-refusal, edited-tie, adds-is}
+use Rattle.edit.proofs.EditRefusals.{SignedLine, tie-refusal, edited-tie, adds-is}
 
 module _ (S : State) (words : List ℕ) (line : Bytes) where
   -- the outcome by the specification's edit
@@ -111,7 +112,7 @@ module _ (line : Bytes) (book words : List ℕ) (number : ℕ) where
 -- "The answer is 0 and the number of holders whose stored set changed"
 pub accepted-call : (edit : Bytes) (book words words′ book′ : List ℕ) (count : ℕ)
     → length words ≡ tableWords Edition.first → length words′ ≡ length words → length book′ ≡ length book
-    → (plus : Bool) (line : Bytes) → SignedLine edit plus line → (n : ℕ) (t : Tie) → LineTie book line n t → n ≡ 0 → (r : ℕ) → TieJudged book plus t r → r ≡ 0
+    → (plus : Bool) (line : Bytes) → SignedLine edit plus line → (n : ℕ) (t : Tie) → LineTie book line n t → n ≡ 0 → (r : ℕ) → TieJudged book t plus r → r ≡ 0
     → Applied plus t book book′ words words′ count → EditCall edit book words (edited 0 count) words′ book′
 accepted-call edit book words words′ book′ count size long book-long′ plus line signed n t told z r judged y applied = record {
   edits = given;
@@ -126,7 +127,7 @@ accepted-call edit book words words′ book′ count size long book-long′ plus
     given S code together =
         let right = size ∙ ap tableWords (sym (together .holds .edition)) in
         let read = told S code (together .standing) (together .holds) in
-        let fits = tie-fitting S edit plus line signed n t read z in
+        let fits = read .fits z in
         let passed = sym y ∙ judged S code (together .standing) (together .holds) fits in
         let zero′ = tie-refusal S edit plus line signed n t read z ∙ sym passed in
         let is-accepted = accepts S words edit zero′ (adds-is S edit plus line signed) (edited-tie S edit plus line signed n t read z) in

@@ -6,7 +6,6 @@ use mathlib.Core.List.{List}
 use mathlib.Core.Option.{some}
 use native.Mathlib.Omega.{arith}
 use lib.Dec.{eqb}
-use borrow.Author.Tests.{not-false}
 use Rattle.model.specs.Notation.{if_then_else_}
 use Rattle.model.specs.Limits.{holderNumbers}
 use Rattle.model.specs.Ties.{Tie, Ties, editedHolder}
@@ -19,9 +18,11 @@ use Rattle.model.proofs.Standing.{added-standing, removed-standing}
 use Rattle.sets.specs.Refreshed.{EditedAt}
 use Rattle.book.specs.Sections as section
 use Rattle.book.specs.Sections.{sectionWords}
-use Rattle.tielines.specs.TieSteps.{tieBy}
+use Rattle.tielines.specs.TieReading.{tieBy}
+use Rattle.tielines.specs.TieSteps.{signTests, TieChanged}
+use Rattle.tielines.proofs.TieRefusals.{stood}
 use Rattle.book.proofs.Sections.{part-size}
-use Rattle.edit.specs.EditSteps.{signTests, TieChanged, TableKept, Applied}
+use Rattle.edit.specs.EditSteps.{TableKept, Applied}
 
 -- the edited holder is the lower one
 pub edited-lower : (key h u : ℕ) → editedHolder (tieBy key h u) ≡ h
@@ -39,22 +40,17 @@ edited-differs true t T u n = ap (λ (b : Bool). b || T u) (other-tie t u n)
 edited-differs false t T u n = ap (λ (b : Bool). not b && T u) (other-tie t u n)
 
 module _ (S : State) (t : Tie) where
-  -- a tie that is refused for nothing does not stand behind `+`, and stands behind `-`
-  stood : (plus : Bool) → NoneHolds (signTests S plus t) → S .ties t ≡ not plus
-  stood true h = h .0
-  stood false h = not-false (S .ties t) (h .1 .1 .0)
-
-  edited-standing : Standing S → (plus : Bool) → TieFits (S .declared) t → NoneHolds (signTests S plus t)
+  edited-standing : Standing S → (plus : Bool) → TieFits (S .declared) t → NoneHolds (signTests S t plus)
       → Standing (record { declared = S .declared; ties = editedTies plus (some t) (S .ties) })
   edited-standing standing true fits h = added-standing standing t fits (h .1 .0)
   edited-standing standing false fits h = removed-standing standing t
 
 module _ (plus : Bool) (t : Tie) (book book′ words words′ : List ℕ) (e count : ℕ) (holder : editedHolder t ≡ e)
-    (changed : TieChanged plus t book book′) (kept : TableKept book′ e words words′ count) where
+    (changed : TieChanged t plus book book′) (kept : TableKept book′ e words words′ count) where
   pub applied : Applied plus t book book′ words words′ count
   applied S code standing held was fits passed =
-      let none-refused = none-holds (signTests S plus t) refl (sym passed) in
-      let held′ = changed .holds S code standing held (fits, stood S t plus none-refused) in
+      let none-refused = none-holds (signTests S t plus) refl (sym passed) in
+      let held′ = changed .holds S code standing held fits (stood S t plus passed) in
       let U = editedTies plus (some t) (S .ties) in
       let edit : EditedAt (sectionWords section.ups book′) (sectionWords section.own book′) (sectionWords section.slots book′) e (S .declared) (S .ties) U =
       record {

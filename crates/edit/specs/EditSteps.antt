@@ -1,59 +1,31 @@
--- The steps of an edit: the tie of its line, what a tie is refused for, and what the tie more or less makes of book and table.
+-- The steps of an edit: the tie of its line, and what the tie more or less makes of book and table.
 -- Assumes nothing: these are definitions.
 use Prim.Native.Nat.{ℕ, _<_}
 use mathlib.Core.Path.{_≡_}
-use mathlib.Core.Bool.{Bool, _&&_, not}
+use mathlib.Core.Bool.{Bool}
 use mathlib.Core.List.{List, [], _∷_}
-use mathlib.Core.Option.{Option, some}
+use mathlib.Core.Option.{some}
 use lib.ListN.{length}
-use Rattle.model.specs.Notation.{_>>=_, _is_, isNone}
+use Rattle.model.specs.Notation.{_is_}
 use Rattle.model.specs.Limits.{Edition, tableWords, holderNumbers}
 use Rattle.model.specs.Numbers as refusal
 use Rattle.model.specs.Bytes.{Bytes}
-use Rattle.model.specs.Keys.{Key, isTieKey}
-use Rattle.model.specs.Lines.{Line, readFields, readLine}
-use Rattle.model.specs.Declarations.{holderNumbersOf}
+use Rattle.model.specs.Lines.{readLine}
 use Rattle.model.specs.Ties.{Tie, editedHolder, Below}
 use Rattle.model.specs.Table.{table, setIn}
-use Rattle.model.specs.State.{State, tieOf}
-use Rattle.model.specs.Refusals.{Test, _if_, first, unframed, otherKey, malformed, undeclared, wrongSort, tieCloses}
+use Rattle.model.specs.State.{State}
+use Rattle.model.specs.Refusals.{Test, _if_, first, unframed, otherKey, malformed, undeclared, wrongSort}
 use Rattle.model.specs.Edits.{editedTie, editedTies, changes}
 use Rattle.model.specs.Ledger.{Answer, edited}
 use Rattle.model.specs.Standing.{Standing, TieFits}
-use Rattle.codes.specs.Codes.{keyCode}
 use Rattle.sets.specs.Refreshed.{Refreshed}
 use Rattle.book.specs.Sections as section
 use Rattle.book.specs.Sections.{sectionWords}
 use Rattle.book.specs.Held.{Holds}
-use Rattle.tielines.specs.TieSteps.{TiesEdited}
+use Rattle.tielines.specs.TieReading.{BookTie}
+use Rattle.tielines.specs.TieSteps.{signTests}
 use Rattle.book.specs.Calls.{answerNumber, refusedEdit, Together, Edits}
 use Rattle.edit.specs.declared.Edited.{Edited}
-
--- a number by tests, and the tie of the line that was read where it is 0
-pub record ReadTie (S : State) (tests : List Test) (l : Option Line) (number : ℕ) (t : Tie) : Type 0 where
-  pub refusal : number ≡ first tests
-  pub tie : number ≡ 0 → (l >>= tieOf (S .declared)) ≡ some t
-
--- for every standing state that the book holds
-abbrev pub BookTie : List ℕ → (State → List Test) → Option Line → ℕ → Tie → Type 0
-BookTie book tests l number t = (S : State) (code : Bytes) → Standing S → Holds book code S → ReadTie S (tests S) l number t
-
--- what is read from fields: 6, 8 and 9
-abbrev pub fieldTests : Option Line → State → List Test
-fieldTests l S = refusal.malformed if isNone l ∷ refusal.undeclared if (l is undeclared (S .declared)) ∷ refusal.wrongSort if (l is wrongSort (S .declared)) ∷ []
-
-abbrev pub FieldsTie : List ℕ → Option Line → ℕ → Tie → Type 0
-FieldsTie book l number t = BookTie book (fieldTests l) l number t
-
--- fields of two names, by the code of the key
-abbrev pub TwoFieldsTie : List ℕ → ℕ → Bytes → ℕ → Tie → Type 0
-TwoFieldsTie book key f number t =
-    (key ≡ keyCode Key.parent → FieldsTie book (readFields Key.parent f) number t) × (key ≡ keyCode Key.member → FieldsTie book (readFields Key.member f) number t)
-
--- fields behind a known key: 13 before the rest
-abbrev pub KeyTie : List ℕ → ℕ → Bytes → ℕ → Tie → Type 0
-KeyTie book key f number t =
-    (k : Key) → key ≡ keyCode k → BookTie book (λ S. refusal.otherKey if not (isTieKey k) ∷ fieldTests (readFields k f) S) (readFields k f) number t
 
 -- the line behind the sign: 4, 13, 6, 8 and 9
 abbrev pub behindSignTests : Bytes → State → List Test
@@ -68,21 +40,6 @@ behindSignTests line S =
 abbrev pub LineTie : List ℕ → Bytes → ℕ → Tie → Type 0
 LineTie book line number t = BookTie book (behindSignTests line) (readLine line) number t
 
--- what a tie is refused for: 10 and 12 behind `+`, 14 behind `-`
-abbrev pub signTests : State → Bool → Tie → List Test
-signTests S plus t =
-    refusal.repeated if (plus && S .ties t)
-    ∷ refusal.circular if (plus && tieCloses (holderNumbersOf (S .declared)) (S .ties) t)
-    ∷ refusal.notStanding if (not plus && not (S .ties t))
-    ∷ []
-
-abbrev pub TieJudged : List ℕ → Bool → Tie → ℕ → Type 0
-TieJudged book plus t r = (S : State) (code : Bytes) → Standing S → Holds book code S → TieFits (S .declared) t → r ≡ first (signTests S plus t)
-
--- a tie more or less, that fits the declarations and does not stand or stands
-abbrev pub TieChanged : Bool → Tie → List ℕ → List ℕ → Type 0
-TieChanged plus t book book′ = TiesEdited (λ S. TieFits (S .declared) t × (S .ties t ≡ not plus)) (editedTies plus (some t)) book book′
-
 -- the table after an edit of holder e, by the sections of the book
 abbrev pub TableKept : List ℕ → ℕ → List ℕ → List ℕ → ℕ → Type 0
 TableKept book e words words′ r = Refreshed (sectionWords section.ups book) (sectionWords section.own book) (sectionWords section.slots book) e words words′ r
@@ -96,7 +53,7 @@ pub record Changed (S : State) (code : Bytes) (plus : Bool) (t : Tie) (book′ w
 abbrev pub Applied : Bool → Tie → List ℕ → List ℕ → List ℕ → List ℕ → ℕ → Type 0
 Applied plus t book book′ words words′ count =
     (S : State) (code : Bytes) → Standing S → Holds book code S → words ≡ table (S .declared) (S .ties) → TieFits (S .declared) t
-    → 0 ≡ first (signTests S plus t) → Changed S code plus t book′ words′ count
+    → 0 ≡ first (signTests S t plus) → Changed S code plus t book′ words′ count
 
 -- what is left as it was
 pub record Untouched (book words words′ book′ : List ℕ) : Type 0 where

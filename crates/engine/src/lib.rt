@@ -19,25 +19,25 @@ use codes::WRONG_TABLE;
 use file::Loaded;
 
 // Fills the table from the book's ties.
-fn fill(words: &[u64], table: &mut [u64])
-    requires { ⌜ (length (now words) ≡ bookWords) × (length (now table) ≡ tableWords Edition.first) ⌝ }
-    ensures { λ _. ⌜ TableFilled (now (words .entry)) (now (table .exit)) ⌝ }
+fn fill(book: &[u64], table: &mut [u64])
+    requires { ⌜ (length (now book) ≡ bookWords) × (length (now table) ≡ tableWords Edition.first) ⌝ }
+    ensures { λ _. ⌜ TableFilled (now (book .entry)) (now (table .exit)) ⌝ }
 {
     sets::fill(
         table,
-        &words[OWN_AT..RULES_AT],
-        &words[UPS_AT..OWN_AT],
-        &words[SLOTS_AT..UPS_AT],
+        &book[OWN_AT..RULES_AT],
+        &book[UPS_AT..OWN_AT],
+        &book[SLOTS_AT..UPS_AT],
     );
 }
 
 // What a refused load leaves: the empty book, whose bytes of rules may stay, since none is counted, and a table of zeros. A table of another length
 // keeps its words.
-fn refuse(words: &mut [u64], code: &[u8], table: &mut [u64])
-    requires { ⌜ (length (now words) ≡ bookWords) × (length (now code) ≡ ruleBytes) ⌝ }
-    ensures { λ _. ⌜ Holds (now (words .exit)) (now (code .entry)) (empty Edition.first) × Cleared (now (table .entry)) (now (table .exit)) ⌝ }
+fn refuse(book: &mut [u64], code: &[u8], table: &mut [u64])
+    requires { ⌜ (length (now book) ≡ bookWords) × (length (now code) ≡ ruleBytes) ⌝ }
+    ensures { λ _. ⌜ Holds (now (book .exit)) (now (code .entry)) (empty Edition.first) × Cleared (now (table .entry)) (now (table .exit)) ⌝ }
 {
-    book::declare::clear(words);
+    book::declare::clear(book);
     if table.len() == TABLE_WORDS {
         book::declare::zero(table);
     }

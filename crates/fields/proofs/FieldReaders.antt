@@ -47,9 +47,9 @@ pub name-known : (o : Option Bytes) {r : NameField} → r ≡ codedName o → r 
 name-known none e = ap (λ (v : NameField). v .ok) e
 name-known (some n) e = ap (λ (v : NameField). v .ok) e
 
-pub atom-known : (o : Option Atom) {v : Value} → v ≡ codedAtom o → not (eqb (v .kind) 0) ≡ known o
-atom-known none {v} e = ap (λ (x : Value). not (eqb (x .kind) 0)) e
-atom-known (some a) {v} e = ap not (ne-eqb (v .kind) 0 λ z. type-some (typeOf a) (sym (ap (λ (x : Value). x .kind) e) ∙ z))
+pub atom-known : (o : Option Atom) {v : Value} → v ≡ codedAtom o → not (eqb (v .ty) 0) ≡ known o
+atom-known none {v} e = ap (λ (x : Value). not (eqb (x .ty) 0)) e
+atom-known (some a) {v} e = ap not (ne-eqb (v .ty) 0 λ z. type-some (typeOf a) (sym (ap (λ (x : Value). x .ty) e) ∙ z))
 
 pub unknown : {A : Type 0} (o : Option A) {t : Bool} → t ≡ known o → t ≡ false → o ≡ none
 unknown none p e = refl

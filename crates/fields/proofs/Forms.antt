@@ -24,7 +24,7 @@ use Rattle.fields.specs.declared.PairFields.{PairFields}
 use Rattle.fields.specs.declared.TwoFields.{TwoFields}
 use Rattle.fields.specs.declared.ValueFields.{ValueFields}
 use Rattle.fields.specs.declared.RuleFields.{RuleFields}
-use Rattle.fields.specs.Forms.{codedName, nameNumbers, wordsIn, noAttr, AttrTold, noPair, PairTold, noTwo, TwoTold, noValue, ValueTold, noRule, RuleTold}
+use Rattle.fields.specs.Forms.{codedName, nameNumbers, noAttr, AttrTold, noPair, PairTold, noTwo, TwoTold, noValue, ValueTold, noRule, RuleTold}
 use Rattle.fields.proofs.FieldReaders.{refused, given, source-known, type-known, name-known, atom-known, unknown, found, three-refused, three-given}
 
 -- SRC,NAME,TYPE
@@ -38,25 +38,25 @@ module _ (f : Bytes) where
   attr-cut-once e p n = refused e (rw (p, n))
 
   module _ {s rest n t : Bytes} (p : cut 44 f ≡ some (s, rest)) (q : cut 44 rest ≡ some (n, t))
-      {source kind : ℕ} {name : NameField} (i : source ≡ sourceNumber s) (j : name ≡ codedName (readName n)) (k : kind ≡ typeNumber t) where
+      {source ty : ℕ} {name : NameField} (i : source ≡ sourceNumber s) (j : name ≡ codedName (readName n)) (k : ty ≡ typeNumber t) where
     attr-read : readAttr f ≡ (readSource s >>= λ x. readName n >>= λ y. readType t >>= λ z. some (attr x y z))
     unfolding readAttr
     attr-read = rw (p, q)
 
-    pub attr-refused : {r : AttrFields} → r ≡ noAttr → (not (eqb source 0) && name .ok && not (eqb kind 0)) ≡ false → AttrTold f r
+    pub attr-refused : {r : AttrFields} → r ≡ noAttr → (not (eqb source 0) && name .ok && not (eqb ty 0)) ≡ false → AttrTold f r
     attr-refused e b =
         three-refused (readSource s) (readName n) (readType t) (source-known s i) (name-known (readName n) j) (type-known t k) b attr-read e
 
-    pub attr-given : (not (eqb source 0) && name .ok && not (eqb kind 0)) ≡ true
-        → AttrTold f (record { ok = true; source = source; kind = kind; low = name .low; high = name .high })
+    pub attr-given : (not (eqb source 0) && name .ok && not (eqb ty 0)) ≡ true
+        → AttrTold f (record { ok = true; source = source; ty = ty; name = name .name })
     unfolding sourceNumber typeNumber
     attr-given b =
         three-given (readSource s) (readName n) (readType t) (source-known s i) (name-known (readName n) j) (type-known t k) b attr-read
         λ x y z u v w.
         let a : source ≡ sourceCode x = i ∙ ap (coded sourceCode) u in
         let m : name ≡ nameNumbers y = j ∙ ap codedName v in
-        let c : kind ≡ typeCode z = k ∙ ap (coded typeCode) w in
-        λ o. record { ok = true; source = a o; kind = c o; low = m o .low; high = m o .high }
+        let c : ty ≡ typeCode z = k ∙ ap (coded typeCode) w in
+        λ o. record { ok = true; source = a o; ty = c o; name = m o .name }
 
 -- SRC.NAME,ATOM
 module _ (f : Bytes) where
@@ -74,12 +74,12 @@ module _ (f : Bytes) where
     unfolding readPair
     pair-read = rw (p, q)
 
-    pub pair-refused : {r : PairFields} → r ≡ noPair → (not (eqb source 0) && name .ok && not (eqb (val .kind) 0)) ≡ false → PairTold f r
+    pub pair-refused : {r : PairFields} → r ≡ noPair → (not (eqb source 0) && name .ok && not (eqb (val .ty) 0)) ≡ false → PairTold f r
     pair-refused e b =
         three-refused (readSource s) (readName n) (readAtom v) (source-known s i) (name-known (readName n) j) (atom-known (readAtom v) k) b pair-read e
 
-    pub pair-given : (not (eqb source 0) && name .ok && not (eqb (val .kind) 0)) ≡ true
-        → PairTold f (record { ok = true; source = source; kind = val .kind; low = name .low; high = name .high; words = val .words })
+    pub pair-given : (not (eqb source 0) && name .ok && not (eqb (val .ty) 0)) ≡ true
+        → PairTold f (record { ok = true; source = source; name = name .name; atom = val })
     unfolding sourceNumber
     pair-given b =
         three-given (readSource s) (readName n) (readAtom v) (source-known s i) (name-known (readName n) j) (atom-known (readAtom v) k) b pair-read
@@ -87,7 +87,7 @@ module _ (f : Bytes) where
         let c : source ≡ sourceCode x = i ∙ ap (coded sourceCode) u in
         let m : name ≡ nameNumbers y = j ∙ ap codedName w in
         let d : val ≡ atomValue z = k ∙ ap codedAtom h in
-        λ o. record { ok = true; source = c o; kind = d o .kind; low = m o .low; high = m o .high; words = d o .words }
+        λ o. record { ok = true; source = c o; name = m o .name; atom = d o }
 
 -- HOLDER,NAME,ATOM
 module _ (f : Bytes) where
@@ -105,19 +105,19 @@ module _ (f : Bytes) where
     unfolding readValue
     value-read = rw (p, q)
 
-    pub value-refused : {r : ValueFields} → r ≡ noValue → (holder .ok && name .ok && not (eqb (val .kind) 0)) ≡ false → ValueTold f r
+    pub value-refused : {r : ValueFields} → r ≡ noValue → (holder .ok && name .ok && not (eqb (val .ty) 0)) ≡ false → ValueTold f r
     value-refused e b =
         three-refused (readName s) (readName n) (readAtom v) (name-known (readName s) i) (name-known (readName n) j) (atom-known (readAtom v) k) b value-read e
 
-    pub value-given : (holder .ok && name .ok && not (eqb (val .kind) 0)) ≡ true → {h m : Packed} → h ≡ wordsIn holder → m ≡ wordsIn name
-        → ValueTold f (record { ok = true; kind = val .kind; holder = h; name = m; words = val .words })
-    value-given b {h} {m} e g =
+    pub value-given : (holder .ok && name .ok && not (eqb (val .ty) 0)) ≡ true
+        → ValueTold f (record { ok = true; holder = holder .name; name = name .name; atom = val })
+    value-given b =
         three-given (readName s) (readName n) (readAtom v) (name-known (readName s) i) (name-known (readName n) j) (atom-known (readAtom v) k) b value-read
         λ x y z u w l.
-        let c : h ≡ packedOf x = e ∙ ap wordsIn (i ∙ ap codedName u) in
-        let o : m ≡ packedOf y = g ∙ ap wordsIn (j ∙ ap codedName w) in
+        let c : holder .name ≡ packedOf x = ap (λ (n : NameField). n .name) (i ∙ ap codedName u) in
+        let o : name .name ≡ packedOf y = ap (λ (n : NameField). n .name) (j ∙ ap codedName w) in
         let d : val ≡ atomValue z = k ∙ ap codedAtom l in
-        λ t. record { ok = true; kind = d t .kind; holder = c t; name = o t; words = d t .words }
+        λ t. record { ok = true; holder = c t; name = o t; atom = d t }
 
 -- CHILD,PARENT and PARTY,GROUP
 module _ (f : Bytes) where
@@ -137,13 +137,13 @@ module _ (f : Bytes) where
           found (readName s) (name-known (readName s) i) there λ x u.
           refused e (rw (p, u, unknown (readName t) (name-known (readName t) j) n))
 
-      pub two-given : upper .ok ≡ true → {l m : Packed} → l ≡ wordsIn lower → m ≡ wordsIn upper → TwoTold f (record { ok = true; lower = l; upper = m })
+      pub two-given : upper .ok ≡ true → TwoTold f (record { ok = true; lower = lower .name; upper = upper .name })
       unfolding readTwo
-      two-given h {l} {m} e g line =
+      two-given h line =
           found (readName s) (name-known (readName s) i) there λ x u.
           found (readName t) (name-known (readName t) j) h λ y v.
-          let a : l ≡ packedOf x = e ∙ ap wordsIn (i ∙ ap codedName u) in
-          let b : m ≡ packedOf y = g ∙ ap wordsIn (j ∙ ap codedName v) in
+          let a : lower .name ≡ packedOf x = ap (λ (n : NameField). n .name) (i ∙ ap codedName u) in
+          let b : upper .name ≡ packedOf y = ap (λ (n : NameField). n .name) (j ∙ ap codedName v) in
           given (x, y) (λ o. record { ok = true; lower = a o; upper = b o }) (rw (p, u, v))
 
 -- OP,POLICY
@@ -161,9 +161,9 @@ module _ (f : Bytes) where
     no-operation e n = unread e (rw (p, unknown (readName s) (name-known (readName s) i) n))
 
     pub rule-given : d + 1 ≤ length f → operation .ok ≡ true
-        → RuleTold f (record { ok = true; low = operation .low; high = operation .high; start = d + 1 })
+        → RuleTold f (record { ok = true; operation = operation .name; start = d + 1 })
     unfolding readRule
     rule-given l h =
         found (readName s) (name-known (readName s) i) h λ x u.
         let m : operation ≡ nameNumbers x = i ∙ ap codedName u in
-        record { fields = given (x, d + 1) (λ o. record { ok = true; low = m o .low; high = m o .high; start = d + 1 }) (rw (p, u)); within = l }
+        record { fields = given (x, d + 1) (λ o. record { ok = true; operation = m o .name; start = d + 1 }) (rw (p, u)); within = l }

@@ -1,7 +1,7 @@
 -- The forms of fields: what each reader of lines reads, and its numbers.
 use Prim.Native.Nat.{ℕ, _≤_}
 use mathlib.Core.Bool.{true, false}
-use mathlib.Core.Option.{Option, some}
+use mathlib.Core.Option.{Option, none, some}
 use lib.ListN.{length, drop}
 use Rattle.model.specs.Notation.{_>>=_}
 use Rattle.model.specs.Bytes.{Bytes}
@@ -13,7 +13,7 @@ use Rattle.model.specs.Lines.{Line, attr, atom, value, rule, readAttr, readPair
 use Rattle.codes.specs.Codes.{sourceCode, typeCode}
 use Rattle.text.specs.declared.Packed.{Packed}
 use Rattle.text.specs.Packing.{packedOf}
-use Rattle.text.specs.Values.{words, atomWords}
+use Rattle.text.specs.Values.{words, atomWords, atomValue, codedAtom}
 use Rattle.fields.specs.declared.AttrFields.{AttrFields}
 use Rattle.fields.specs.declared.NameField.{NameField}
 use Rattle.fields.specs.declared.PairFields.{PairFields}
@@ -27,34 +27,30 @@ noPacked = record { low = 0; high = 0 }
 
 -- a name
 abbrev pub noName : NameField
-noName = record { ok = false; low = 0; high = 0 }
+noName = record { ok = false; name = noPacked }
 
 abbrev pub nameNumbers : Bytes → NameField
-nameNumbers n = record { ok = true; low = packedOf n .low; high = packedOf n .high }
+nameNumbers n = record { ok = true; name = packedOf n }
 
 abbrev pub codedName : Option Bytes → NameField
 codedName o = numbersOr noName nameNumbers o
 
-abbrev pub wordsIn : NameField → Packed
-wordsIn n = record { low = n .low; high = n .high }
-
 -- "SRC,NAME,TYPE"
 abbrev pub noAttr : AttrFields
-noAttr = record { ok = false; source = 0; kind = 0; low = 0; high = 0 }
+noAttr = record { ok = false; source = 0; ty = 0; name = noPacked }
 
 abbrev pub attrNumbers : Source × Bytes × AtomType → AttrFields
-attrNumbers (s, n, t) = record { ok = true; source = sourceCode s; kind = typeCode t; low = packedOf n .low; high = packedOf n .high }
+attrNumbers (s, n, t) = record { ok = true; source = sourceCode s; ty = typeCode t; name = packedOf n }
 
 abbrev pub AttrTold : Bytes → AttrFields → Type 0
 AttrTold f r = Told noAttr attrNumbers (λ (s, n, t). some (attr s n t)) (readAttr f) r
 
 -- "SRC.NAME,ATOM"
 abbrev pub noPair : PairFields
-noPair = record { ok = false; source = 0; kind = 0; low = 0; high = 0; words = words 0 0 0 }
+noPair = record { ok = false; source = 0; name = noPacked; atom = codedAtom none }
 
 abbrev pub pairNumbers : Source × Bytes × Atom → PairFields
-pairNumbers (s, n, a) =
-    record { ok = true; source = sourceCode s; kind = typeCode (typeOf a); low = packedOf n .low; high = packedOf n .high; words = atomWords a }
+pairNumbers (s, n, a) = record { ok = true; source = sourceCode s; name = packedOf n; atom = atomValue a }
 
 abbrev pub PairTold : Bytes → PairFields → Type 0
 PairTold f r = Told noPair pairNumbers (λ (s, n, a). some (atom s n a)) (readPair f) r
@@ -71,20 +67,20 @@ TwoTold f r = (line : Bytes → Bytes → Line) → Told noTwo twoNumbers (λ (a
 
 -- "HOLDER,NAME,ATOM"
 abbrev pub noValue : ValueFields
-noValue = record { ok = false; kind = 0; holder = noPacked; name = noPacked; words = words 0 0 0 }
+noValue = record { ok = false; holder = noPacked; name = noPacked; atom = codedAtom none }
 
 abbrev pub valueNumbers : Bytes × Bytes × Atom → ValueFields
-valueNumbers (h, n, a) = record { ok = true; kind = typeCode (typeOf a); holder = packedOf h; name = packedOf n; words = atomWords a }
+valueNumbers (h, n, a) = record { ok = true; holder = packedOf h; name = packedOf n; atom = atomValue a }
 
 abbrev pub ValueTold : Bytes → ValueFields → Type 0
 ValueTold f r = Told noValue valueNumbers (λ (h, n, a). some (value h n a)) (readValue f) r
 
 -- "OP,POLICY": the operation's name, and the place where the policy starts, of which the rest of the reader is left
 abbrev pub noRule : RuleFields
-noRule = record { ok = false; low = 0; high = 0; start = 0 }
+noRule = record { ok = false; operation = noPacked; start = 0 }
 
 abbrev pub ruleNumbers : Bytes × ℕ → RuleFields
-ruleNumbers (o, start) = record { ok = true; low = packedOf o .low; high = packedOf o .high; start = start }
+ruleNumbers (o, start) = record { ok = true; operation = packedOf o; start = start }
 
 abbrev pub ruleOf : Bytes → Bytes → Option Line
 ruleOf operation p = do

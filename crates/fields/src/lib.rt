@@ -4,7 +4,7 @@ ghost use mathlib.Core.Bool.{_&&_};
 ghost use Rattle.model.specs.Bytes.{newline};
 ghost use Rattle.model.specs.Names.{readName};
 ghost use Rattle.text.specs.Parts.{FirstAt};
-ghost use Rattle.fields.specs.Forms.{codedName, wordsIn, noAttr, AttrTold, noPair, PairTold, noTwo, TwoTold, noValue, ValueTold, noRule, RuleTold};
+ghost use Rattle.fields.specs.Forms.{codedName, noAttr, AttrTold, noPair, PairTold, noTwo, TwoTold, noValue, ValueTold, noRule, RuleTold};
 ghost use Rattle.fields.specs.Frames.{noFrame, FrameTold, Signed};
 
 const LINE_BYTES: usize = 255;
@@ -16,29 +16,24 @@ pub struct Framed {
     pub end: usize,
 }
 
-// In each form `ok` tells whether the fields are well formed; where they are not, all else is 0. A name is two words, as `text::pack` gives them.
+// In each form `ok` tells whether the fields are well formed; where they are not, all else is 0. A name is a `Packed`, an atom a `Value`.
 pub struct NameField {
     pub ok: bool,
-    pub low: u64,
-    pub high: u64,
+    pub name: text::Packed,
 }
 
 pub struct AttrFields {
     pub ok: bool,
     pub source: u8,
-    pub kind: u8,
-    pub low: u64,
-    pub high: u64,
+    pub ty: u8,
+    pub name: text::Packed,
 }
 
-// An atom is its type's code and three words.
 pub struct PairFields {
     pub ok: bool,
     pub source: u8,
-    pub kind: u8,
-    pub low: u64,
-    pub high: u64,
-    pub words: text::Words,
+    pub name: text::Packed,
+    pub atom: text::Value,
 }
 
 pub struct TwoFields {
@@ -49,17 +44,15 @@ pub struct TwoFields {
 
 pub struct ValueFields {
     pub ok: bool,
-    pub kind: u8,
     pub holder: text::Packed,
     pub name: text::Packed,
-    pub words: text::Words,
+    pub atom: text::Value,
 }
 
 // The operation's name, and where the policy starts.
 pub struct RuleFields {
     pub ok: bool,
-    pub low: u64,
-    pub high: u64,
+    pub operation: text::Packed,
     pub start: usize,
 }
 
@@ -134,15 +127,12 @@ pub fn name_field(f: &[u8]) -> NameField
     if !text::is_name(f) {
         return NameField {
             ok: false,
-            low: 0,
-            high: 0,
+            name: text::Packed { low: 0, high: 0 },
         };
     }
-    let p = text::pack(f);
     NameField {
         ok: true,
-        low: p.low,
-        high: p.high,
+        name: text::pack(f),
     }
 }
 
@@ -165,9 +155,8 @@ fn no_attr() -> AttrFields
     AttrFields {
         ok: false,
         source: 0,
-        kind: 0,
-        low: 0,
-        high: 0,
+        ty: 0,
+        name: text::Packed { low: 0, high: 0 },
     }
 }
 
@@ -187,17 +176,17 @@ pub fn attr_fields(f: &[u8]) -> AttrFields
     }
     let b = e + 1;
     let source = text::source_of(&f[..d]);
-    let name = name_field(&rest[..e]);
-    let kind = text::type_of(&rest[b..]);
-    if !all(source != 0, name.ok, kind != 0) {
+    let field = name_field(&rest[..e]);
+    let ty = text::type_of(&rest[b..]);
+    if !all(source != 0, field.ok, ty != 0) {
         return no_attr();
     }
+    let name = field.name;
     AttrFields {
         ok: true,
         source,
-        kind,
-        low: name.low,
-        high: name.high,
+        ty,
+        name,
     }
 }
 
@@ -207,13 +196,14 @@ fn no_pair() -> PairFields
     PairFields {
         ok: false,
         source: 0,
-        kind: 0,
-        low: 0,
-        high: 0,
-        words: text::Words {
-            first: 0,
-            second: 0,
-            third: 0,
+        name: text::Packed { low: 0, high: 0 },
+        atom: text::Value {
+            ty: 0,
+            words: text::Words {
+                first: 0,
+                second: 0,
+                third: 0,
+            },
         },
     }
 }
@@ -234,28 +224,17 @@ pub fn pair_fields(f: &[u8]) -> PairFields
     }
     let b = e + 1;
     let source = text::source_of(&attribute[..e]);
-    let name = name_field(&attribute[b..]);
-    let value = text::atom_of(&f[a..]);
-    if !all(source != 0, name.ok, value.kind != 0) {
+    let field = name_field(&attribute[b..]);
+    let atom = text::atom_of(&f[a..]);
+    if !all(source != 0, field.ok, atom.ty != 0) {
         return no_pair();
     }
-    let words = value.words;
+    let name = field.name;
     PairFields {
         ok: true,
         source,
-        kind: value.kind,
-        low: name.low,
-        high: name.high,
-        words,
-    }
-}
-
-fn packed(name: NameField) -> text::Packed
-    ensures { λ r. ⌜ r ≡ wordsIn name ⌝ }
-{
-    text::Packed {
-        low: name.low,
-        high: name.high,
+        name,
+        atom,
     }
 }
 
@@ -286,10 +265,12 @@ pub fn two_fields(f: &[u8]) -> TwoFields
     if !upper.ok {
         return no_two();
     }
+    let below = lower.name;
+    let above = upper.name;
     TwoFields {
         ok: true,
-        lower: packed(lower),
-        upper: packed(upper),
+        lower: below,
+        upper: above,
     }
 }
 
@@ -298,13 +279,15 @@ fn no_value() -> ValueFields
 {
     ValueFields {
         ok: false,
-        kind: 0,
         holder: text::Packed { low: 0, high: 0 },
         name: text::Packed { low: 0, high: 0 },
-        words: text::Words {
-            first: 0,
-            second: 0,
-            third: 0,
+        atom: text::Value {
+            ty: 0,
+            words: text::Words {
+                first: 0,
+                second: 0,
+                third: 0,
+            },
         },
     }
 }
@@ -324,19 +307,19 @@ pub fn value_fields(f: &[u8]) -> ValueFields
         return no_value();
     }
     let b = e + 1;
-    let holder = name_field(&f[..d]);
-    let name = name_field(&rest[..e]);
-    let value = text::atom_of(&rest[b..]);
-    if !all(holder.ok, name.ok, value.kind != 0) {
+    let owner = name_field(&f[..d]);
+    let field = name_field(&rest[..e]);
+    let atom = text::atom_of(&rest[b..]);
+    if !all(owner.ok, field.ok, atom.ty != 0) {
         return no_value();
     }
-    let words = value.words;
+    let holder = owner.name;
+    let name = field.name;
     ValueFields {
         ok: true,
-        kind: value.kind,
-        holder: packed(holder),
-        name: packed(name),
-        words,
+        holder,
+        name,
+        atom,
     }
 }
 
@@ -345,8 +328,7 @@ fn no_rule() -> RuleFields
 {
     RuleFields {
         ok: false,
-        low: 0,
-        high: 0,
+        operation: text::Packed { low: 0, high: 0 },
         start: 0,
     }
 }
@@ -359,14 +341,14 @@ pub fn rule_fields(f: &[u8]) -> RuleFields
     if f.len() <= d {
         return no_rule();
     }
-    let operation = name_field(&f[..d]);
-    if !operation.ok {
+    let field = name_field(&f[..d]);
+    if !field.ok {
         return no_rule();
     }
+    let operation = field.name;
     RuleFields {
         ok: true,
-        low: operation.low,
-        high: operation.high,
+        operation,
         start: d + 1,
     }
 }

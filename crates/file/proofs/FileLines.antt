@@ -22,28 +22,12 @@ use Rattle.model.proofs.Lines.{framed-exact}
 use Rattle.codes.specs.Codes.{coded, keyCode}
 use Rattle.codes.proofs.Codes.{key-injective}
 use Rattle.fields.specs.declared.Framed.{Framed}
-use Rattle.fields.specs.Told.{numbersOr}
-use Rattle.fields.specs.Frames.{bytesBetween, noFrame, frameNumbers, FrameTold}
+use Rattle.fields.specs.Frames.{bytesBetween, FrameTold}
+use Rattle.fields.proofs.ToldParts.{not-framed, is-framed}
 use Rattle.book.specs.Held.{Holds}
-use Rattle.file.specs.LineSteps.{fieldsRefusal, FieldsRead, KeyRead, TwoRead, HolderRead, KeyFields, FieldsOf, LineRead}
+use Rattle.file.specs.LineSteps.{fieldsRefusal, FieldsRead, KeyRead, HolderRead, KeyFields, FieldsOf, LineRead}
 
 -- ---- the frame
-
-pub not-framed : (line : Bytes) (r : Framed) → FrameTold line r → r .key ≡ 0 → framed line ≡ none
-not-framed line r told e = go (told .frame .parts) (told .frame .read) (told .frame .told)
-  where
-    go : (o : Option (Key × ℕ × ℕ)) → framed line ≡ (o >>= λ (k, start, end). some (k, bytesBetween line start end)) → r ≡ numbersOr noFrame frameNumbers o → framed line ≡ none
-    go none f g = f
-    go (some (k, start, end)) f g = absurd (omega (arith, ap (λ (x : Framed). x .key) g, e))
-
-pub is-framed : (line : Bytes) (r : Framed) → FrameTold line r → (r .key ≡ 0 → ⊥) → (k : Key) × (r .key ≡ keyCode k) × (framed line ≡ some (k, bytesBetween line (r .start) (r .end)))
-is-framed line r told other = go (told .frame .parts) (told .frame .read) (told .frame .told)
-  where
-    go : (o : Option (Key × ℕ × ℕ)) → framed line ≡ (o >>= λ (k, start, end). some (k, bytesBetween line start end)) → r ≡ numbersOr noFrame frameNumbers o
-        → (k : Key) × (r .key ≡ keyCode k) × (framed line ≡ some (k, bytesBetween line (r .start) (r .end)))
-    go none f g = absurd (other (ap (λ (x : Framed). x .key) g))
-    go (some (k, start, end)) f g =
-        (k, ap (λ (x : Framed). x .key) g, f ∙ ap (λ (x : Framed). some (k, bytesBetween line (x .start) (x .end))) (sym g))
 
 pub fields-short : (line : Bytes) (k : Key) (f : Bytes) → framed line ≡ some (k, f) → length f ≤ lineBytes
 fields-short line k f e =
@@ -145,19 +129,3 @@ holder-keys book book′ key f r read a b c few k e = go k e
     go Key.member e = let z : key ≡ 9 = e in absurd (omega arith)
     go Key.value e = let z : key ≡ 10 = e in absurd (omega arith)
     go Key.rule e = let z : key ≡ 11 = e in absurd (omega arith)
-
-pub two-keys : (book book′ : List ℕ) (key : ℕ) (f : Bytes) (r : ℕ) → TwoRead book key f book′ r → 8 ≤ key → (key ≡ 10 → ⊥) → (key ≡ 11 → ⊥) → KeyFields book key f book′ r
-two-keys book book′ key f r read many a b k e = go k e
-  where
-    go : (k : Key) → key ≡ keyCode k → KeyRead book (readFields k f) book′ r
-    go Key.attr e = let z : key ≡ 1 = e in absurd (omega arith)
-    go Key.op e = let z : key ≡ 2 = e in absurd (omega arith)
-    go Key.atom e = let z : key ≡ 3 = e in absurd (omega arith)
-    go Key.ugroup e = let z : key ≡ 4 = e in absurd (omega arith)
-    go Key.ogroup e = let z : key ≡ 5 = e in absurd (omega arith)
-    go Key.user e = let z : key ≡ 6 = e in absurd (omega arith)
-    go Key.object e = let z : key ≡ 7 = e in absurd (omega arith)
-    go Key.parent e = read .0 e
-    go Key.member e = read .1 e
-    go Key.value e = absurd (a e)
-    go Key.rule e = absurd (b e)

@@ -248,7 +248,7 @@ rule-held book code code′ S o ts k operation held size at few known kept here 
       pairs = subst (λ (w : List ℕ). Indexed w 256 (pairRow E)) (sym (beside section.pairs refl refl)) (held .pairs);
       holders = subst (λ (w : List ℕ). Indexed w 256 (holderRow E)) (sym (beside section.holders refl refl)) (held .holders);
       sorts = subst (λ (w : List ℕ). SortRows w E) (sym (beside section.sorts refl refl)) (sorts-kept D E refl (sectionWords section.sorts book) (held .sorts));
-      groups = rw (beside section.slots refl refl, beside section.seats refl refl) (groups-kept D E refl _ _ (held .groups));
+      groups = rw (beside section.slots refl refl, beside section.slotOf refl refl) (groups-kept D E refl _ _ (held .groups));
       ties = rw (beside section.ups refl refl, beside section.own refl refl, beside section.slots refl refl) (held .ties);
       rules =
           subst (λ (w : List ℕ). RuleRows w code′ E) (sym (put-rows book k operation few))
@@ -289,14 +289,14 @@ rule-unread f r told off = go (told .fields .parts) (told .fields .read) (told .
     go (some x) e g = absurd (true≢false (sym (ap (λ (z : RuleFields). z .ok) g) ∙ off))
 
 pub rule-read : (f : Bytes) (r : RuleFields) → RuleTold f r → r .ok ≡ true
-    → (o : Bytes) × (readRule f ≡ ruleOf o (drop (r .start) f)) × (packedOf o ≡ record { low = r .low; high = r .high })
+    → (o : Bytes) × (readRule f ≡ ruleOf o (drop (r .start) f)) × (packedOf o ≡ r .operation)
 rule-read f r told on = go (told .fields .parts) (told .fields .read) (told .fields .told)
   where
     go : (o : Option (Bytes × ℕ)) → readRule f ≡ (o >>= λ (o, start). ruleOf o (drop start f)) → r ≡ numbersOr noRule ruleNumbers o
-        → (o : Bytes) × (readRule f ≡ ruleOf o (drop (r .start) f)) × (packedOf o ≡ record { low = r .low; high = r .high })
+        → (o : Bytes) × (readRule f ≡ ruleOf o (drop (r .start) f)) × (packedOf o ≡ r .operation)
     go none e g = absurd (true≢false (sym on ∙ ap (λ (z : RuleFields). z .ok) g))
     go (some (o, start)) e g =
-        (o, e ∙ ap (λ (z : RuleFields). ruleOf o (drop (z .start) f)) (sym g), ap (λ (z : RuleFields). record { low = z .low; high = z .high }) (sym g))
+        (o, e ∙ ap (λ (z : RuleFields). ruleOf o (drop (z .start) f)) (sym g), ap (λ (z : RuleFields). z .operation) (sym g))
 
 -- the tokens of a rule that is read
 rule-tokens : (o p : Bytes) (l : Line) → ruleOf o p ≡ some l → (ts : List Token) × (tokensOf p ≡ some ts) × (l ≡ rule o ts)
@@ -311,14 +311,14 @@ accepted-read S (some l) e = (l, refl)
 
 module _ (f : Bytes) (r : RuleFields) (told : RuleTold f r) (ok : r .ok ≡ true) (book : List ℕ) (code code′ : Bytes) (k policy operation : ℕ) (count : k ≡ getD book 5 0)
     (judge-part : RuleJudged (take (length f - r .start) (drop (r .start) f)) (sectionWords section.attributes book) k code code′ policy)
-    (found : OperationFound (sectionWords section.operations book) (r .low) (r .high) operation) where
+    (found : OperationFound (sectionWords section.operations book) (r .operation .low) (r .operation .high) operation) where
   judge : RuleJudged (drop (r .start) f) (sectionWords section.attributes book) k code code′ policy
   judge = subst (λ (s : Bytes). RuleJudged s (sectionWords section.attributes book) k code code′ policy) (tail-part (r .start) f) judge-part
 
   counted : (S : State) → Holds book code S → k ≡ length (S .declared .rules)
   counted S held = count ∙ sym (section-word section.counts book 5 (omega arith)) ∙ held .counts .rules
 
-  named : (S : State) → Standing S → Holds book code S → (o : Bytes) (ts : List Token) → packedOf o ≡ record { low = r .low; high = r .high } → readRule f ≡ some (rule o ts)
+  named : (S : State) → Standing S → Holds book code S → (o : Bytes) (ts : List Token) → packedOf o ≡ r .operation → readRule f ≡ some (rule o ts)
       → operation ≡ numberOr operationLimit (operationNumber (S .declared) o)
   named S standing held o ts words e =
       let formed = fields-said Key.rule f (rule o ts) e .0 in

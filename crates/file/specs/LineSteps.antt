@@ -1,7 +1,7 @@
 -- What the fields of a line, a line and a file do to a book. Assumes nothing: these are definitions.
 use Prim.Native.Nat.{ℕ, _+_, _*_, _<_, _≤_}
 use mathlib.Core.Path.{_≡_}
-use mathlib.Core.Bool.{Bool, true, false, _||_}
+use mathlib.Core.Bool.{true, false, _||_}
 use mathlib.Core.List.{List, [], _∷_}
 use mathlib.Core.Option.{Option, none, some}
 use lib.Dec.{eqb, leb}
@@ -10,10 +10,9 @@ use Rattle.model.specs.Numbers as refusal
 use Rattle.model.specs.Limits.{Edition, operationLimit, ruleLimit}
 use Rattle.model.specs.Bytes.{Bytes, newline, linesOf}
 use Rattle.model.specs.Tokens.{Token, tokensOf}
-use Rattle.model.specs.Keys.{Key}
-use Rattle.model.specs.Lines.{Line, attr, op, atom, holder, parent, member, value, rule, readTwo, readHolder, readFields, readLine}
+use Rattle.model.specs.Keys.{Key, isTieKey}
+use Rattle.model.specs.Lines.{Line, readHolder, readFields, readLine}
 use Rattle.model.specs.Declarations.{Declarations, Sort, isSort}
-use Rattle.model.specs.Ties.{Tie}
 use Rattle.model.specs.State.{State, empty}
 use Rattle.model.specs.Refusals.{Test, _if_, first, lineRefusal}
 use Rattle.model.specs.Load.{Loaded, stepped, keyOf, readOn}
@@ -26,8 +25,7 @@ use Rattle.policy.specs.Judgements.{policyNumber}
 use Rattle.book.specs.Sections as section
 use Rattle.book.specs.Sections.{codeBytes}
 use Rattle.book.specs.Held.{sortCode, Holds}
-use Rattle.book.specs.Steps.{laterTests, Steps}
-use Rattle.tielines.specs.TieSteps.{TieOfLine}
+use Rattle.book.specs.Steps.{laterTests}
 
 -- ---- fields
 
@@ -69,25 +67,9 @@ rulePut book k operation = set (set book (section.rules .start + k) operation) 5
 
 -- ---- lines
 
--- "parent, member and value lines are ties"
-abbrev pub isTie : Line → Bool
-isTie (attr s n t) = false
-isTie (op n) = false
-isTie (atom s n a) = false
-isTie (holder s n) = false
-isTie (parent c g) = true
-isTie (member p g) = true
-isTie (value h n a) = true
-isTie (rule o ts) = false
-
--- the step of a tie line whose names and sorts are refused for `number`, or whose tie is t
-abbrev pub TieAdded : List ℕ → ℕ → Tie → List ℕ → ℕ → Type 0
-TieAdded book number t book′ r = (l : Line) → isTie l ≡ true → TieOfLine book l number t → (code : Bytes) → Steps book code l book′ code r
-
--- the fields of a parent or member line, by the code of its key
-abbrev pub TwoRead : List ℕ → ℕ → Bytes → List ℕ → ℕ → Type 0
-TwoRead book key f book′ r =
-    (key ≡ keyCode Key.parent → KeyRead book (readTwo parent f) book′ r) × (key ≡ keyCode Key.member → KeyRead book (readTwo member f) book′ r)
+-- the fields of a tie line, by the code of its key
+abbrev pub TieRead : List ℕ → ℕ → Bytes → List ℕ → ℕ → Type 0
+TieRead book key f book′ r = (k : Key) → isTieKey k ≡ true → key ≡ keyCode k → KeyRead book (readFields k f) book′ r
 
 -- the name of a holder, by the code of its sort
 abbrev pub HolderRead : List ℕ → ℕ → Bytes → List ℕ → ℕ → Type 0

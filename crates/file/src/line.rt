@@ -5,25 +5,20 @@ ghost use lib.ListN.{length};
 ghost use Rattle.model.specs.Limits.{lineBytes};
 ghost use Rattle.model.specs.Bytes.{newline};
 ghost use Rattle.model.specs.Keys.{Key};
-ghost use Rattle.model.specs.Lines.{readAttr, readOp, readPair, readValue};
+ghost use Rattle.model.specs.Lines.{readAttr, readOp, readPair};
 ghost use Rattle.codes.specs.Codes.{keyCode};
 ghost use Rattle.text.specs.Parts.{FirstAt};
 ghost use Rattle.book.specs.Sections.{bookWords, ruleBytes};
-ghost use Rattle.tielines.specs.TieSteps.{tieBy};
-ghost use Rattle.file.specs.LineSteps.{KeyRead, TieAdded, TwoRead, HolderRead, KeyFields, FieldsOf, LineRead};
-use codes::CIRCULAR;
+ghost use Rattle.file.specs.LineSteps.{KeyRead, TieRead, HolderRead, KeyFields, FieldsOf, LineRead};
 use codes::KEY_ATOM;
 use codes::KEY_ATTR;
 use codes::KEY_OP;
 use codes::KEY_PARENT;
 use codes::KEY_RULE;
-use codes::KEY_VALUE;
 use codes::MALFORMED;
 use codes::OUT_OF_ORDER;
-use codes::REPEATED;
 use codes::UNFRAMED;
 use text::Value;
-use tielines::Tie;
 
 // What a line is refused for, 0 for nothing, and the code of its key.
 pub struct LineAnswer {
@@ -31,58 +26,21 @@ pub struct LineAnswer {
     pub key: u8,
 }
 
-// A tie line: 8 or 9, or the tie in the book where it neither stands nor closes a circle.
-fn add(book: &mut [u64], t: Tie) -> u8
+// CHILD,PARENT, PARTY,GROUP and HOLDER,NAME,ATOM: the tie in the book, where it is refused for nothing.
+fn tie(book: &mut [u64], key: u8, f: &[u8]) -> u8
     requires { ⌜ length (now book) ≡ bookWords ⌝ }
-    ensures { λ r. ⌜ TieAdded (now (book .entry)) (t .number) (tieBy (t .kind) (t .lower) (t .upper)) (now (book .exit)) r ⌝ }
+    ensures { λ r. ⌜ TieRead (now (book .entry)) key (now (f .entry)) (now (book .exit)) r ⌝ }
 {
-    let number = t.number;
+    let t = tielines::of_fields(book, key, f);
+    if t.number != 0 {
+        return t.number;
+    }
+    let number = tielines::refusal(book, t, true);
     if number != 0 {
         return number;
     }
-    if tielines::stands(book, t) {
-        return REPEATED;
-    }
-    if tielines::closes(book, t) {
-        return CIRCULAR;
-    }
-    tielines::put(book, t);
+    tielines::change(book, t, true);
     0
-}
-
-// CHILD,PARENT and PARTY,GROUP
-fn two(book: &mut [u64], key: u8, f: &[u8]) -> u8
-    requires { ⌜ length (now book) ≡ bookWords ⌝ }
-    ensures { λ r. ⌜ TwoRead (now (book .entry)) key (now (f .entry)) (now (book .exit)) r ⌝ }
-{
-    let parts = fields::two_fields(f);
-    if !parts.ok {
-        return MALFORMED;
-    }
-    let lower = parts.lower;
-    let upper = parts.upper;
-    let t = tielines::two(book, key, lower, upper);
-    add(book, t)
-}
-
-// HOLDER,NAME,ATOM
-fn value(book: &mut [u64], f: &[u8]) -> u8
-    requires { ⌜ length (now book) ≡ bookWords ⌝ }
-    ensures { λ r. ⌜ KeyRead (now (book .entry)) (readValue (now (f .entry))) (now (book .exit)) r ⌝ }
-{
-    let parts = fields::value_fields(f);
-    if !parts.ok {
-        return MALFORMED;
-    }
-    let holder = parts.holder;
-    let name = parts.name;
-    let words = parts.words;
-    let atom = Value {
-        kind: parts.kind,
-        words,
-    };
-    let t = tielines::value(book, holder, name, atom);
-    add(book, t)
 }
 
 // SRC,NAME,TYPE
@@ -94,7 +52,8 @@ fn attribute(book: &mut [u64], f: &[u8]) -> u8
     if !parts.ok {
         return MALFORMED;
     }
-    book::declare::attribute(book, parts.source, parts.kind, parts.low, parts.high)
+    let name = parts.name;
+    book::declare::attribute(book, parts.source, parts.ty, name)
 }
 
 // The name of an operation
@@ -102,11 +61,12 @@ fn operation(book: &mut [u64], f: &[u8]) -> u8
     requires { ⌜ length (now book) ≡ bookWords ⌝ }
     ensures { λ r. ⌜ KeyRead (now (book .entry)) (readOp (now (f .entry))) (now (book .exit)) r ⌝ }
 {
-    let name = fields::name_field(f);
-    if !name.ok {
+    let parts = fields::name_field(f);
+    if !parts.ok {
         return MALFORMED;
     }
-    book::declare::operation(book, name.low, name.high)
+    let name = parts.name;
+    book::declare::operation(book, name)
 }
 
 // SRC.NAME,ATOM
@@ -118,12 +78,9 @@ fn pair(book: &mut [u64], f: &[u8]) -> u8
     if !parts.ok {
         return MALFORMED;
     }
-    let words = parts.words;
-    let atom = Value {
-        kind: parts.kind,
-        words,
-    };
-    book::declare::pair(book, parts.source, parts.low, parts.high, atom)
+    let name = parts.name;
+    let atom = parts.atom;
+    book::declare::pair(book, parts.source, name, atom)
 }
 
 // The name of a holder
@@ -131,11 +88,12 @@ fn holder(book: &mut [u64], key: u8, f: &[u8]) -> u8
     requires { ⌜ length (now book) ≡ bookWords ⌝ }
     ensures { λ r. ⌜ HolderRead (now (book .entry)) key (now (f .entry)) (now (book .exit)) r ⌝ }
 {
-    let name = fields::name_field(f);
-    if !name.ok {
+    let parts = fields::name_field(f);
+    if !parts.ok {
         return MALFORMED;
     }
-    book::declare::holder(book, key, name.low, name.high)
+    let name = parts.name;
+    book::declare::holder(book, key, name)
 }
 
 // The fields of a key that declares, but of rules.
@@ -163,13 +121,10 @@ fn step(book: &mut [u64], code: &mut [u8], key: u8, f: &[u8]) -> u8
     if key < KEY_PARENT {
         return declared(book, key, f);
     }
-    if key == KEY_VALUE {
-        return value(book, f);
-    }
     if key == KEY_RULE {
         return crate::rule::rule(book, code, f);
     }
-    two(book, key, f)
+    tie(book, key, f)
 }
 
 // A line of a file, given with its byte 10, which stands first at `end`, behind one whose key has the code `previous`: 0 for none.

@@ -23,12 +23,6 @@ use codes::UNDECLARED;
 // How many rules there can be.
 const RULES: usize = 32;
 
-fn wide(count: u64) -> usize
-    ensures { λ r. ⌜ r ≡ count ⌝ }
-{
-    count as usize
-}
-
 // Judges the policy of rule k into its bytes; where there can be no more rules, into bytes that nobody keeps.
 fn judge(s: &[u8], attributes: &[u64], code: &mut [u8], k: usize) -> u8
     requires { ⌜ (length (now s) ≤ lineBytes) × (length (now attributes) ≡ section.attributes .size) × (length (now code) ≡ ruleBytes) ⌝ }
@@ -84,12 +78,12 @@ pub fn rule(book: &mut [u64], code: &mut [u8], f: &[u8]) -> u8
         return MALFORMED;
     }
     let start = parts.start;
-    let k = wide(book[RULE_COUNT]);
+    let k = codes::word_to_index(book[RULE_COUNT]);
     let policy = judge(&f[start..], &book[ATTRIBUTES_AT..OPERATIONS_AT], code, k);
     let operation = book::find::operation_number(
         &book[OPERATIONS_AT..PAIRS_AT],
-        parts.low,
-        parts.high,
+        parts.operation.low,
+        parts.operation.high,
     );
     let number = refusal(policy, operation, k);
     if number != 0 {

@@ -7,7 +7,7 @@ use Rattle.model.specs.Bytes.{Bytes}
 use Rattle.model.specs.Atoms.{decimal}
 use Rattle.output.specs.Laid.{Laid, mostDigits}
 use Rattle.output.proofs.Laying.{laid-on}
-use Rattle.printing.specs.Printing.{PrintedAt, pairLine, numberLine}
+use Rattle.printing.specs.Printing.{PrintedAt, twoNumbersLine, numberLine}
 
 -- a number's digits are laid
 abbrev Number : Bytes → ℕ → ℕ → Bytes → ℕ → Type 0
@@ -20,7 +20,7 @@ module _ {before : Bytes} {at : ℕ} {text out₁ : Bytes} {a : ℕ} (p : Laid b
       record { laid = all; short = omega (arith, p .behind, q .1, end .behind, all .behind) }
 
   pub pair-printed : {out₃ : Bytes} {c : ℕ} (other : ℕ) {out₄ : Bytes} {d : ℕ} {out₅ : Bytes} {r : ℕ} → Laid out₂ b (44 ∷ []) out₃ c → Number out₃ c other out₄ d
-      → Laid out₄ d (10 ∷ []) out₅ r → length text ≤ 10 → PrintedAt before at (pairLine text n other) out₅ r
+      → Laid out₄ d (10 ∷ []) out₅ r → length text ≤ 10 → PrintedAt before at (twoNumbersLine text n other) out₅ r
   pair-printed other comma s end short =
       let all = laid-on (laid-on (laid-on (laid-on p (q .0)) comma) (s .0)) end in
       record { laid = all; short = omega (arith, p .behind, q .1, comma .behind, s .1, end .behind, all .behind) }

@@ -16,8 +16,8 @@ pub record PrintedAt (before : Bytes) (at : ℕ) (text after : Bytes) (r : ℕ) 
   pub short : length text ≤ answerBytes
 
 -- a key with two numbers, and a text with one
-abbrev pub pairLine : Bytes → ℕ → ℕ → Bytes
-pairLine key number other = key ++ decimal number ++ bytes "," ++ decimal other ++ bytes "\n"
+abbrev pub twoNumbersLine : Bytes → ℕ → ℕ → Bytes
+twoNumbersLine key number other = key ++ decimal number ++ bytes "," ++ decimal other ++ bytes "\n"
 
 abbrev pub numberLine : Bytes → ℕ → Bytes
 numberLine text n = text ++ decimal n ++ bytes "\n"

@@ -7,7 +7,7 @@ ghost use Rattle.output.specs.Laid.{far};
 ghost use Rattle.file.specs.LoadAnswers.{loadedOf};
 ghost use Rattle.request.specs.Decisions.{decisionOf};
 ghost use Rattle.edit.specs.EditSteps.{editedOf};
-ghost use Rattle.printing.specs.Printing.{answerBytes, PrintedAt, pairLine, numberLine};
+ghost use Rattle.printing.specs.Printing.{answerBytes, PrintedAt, twoNumbersLine, numberLine};
 use edit::Edited;
 use file::Loaded;
 use request::Decision;
@@ -15,7 +15,7 @@ use request::Decision;
 // A key and two numbers.
 fn put_pair(out: &mut [u8], at: usize, key: &[u8], number: u32, other: u32) -> usize
     requires { ⌜ (at + answerBytes ≤ far) × (length (now key) ≤ 10) ⌝ }
-    ensures { λ r. ⌜ PrintedAt (now (out .entry)) at (pairLine (now (key .entry)) number other) (now (out .exit)) r ⌝ }
+    ensures { λ r. ⌜ PrintedAt (now (out .entry)) at (twoNumbersLine (now (key .entry)) number other) (now (out .exit)) r ⌝ }
 {
     let a = output::put(out, at, key);
     let b = output::put_decimal(out, a, number);

@@ -34,8 +34,8 @@ use Rattle.request.proofs.Books.{numbers-of, request-of}
 
 -- ---- a request with no wrong number
 
-module _ {S : State} {b : Block} {counts operations : List ℕ} {code : Bytes} {attributes pairs table : List ℕ} {block entries : Bytes}
-    (of : RequestOf S b counts operations code attributes pairs table block entries)
+module _ {S : State} {b : Block} {counts targets : List ℕ} {code : Bytes} {attributes pairs table : List ℕ} {block entries : Bytes}
+    (of : RequestOf S b counts targets code attributes pairs table block entries)
     (user object mask : ℕ) (user-is : user ≡ getD block 1 0) (object-is : object ≡ getD block 2 0) (mask-is : mask ≡ valueAt block 4)
     (declared : ℕ) (declared-is : getD counts 0 0 ≤ 32 → declared ≡ getD counts 0 0)
     (session : List ℕ) (opened : OpenedFirst attributes table user object mask declared (replicate 128 0) session)
@@ -88,7 +88,7 @@ module _ {S : State} {b : Block} {counts operations : List ℕ} {code : Bytes} {
       sym all ∙ sym (e (omega (arith, of .declarations .rules .few)))
 
   pub by-rules : r ≡ false → (rules : ℕ) → (getD counts 5 0 ≤ 32 → rules ≡ getD counts 5 0) → (operation : ℕ) → operation ≡ getD block 3 0
-      → (d : Decision) → Decided operations code attributes pairs session entries operation rules d → Answer (decisionOf d)
+      → (d : Decision) → Decided targets code attributes pairs session entries operation rules d → Answer (decisionOf d)
   by-rules off rules w operation f d g =
       g S b
       (record { operation-is = head-of block b (of .read) .operation ∙ sym f; rule-rows = of .rule-rows; session-of = session-of })

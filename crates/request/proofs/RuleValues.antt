@@ -76,8 +76,8 @@ module _ (S : State) (b : Block) where
 
 -- ---- the rule of a number
 
-module _ {S : State} {b : Block} {operations : List ℕ} {code : Bytes} {attributes pairs session : List ℕ} {entries : Bytes} {operation : ℕ}
-    (of : RulesOf S b operations code attributes pairs session entries operation) (k : ℕ) (known : k < length (S .declared .rules)) where
+module _ {S : State} {b : Block} {targets : List ℕ} {code : Bytes} {attributes pairs session : List ℕ} {entries : Bytes} {operation : ℕ}
+    (of : RulesOf S b targets code attributes pairs session entries operation) (k : ℕ) (known : k < length (S .declared .rules)) where
   abbrev decls : Declarations
   decls = S .declared
 
@@ -87,7 +87,7 @@ module _ {S : State} {b : Block} {operations : List ℕ} {code : Bytes} {attribu
   abbrev rule : Rule
   rule = rule-there .0
 
-  held : RuleHeld operations code decls k rule
+  held : RuleHeld targets code decls k rule
   held = of .rule-rows k rule (rule-there .1)
 
   -- the operation that the rule's word names
@@ -95,7 +95,7 @@ module _ {S : State} {b : Block} {operations : List ℕ} {code : Bytes} {attribu
   unfolding operationNumber
   named = place-nth (same (rule .operation)) (decls .operations) (held .operation) (held .operation-is)
 
-  pub other-operation : (getD operations k 0 ≡ operation → ⊥) → FALSE ≡ ruleValue S b k
+  pub other-operation : (getD targets k 0 ≡ operation → ⊥) → FALSE ≡ ruleValue S b k
   other-operation h = sym (value-by S b k rule (rule-there .1) false (go (nth (decls .operations) (b .operation) is same (rule .operation)) refl))
     where
       go : (t : Bool) → (nth (decls .operations) (b .operation) is same (rule .operation)) ≡ t → (nth (decls .operations) (b .operation) is same (rule .operation)) ≡ false
@@ -106,7 +106,7 @@ module _ {S : State} {b : Block} {operations : List ℕ} {code : Bytes} {attribu
           let z : held .operation ≡ b .operation = of .session-of .declarations .operations .unique (held .operation) (b .operation) (named .0) m (named .1) at one in
           absurd (h (held .word ∙ z ∙ of .operation-is))
 
-  pub its-operation : getD operations k 0 ≡ operation → (t : k3.Truth)
+  pub its-operation : getD targets k 0 ≡ operation → (t : k3.Truth)
       → Evaluated (take (768 * k + 768 - 768 * k) (drop (768 * k) code)) (lending attributes pairs session entries) t → truthOf t ≡ ruleValue S b k
   its-operation h t evaluated =
       let stands = of .session-of .declarations .rules .each k rule (rule-there .1) in

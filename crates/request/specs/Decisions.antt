@@ -31,14 +31,14 @@ numberAndValuesOf r = model.numberAndValues (decisionOf r)
 
 -- r is what the rules come to, whatever state and block they are those of
 abbrev pub Decided : List ℕ → Bytes → List ℕ → List ℕ → List ℕ → Bytes → ℕ → ℕ → Decision → Type 0
-Decided operations code attributes pairs session entries operation count r =
-    (S : State) (b : Block) → RulesOf S b operations code attributes pairs session entries operation → length (S .declared .rules) ≡ count
+Decided targets code attributes pairs session entries operation count r =
+    (S : State) (b : Block) → RulesOf S b targets code attributes pairs session entries operation → length (S .declared .rules) ≡ count
     → decisionOf r ≡ model.decisionBy (model.verdicts S b)
 
 -- r is what a request with no wrong number is answered
 abbrev pub Answered : List ℕ → List ℕ → Bytes → List ℕ → List ℕ → List ℕ → Bytes → Bytes → Decision → Type 0
-Answered counts operations code attributes pairs table block entries r =
-    (S : State) (b : Block) → RequestOf S b counts operations code attributes pairs table block entries
+Answered counts targets code attributes pairs table block entries r =
+    (S : State) (b : Block) → RequestOf S b counts targets code attributes pairs table block entries
     → decisionOf r ≡ (if notHeld S b then model.refused refusal.notHeld else model.decisionBy (model.verdicts S b))
 
 -- r is what a request is answered: 1 on a table of another length, and as the document says on a book and a table that stand for a state, by its case

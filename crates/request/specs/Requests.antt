@@ -61,32 +61,32 @@ ruleValue S b k =
       | some r ↦ if nth (S .declared .operations) (b .operation) is same (r .operation) then meaningOf (readBy S b) (r .tokens) else model.FALSE
     ]
 
--- the rules, and what they read
-pub record RulesOf (S : State) (b : Block) (operations : List ℕ) (code : Bytes) (attributes pairs session : List ℕ) (entries : Bytes) (operation : ℕ) : Type 0 where
+-- the rules, each with the operation that it is for, its target, and what they read
+pub record RulesOf (S : State) (b : Block) (targets : List ℕ) (code : Bytes) (attributes pairs session : List ℕ) (entries : Bytes) (operation : ℕ) : Type 0 where
   pub operation-is : b .operation ≡ operation
-  pub rule-rows : RuleRows operations code (S .declared)
+  pub rule-rows : RuleRows targets code (S .declared)
   pub session-of : SessionOf S b attributes pairs session entries
 
 -- the sections that the rules are evaluated on have their sizes
-pub record Sizes (operations : List ℕ) (code : Bytes) (attributes pairs : List ℕ) : Type 0 where
-  pub operations-long : length operations ≡ section.rules .size
+pub record Sizes (targets : List ℕ) (code : Bytes) (attributes pairs : List ℕ) : Type 0 where
+  pub targets-long : length targets ≡ section.rules .size
   pub code-long : length code ≡ ruleBytes
   pub attributes-long : length attributes ≡ section.attributes .size
   pub pairs-long : length pairs ≡ pairRows .size
 
 -- r is the value of rule k
 abbrev pub RuleValued : List ℕ → Bytes → List ℕ → List ℕ → List ℕ → Bytes → ℕ → ℕ → Truth → Type 0
-RuleValued operations code attributes pairs session entries operation k r =
-    (S : State) (b : Block) → RulesOf S b operations code attributes pairs session entries operation → k < length (S .declared .rules)
+RuleValued targets code attributes pairs session entries operation k r =
+    (S : State) (b : Block) → RulesOf S b targets code attributes pairs session entries operation → k < length (S .declared .rules)
     → truthOf r ≡ ruleValue S b k
 
 -- what is lent for a request, of a state and a block
-pub record RequestOf (S : State) (b : Block) (counts operations : List ℕ) (code : Bytes) (attributes pairs table : List ℕ) (block entries : Bytes) : Type 0 where
+pub record RequestOf (S : State) (b : Block) (counts targets : List ℕ) (code : Bytes) (attributes pairs table : List ℕ) (block entries : Bytes) : Type 0 where
   pub read : readBlock block ≡ some b
   pub counts-are : CountsOf counts (S .declared)
   pub declarations : WellDeclared (S .declared)
   pub attribute-rows : AttributeRows attributes (S .declared)
   pub pair-rows : PairRows pairs (S .declared)
-  pub rule-rows : RuleRows operations code (S .declared)
+  pub rule-rows : RuleRows targets code (S .declared)
   pub sets : SetsOf S b table
   pub entries-of : EntriesOf b entries

@@ -20,7 +20,7 @@ use book::PAIR_ROWS_AT;
 use book::RULE_BYTES;
 use book::RULE_COUNT;
 use book::RULES_AT;
-use book::SEATS_AT;
+use book::SLOT_OF_AT;
 use book::SORTS_AT;
 use book::TABLE_WORDS;
 use codes::ADMIN;
@@ -41,12 +41,6 @@ pub enum Decision {
     Refused(u8),
 }
 
-fn wide(x: u8) -> usize
-    ensures { λ r. ⌜ (r ≡ x) × (r ≤ 255) ⌝ }
-{
-    x as usize
-}
-
 // "15: byte 0, 8, 9 or length wrong."
 fn is_block(block: &[u8]) -> bool
     ensures { λ r. ⌜ r ≡ isBlock (now (block .entry)) ⌝ }
@@ -63,7 +57,7 @@ fn is_block(block: &[u8]) -> bool
     if block[9] != 0 {
         return false;
     }
-    block.len() == 10 + 5 * wide(block[8])
+    block.len() == 10 + 5 * codes::byte_to_index(block[8])
 }
 
 // Whether an entry is of an attribute of env or connect, and a bool at most 1.
@@ -124,15 +118,15 @@ fn wrong_number(
     if !is_sort(sorts, block[2], KEY_OBJECT) {
         return true;
     }
-    if counts[OPERATION_COUNT] <= wide(block[3]) as u64 {
+    if counts[OPERATION_COUNT] <= codes::byte_to_word(block[3]) {
         return true;
     }
     !entries_fit(attributes, entries)
 }
 
-// The value of rule k, evaluated on its code; FALSE, which decides nothing, where it is one of another operation.
+// The value of rule k, evaluated on its code; FALSE, which decides nothing, where its target, the operation that it is for, is another.
 fn rule_value(
-    operations: &[u64],
+    targets: &[u64],
     code: &[u8],
     attributes: &[u64],
     pairs: &[u64],
@@ -141,10 +135,10 @@ fn rule_value(
     operation: u8,
     k: usize,
 ) -> Truth
-    requires { ⌜ Sizes (now operations) (now code) (now attributes) (now pairs) × (k < 32) ⌝ }
-    ensures { λ r. ⌜ RuleValued (now (operations .entry)) (now (code .entry)) (now (attributes .entry)) (now (pairs .entry)) (now (session .entry)) (now (entries .entry)) operation k r ⌝ }
+    requires { ⌜ Sizes (now targets) (now code) (now attributes) (now pairs) × (k < 32) ⌝ }
+    ensures { λ r. ⌜ RuleValued (now (targets .entry)) (now (code .entry)) (now (attributes .entry)) (now (pairs .entry)) (now (session .entry)) (now (entries .entry)) operation k r ⌝ }
 {
-    if operations[k] != operation as u64 {
+    if targets[k] != operation as u64 {
         return Truth::False;
     }
     let start = CODE_BYTES * k;
@@ -175,7 +169,7 @@ fn or_undef(before: bool, t: Truth) -> bool
 
 // "Permit, with the lowest TRUE rule number; else undefined if some is UNDEF; else deny."
 fn decided(
-    operations: &[u64],
+    targets: &[u64],
     code: &[u8],
     attributes: &[u64],
     pairs: &[u64],
@@ -184,13 +178,13 @@ fn decided(
     operation: u8,
     count: usize,
 ) -> Decision
-    requires { ⌜ Sizes (now operations) (now code) (now attributes) (now pairs) × (count ≤ 32) ⌝ }
-    ensures { λ r. ⌜ Decided (now (operations .entry)) (now (code .entry)) (now (attributes .entry)) (now (pairs .entry)) (now (session .entry)) (now (entries .entry)) operation count r ⌝ }
+    requires { ⌜ Sizes (now targets) (now code) (now attributes) (now pairs) × (count ≤ 32) ⌝ }
+    ensures { λ r. ⌜ Decided (now (targets .entry)) (now (code .entry)) (now (attributes .entry)) (now (pairs .entry)) (now (session .entry)) (now (entries .entry)) operation count r ⌝ }
 {
     let mut undefined = false;
     for k in 0..count {
         let value = rule_value(
-            operations,
+            targets,
             code,
             attributes,
             pairs,
@@ -224,7 +218,7 @@ fn in_room(n: u64) -> usize
 // A request with no wrong number: 17, or what its rules come to. Both are read off the session that is opened for it, of the declared attributes.
 fn answered(
     counts: &[u64],
-    operations: &[u64],
+    targets: &[u64],
     code: &[u8],
     attributes: &[u64],
     pairs: &[u64],
@@ -232,11 +226,11 @@ fn answered(
     block: &[u8],
     entries: &[u8],
 ) -> Decision
-    requires { ⌜ (length (now counts) ≡ 8) × Sizes (now operations) (now code) (now attributes) (now pairs) × (10 ≤ length (now block)) ⌝ }
-    ensures { λ r. ⌜ Answered (now (counts .entry)) (now (operations .entry)) (now (code .entry)) (now (attributes .entry)) (now (pairs .entry)) (now (table .entry)) (now (block .entry)) (now (entries .entry)) r ⌝ }
+    requires { ⌜ (length (now counts) ≡ 8) × Sizes (now targets) (now code) (now attributes) (now pairs) × (10 ≤ length (now block)) ⌝ }
+    ensures { λ r. ⌜ Answered (now (counts .entry)) (now (targets .entry)) (now (code .entry)) (now (attributes .entry)) (now (pairs .entry)) (now (table .entry)) (now (block .entry)) (now (entries .entry)) r ⌝ }
 {
-    let user = wide(block[1]);
-    let object = wide(block[2]);
+    let user = codes::byte_to_index(block[1]);
+    let object = codes::byte_to_index(block[2]);
     let mask = values::four(block, 4) as u32;
     let declared = in_room(counts[ATTRIBUTE_COUNT]);
     let mut session: [u64; 128] = [0; 128];
@@ -254,7 +248,7 @@ fn answered(
     }
     let rules = in_room(counts[RULE_COUNT]);
     decided(
-        operations,
+        targets,
         code,
         attributes,
         pairs,
@@ -280,20 +274,20 @@ pub fn decide(
     if !is_block(block) {
         return Decision::Refused(BAD_BLOCK);
     }
-    let words = &book[..];
-    let counts = &words[0..ATTRIBUTES_AT];
-    let attributes = &words[ATTRIBUTES_AT..OPERATIONS_AT];
-    let sorts = &words[SORTS_AT..SEATS_AT];
+    let sections = &book[..];
+    let counts = &sections[0..ATTRIBUTES_AT];
+    let attributes = &sections[ATTRIBUTES_AT..OPERATIONS_AT];
+    let sorts = &sections[SORTS_AT..SLOT_OF_AT];
     let entries = &block[10..];
     if wrong_number(counts, sorts, attributes, block, entries) {
         return Decision::Refused(WRONG_NUMBER);
     }
-    let pairs = &words[PAIR_ROWS_AT..HOLDERS_AT];
-    let operations = &words[RULES_AT..BOOK_WORDS];
+    let pairs = &sections[PAIR_ROWS_AT..HOLDERS_AT];
+    let targets = &sections[RULES_AT..BOOK_WORDS];
     let code = &rules[..];
     answered(
         counts,
-        operations,
+        targets,
         code,
         attributes,
         pairs,

@@ -92,7 +92,7 @@ words-injective a b p q k e = go a b p q (ap typeCode k) e
 
 pub value-injective : (a b : Atom) → isAtom a ≡ true → isAtom b ≡ true → atomValue a ≡ atomValue b → a ≡ b
 value-injective a b p q e =
-    words-injective a b p q (type-injective (typeOf a) (typeOf b) (ap (λ (v : Value). v .kind) e)) (ap (λ (v : Value). v .words) e)
+    words-injective a b p q (type-injective (typeOf a) (typeOf b) (ap (λ (v : Value). v .ty) e)) (ap (λ (v : Value). v .words) e)
 
 -- a test of the words, and the test of the atoms
 pub same-words-eq : (u v : Words) → sameWords u v ≡ true → u ≡ v

@@ -1,5 +1,6 @@
 pub mod Parts
 pub mod ReadCodes
 pub mod Packing
+pub mod Keywords
 pub mod Values
 pub mod Hex

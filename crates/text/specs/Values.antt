@@ -13,7 +13,7 @@ abbrev pub words : ℕ → ℕ → ℕ → Words
 words first second third = record { first = first; second = second; third = third }
 
 abbrev pub value : ℕ → Words → Value
-value kind ws = record { kind = kind; words = ws }
+value ty ws = record { ty = ty; words = ws }
 
 abbrev pub truthBit : Bool → ℕ
 truthBit false = 0

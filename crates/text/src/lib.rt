@@ -12,35 +12,63 @@ ghost use Rattle.model.specs.Gate.{hexDigit};
 ghost use Rattle.text.specs.Parts.{FirstAt, inClass, Quoted};
 ghost use Rattle.text.specs.ReadCodes.{sourceNumber, typeNumber, keyNumber, boolNumber, isDecimal, limited, codedInt};
 ghost use Rattle.text.specs.Packing.{packedOf, packedAt, threeWords};
+ghost use Rattle.text.specs.Keywords.{Keyword};
 ghost use Rattle.text.specs.Values.{words, value, codedAtom};
 ghost use Rattle.text.specs.Hex.{digitCode, hexPairOf, pairCode, Unhexed};
-use codes::ADMIN;
 use codes::BOOL;
-use codes::CONNECT;
-use codes::ENV;
 use codes::INT;
-use codes::KEY_ATOM;
-use codes::KEY_ATTR;
-use codes::KEY_MEMBER;
-use codes::KEY_OBJECT;
-use codes::KEY_OGROUP;
-use codes::KEY_OP;
-use codes::KEY_PARENT;
-use codes::KEY_RULE;
-use codes::KEY_UGROUP;
-use codes::KEY_USER;
-use codes::KEY_VALUE;
-use codes::OBJECT;
 use codes::STR;
-use codes::USER;
 
 const NAME_BYTES: usize = 12;
 
 const TEXT_BYTES: usize = 12;
 
+const WORD_BYTES: usize = 8;
+
 const LARGEST: u64 = 4294967295;
 // The letter `a`: hex is lower-case.
 const HEX_LETTERS: u8 = 97;
+
+// Words of the format in tables, packed as names are. The number of a source, a type or a key is its place.
+pub const SOURCES: [u64; 6] = [
+    0, // none
+    1919251317, // `user`
+    127970252055151, // `object`
+    474215179361, // `admin`
+    7761509, // `env`
+    32760384594014051, // `connect`
+];
+
+pub const TYPES: [u64; 4] = [
+    0, // none
+    7630441, // `int`
+    7500915, // `str`
+    1819242338, // `bool`
+];
+
+const KEYS: [u64; 12] = [
+    0, // none
+    1920234593, // `attr`
+    28783, // `op`
+    1836020833, // `atom`
+    123649683253109, // `ugroup`
+    123649683253103, // `ogroup`
+    1919251317, // `user`
+    127970252055151, // `object`
+    128017497219440, // `parent`
+    125779768599917, // `member`
+    435761734006, // `value`
+    1701606770, // `rule`
+];
+
+// TRUE and FALSE, and their numbers.
+const BOOLS: [u64; 3] = [
+    0, // none
+    1163219540, // `TRUE`
+    297750249798, // `FALSE`
+];
+
+const BOOL_CODES: [u8; 3] = [0, 2, 1];
 
 pub enum Int {
     Number(u32),
@@ -62,7 +90,7 @@ pub struct Words {
 
 // The number of a type, and the atom's words.
 pub struct Value {
-    pub kind: u8,
+    pub ty: u8,
     pub words: Words,
 }
 
@@ -183,61 +211,6 @@ pub fn is_text(s: &[u8]) -> bool
     all_in(s, 1)
 }
 
-// n where s is the word, else k.
-pub fn choose(s: &[u8], word: &[u8], n: u8, k: u8) -> u8
-    ensures { λ r. ⌜ r ≡ (if same (now (word .entry)) (now (s .entry)) then n else k) ⌝ }
-{
-    if same(word, s) { n } else { k }
-}
-
-pub fn source_of(s: &[u8]) -> u8
-    ensures { λ r. ⌜ r ≡ sourceNumber (now (s .entry)) ⌝ }
-{
-    let k1 = choose(s, b"connect", CONNECT, 0);
-    let k2 = choose(s, b"env", ENV, k1);
-    let k3 = choose(s, b"admin", ADMIN, k2);
-    let k4 = choose(s, b"object", OBJECT, k3);
-    choose(s, b"user", USER, k4)
-}
-
-pub fn type_of(s: &[u8]) -> u8
-    ensures { λ r. ⌜ r ≡ typeNumber (now (s .entry)) ⌝ }
-{
-    let k1 = choose(s, b"bool", BOOL, 0);
-    let k2 = choose(s, b"str", STR, k1);
-    choose(s, b"int", INT, k2)
-}
-
-pub fn key_of(s: &[u8]) -> u8
-    ensures { λ r. ⌜ r ≡ keyNumber (now (s .entry)) ⌝ }
-{
-    let k1 = choose(s, b"rule", KEY_RULE, 0);
-    let k2 = choose(s, b"value", KEY_VALUE, k1);
-    let k3 = choose(s, b"member", KEY_MEMBER, k2);
-    let k4 = choose(s, b"parent", KEY_PARENT, k3);
-    let k5 = choose(s, b"object", KEY_OBJECT, k4);
-    let k6 = choose(s, b"user", KEY_USER, k5);
-    let k7 = choose(s, b"ogroup", KEY_OGROUP, k6);
-    let k8 = choose(s, b"ugroup", KEY_UGROUP, k7);
-    let k9 = choose(s, b"atom", KEY_ATOM, k8);
-    let k10 = choose(s, b"op", KEY_OP, k9);
-    choose(s, b"attr", KEY_ATTR, k10)
-}
-
-// 1 for FALSE, 2 for TRUE.
-pub fn bool_of(s: &[u8]) -> u8
-    ensures { λ r. ⌜ r ≡ boolNumber (now (s .entry)) ⌝ }
-{
-    let k1 = choose(s, b"FALSE", 1, 0);
-    choose(s, b"TRUE", 2, k1)
-}
-
-fn wide(b: u8) -> u64
-    ensures { λ r. ⌜ r ≡ b ⌝ }
-{
-    b as u64
-}
-
 // Whether bytes are decimal digits without leading zeros.
 fn is_decimal(s: &[u8]) -> bool
     ensures { λ r. ⌜ r ≡ isDecimal (now (s .entry)) ⌝ }
@@ -262,7 +235,7 @@ fn number_of(s: &[u8]) -> Int
     let mut v: u64 = 0;
     let mut i = 0;
     while i < s.len() {
-        v = v * 10 + wide(s[i]) - 48;
+        v = v * 10 + codes::byte_to_word(s[i]) - 48;
         if LARGEST < v {
             return Int::Malformed;
         }
@@ -306,9 +279,58 @@ pub fn word_of(s: &[u8]) -> u64
     let mut i = s.len();
     while 0 < i {
         i -= 1;
-        w = w * 256 + wide(s[i]);
+        w = w * 256 + codes::byte_to_word(s[i]);
     }
     w
+}
+
+// The place of bytes in a table of packed words, 0 where they are none of them. Bytes that end in a 0 are no word, though a word has their number.
+pub fn keyword(s: &[u8], table: &[u64]) -> usize
+    ensures { λ r. ⌜ Keyword (now (table .entry)) (now (s .entry)) r ⌝ }
+{
+    if WORD_BYTES < s.len() {
+        return 0;
+    }
+    if s.len() < 1 {
+        return 0;
+    }
+    if s[s.len() - 1] == 0 {
+        return 0;
+    }
+    let word = word_of(s);
+    let mut i = 1;
+    while i < table.len() {
+        if table[i] == word {
+            return i;
+        }
+        i += 1;
+    }
+    0
+}
+
+pub fn source_of(s: &[u8]) -> u8
+    ensures { λ r. ⌜ r ≡ sourceNumber (now (s .entry)) ⌝ }
+{
+    keyword(s, &SOURCES) as u8
+}
+
+pub fn type_of(s: &[u8]) -> u8
+    ensures { λ r. ⌜ r ≡ typeNumber (now (s .entry)) ⌝ }
+{
+    keyword(s, &TYPES) as u8
+}
+
+pub fn key_of(s: &[u8]) -> u8
+    ensures { λ r. ⌜ r ≡ keyNumber (now (s .entry)) ⌝ }
+{
+    keyword(s, &KEYS) as u8
+}
+
+// 1 for FALSE, 2 for TRUE.
+pub fn bool_of(s: &[u8]) -> u8
+    ensures { λ r. ⌜ r ≡ boolNumber (now (s .entry)) ⌝ }
+{
+    BOOL_CODES[keyword(s, &BOOLS)]
 }
 
 pub fn pack(s: &[u8]) -> Packed
@@ -359,11 +381,11 @@ pub fn words_of(s: &[u8]) -> Words
 }
 
 // An atom that one word keeps.
-fn single(kind: u8, word: u64) -> Value
-    ensures { λ r. ⌜ r ≡ value kind (words word 0 0) ⌝ }
+fn single(ty: u8, word: u64) -> Value
+    ensures { λ r. ⌜ r ≡ value ty (words word 0 0) ⌝ }
 {
     Value {
-        kind,
+        ty,
         words: Words {
             first: word,
             second: 0,
@@ -382,7 +404,7 @@ pub fn atom_of(s: &[u8]) -> Value
     if is_str(s) {
         let e = s.len() - 1;
         return Value {
-            kind: STR,
+            ty: STR,
             words: words_of(&s[1..e]),
         };
     }
@@ -390,7 +412,7 @@ pub fn atom_of(s: &[u8]) -> Value
     if b == 0 {
         return single(0, 0);
     }
-    single(BOOL, wide(b - 1))
+    single(BOOL, codes::byte_to_word(b - 1))
 }
 
 // The value of a digit of lower-case hex, 16 where it is none.

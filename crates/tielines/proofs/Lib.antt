@@ -5,3 +5,5 @@ pub mod TieEditing
 pub mod TieSorts
 pub mod TieNaming
 pub mod TieLines
+pub mod TieFields
+pub mod TieRefusals

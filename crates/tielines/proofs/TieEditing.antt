@@ -13,7 +13,7 @@ use borrow.Rule.Slice.PartMut.{putMid}
 use Rattle.model.specs.Limits.{pairLimit, groupLimit}
 use Rattle.model.specs.Bytes.{Bytes}
 use Rattle.model.specs.Keys.{Key}
-use Rattle.model.specs.Ties.{Tie, Ties, added, removed}
+use Rattle.model.specs.Ties.{Tie, Ties}
 use Rattle.model.specs.State.{State}
 use Rattle.model.specs.Refusals.{tieCloses}
 use Rattle.model.specs.Standing.{Standing, TieFits}
@@ -21,14 +21,16 @@ use Rattle.codes.specs.Codes.{keyCode}
 use Rattle.bits.specs.Bits.{bit, member}
 use Rattle.bits.proofs.Sets.{holds-member}
 use Rattle.ties.specs.TieArrays.{inUse, tiedUp}
-use Rattle.ties.specs.TieEdits.{LeadsUp, AddedUp, TakenUp, AddedValue, TakenValue}
+use Rattle.ties.specs.TieEdits as ties
+use Rattle.ties.specs.TieEdits.{LeadsUp}
 use Rattle.book.specs.Sections as section
 use Rattle.book.specs.Sections.{Section, sectionWords, bookWords, bookHolders}
 use Rattle.book.specs.Held.{Holds}
-use Rattle.tielines.specs.TieSteps.{tieBy, SlotFound, TiesEdited, UpPut, UpTaken, ValuePut, ValueTaken, UpStands, ValueStands}
+use Rattle.tielines.specs.TieReading.{tieBy}
+use Rattle.tielines.specs.TieSteps.{SlotFound, UpChanged, ValueChanged, UpStands, ValueStands}
 use Rattle.book.proofs.Sections.{part-size}
 use Rattle.tielines.proofs.TieSections.{unedited, ups-edited, own-edited}
-use Rattle.tielines.proofs.TieFitting.{up-fits, value-fits, slot-bit, one-kind}
+use Rattle.tielines.proofs.TieFitting.{up-fits, value-fits, slot-bit, stands-up}
 
 -- ---- the tie of a key
 
@@ -74,28 +76,23 @@ module _ (book : List ℕ) (long : length book ≡ bookWords) (h g q : ℕ) (fou
   unfolding tiedUp
   up-stands r few e t leads S code standing held f =
       let u = in-use-here S code standing held t leads f in
-      e ∙ ap (λ (w : ℕ). bit w q) (sym (word-at section.ups book h few)) ∙ slot-bit standing held h g q few (u .0) (u .1) (u .2) ∙ one-kind standing held t h g leads f
+      e ∙ ap (λ (w : ℕ). bit w q) (sym (word-at section.ups book h few)) ∙ slot-bit standing held h g q few (u .0) (u .1) (u .2) ∙ stands-up standing held t h g leads f
 
   module _ (ys : List ℕ) (size : length ys ≡ section.ups .size) where
-    pub up-put : AddedUp (sectionWords section.ups book) h q ys → UpPut h g book (putMid (section.ups .start) (section.ups .size) book ys)
-    up-put made t leads = ups-edited book ys long (λ S. TieFits (S .declared) t) (added t) size (λ S code standing held f.
+    pub up-changed : (plus : Bool) → ties.MaskChanged (sectionWords section.ups book) h q plus ys
+        → UpChanged h g plus book (putMid (section.ups .start) (section.ups .size) book ys)
+    up-changed plus made t leads = ups-edited book ys long t plus size (λ S code standing held f on.
         let u = in-use-here S code standing held t leads f in
-        made .keeps (sectionWords section.own book) (sectionWords section.slots book) (S .ties) t (held .ties) (alive (u .1)) (subst (LeadsUp t h) (sym (u .2)) leads))
-
-    pub up-taken : TakenUp (sectionWords section.ups book) h q ys → UpTaken h g book (putMid (section.ups .start) (section.ups .size) book ys)
-    up-taken made t leads = ups-edited book ys long (λ S. S .ties t ≡ true) (removed t) size (λ S code standing held on.
-        let u = in-use-here S code standing held t leads (standing .ties-fit t on) in
-        made .keeps (sectionWords section.own book) (sectionWords section.slots book) (S .declared) (S .ties) t standing (held .ties) (alive (u .1)) on (subst (LeadsUp t h) (sym (u .2)) leads))
+        made .keeps (sectionWords section.own book) (sectionWords section.slots book) (S .declared) (S .ties) t standing (held .ties) (alive (u .1)) on
+        (subst (LeadsUp t h) (sym (u .2)) leads))
 
   -- no tie leads up where there is no slot
-  pub no-slot : {may : State → Type 0} {change : Ties → Ties} (t : Tie) → LeadsUp t h g → ((S : State) → Standing S → may S → TieFits (S .declared) t) → groupLimit ≤ q
-      → TiesEdited may change book book
-  no-slot t leads fits far = unedited book long (λ S code standing held m. omega (arith, in-use-here S code standing held t leads (fits S standing m) .0))
+  pub no-slot : {plus : Bool} → groupLimit ≤ q → UpChanged h g plus book book
+  no-slot far t leads = unedited book long (λ S code standing held f. omega (arith, in-use-here S code standing held t leads f .0))
 
 -- nor from a number that no holder has
-pub no-lower : (book : List ℕ) → length book ≡ bookWords → (h g : ℕ) {may : State → Type 0} {change : Ties → Ties} (t : Tie) → LeadsUp t h g
-    → ((S : State) → Standing S → may S → TieFits (S .declared) t) → bookHolders ≤ h → TiesEdited may change book book
-no-lower book long h g t leads fits far = unedited book long (λ S code standing held m. omega (arith, up-fits standing held t h g leads (fits S standing m) .few))
+pub no-lower : (book : List ℕ) → length book ≡ bookWords → (h g : ℕ) {plus : Bool} → bookHolders ≤ h → UpChanged h g plus book book
+no-lower book long h g far t leads = unedited book long (λ S code standing held f. omega (arith, up-fits standing held t h g leads f .few))
 
 -- ---- a pair
 
@@ -106,17 +103,12 @@ module _ (book : List ℕ) (long : length book ≡ bookWords) (h p : ℕ) where
       e ∙ holds-member (sectionWords section.own book) h p low ∙ held .ties .pairs h p (omega arith) low
 
   module _ (ys : List ℕ) (size : length ys ≡ section.own .size) where
-    pub value-put : AddedValue (sectionWords section.own book) h p ys → ValuePut h p book (putMid (section.own .start) (section.own .size) book ys)
-    value-put made =
-        own-edited book ys long (λ S. TieFits (S .declared) (Tie.value h p)) (added (Tie.value h p)) size
-        (λ S code standing held f. made .keeps (sectionWords section.ups book) (sectionWords section.slots book) (S .ties) (held .ties))
-
-    pub value-taken : TakenValue (sectionWords section.own book) h p ys → ValueTaken h p book (putMid (section.own .start) (section.own .size) book ys)
-    value-taken made =
-        own-edited book ys long (λ S. S .ties (Tie.value h p) ≡ true) (removed (Tie.value h p)) size
-        (λ S code standing held on. made .keeps (sectionWords section.ups book) (sectionWords section.slots book) (S .ties) (held .ties))
+    pub value-changed : (plus : Bool) → ties.OwnChanged (sectionWords section.own book) h p plus ys
+        → ValueChanged h p plus book (putMid (section.own .start) (section.own .size) book ys)
+    value-changed plus made =
+        own-edited book ys long (Tie.value h p) plus size
+        (λ S code standing held f on. made .keeps (sectionWords section.ups book) (sectionWords section.slots book) (S .ties) (held .ties))
 
   -- no holder or no pair has the number
-  pub no-value : {may : State → Type 0} {change : Ties → Ties} → ((S : State) → Standing S → may S → TieFits (S .declared) (Tie.value h p)) → (h < bookHolders → p < pairLimit → ⊥)
-      → TiesEdited may change book book
-  no-value fits far = unedited book long (λ S code standing held m. let f = value-fits standing held h p (fits S standing m) in far (f .0) (f .1))
+  pub no-value : {plus : Bool} → (h < bookHolders → p < pairLimit → ⊥) → ValueChanged h p plus book book
+  no-value far = unedited book long (λ S code standing held fits. let f = value-fits standing held h p fits in far (f .0) (f .1))

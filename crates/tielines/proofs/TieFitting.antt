@@ -1,6 +1,6 @@
 -- A tie that fits the declarations has numbers within their sections, and leads up to a group that has a slot. Assumes nothing.
 use Prim.Native.Nat.{ℕ, zero, suc, _<_}
-use mathlib.Core.Path.{_≡_, refl, sym, ap, subst, _∙_}
+use mathlib.Core.Path.{_≡_, sym, ap, subst, _∙_}
 use mathlib.Core.Logic.{inl, inr}
 use mathlib.Core.Bool.{Bool, true, false, _||_, or-false, true≢false}
 use mathlib.Core.List.{List}
@@ -8,7 +8,6 @@ use mathlib.Core.Option.{some, Option·some-injective}
 use native.Mathlib.Omega.{arith}
 use lib.ListN.{length, getD}
 use borrow.Author.Tests.{lt-ltb}
-use Rattle.model.specs.Notation.{nth}
 use Rattle.model.specs.Limits.{pairLimit, groupLimit}
 use Rattle.model.specs.Bytes.{Bytes}
 use Rattle.model.specs.Declarations.{Sort, sortOf, isGroup, parentSort, groupSort}
@@ -16,11 +15,12 @@ use Rattle.model.specs.Ties.{Tie, up}
 use Rattle.model.specs.State.{State}
 use Rattle.model.specs.Standing.{TieFits, Standing}
 use Rattle.model.proofs.WordTables.{none-is-some}
-use Rattle.model.proofs.Options.{bind-some, both}
+use Rattle.model.proofs.Options.{both}
 use Rattle.model.proofs.Lists.{nth-lt, same-truth}
 use Rattle.ties.specs.TieArrays.{inUse, tiedUp, Distinct}
 use Rattle.ties.specs.TieEdits.{LeadsUp}
 use Rattle.ties.proofs.Keeps.{up-slot, slot-up}
+use Rattle.ties.proofs.Editing.{off-by, one-kind}
 use Rattle.book.specs.Sections as section
 use Rattle.book.specs.Sections.{sectionWords, bookHolders}
 use Rattle.book.specs.Held.{Holds}
@@ -40,18 +40,6 @@ member-group Sort.ugroup u e = none-is-some e
 member-group Sort.ogroup u e = none-is-some e
 member-group Sort.user u e = ap isGroup (sym (Option·some-injective _ _ e))
 member-group Sort.object u e = ap isGroup (sym (Option·some-injective _ _ e))
-
--- a sort has parents, or groups of which it is a member
-one-above : (s u v : Sort) → parentSort s ≡ some u → groupSort s ≡ some v → ⊥
-one-above Sort.admin u v p q = none-is-some p
-one-above Sort.ugroup u v p q = none-is-some q
-one-above Sort.ogroup u v p q = none-is-some q
-one-above Sort.user u v p q = none-is-some p
-one-above Sort.object u v p q = none-is-some p
-
-pub off : (b : Bool) → (b ≡ true → ⊥) → b ≡ false
-off true n = absurd (n refl)
-off false n = refl
 
 module _ {S : State} {book : List ℕ} {code : Bytes} (standing : Standing S) (held : Holds book code S) where
   -- the numbers of a tie up, and that its upper one is a group's
@@ -80,13 +68,13 @@ module _ {S : State} {book : List ℕ} {code : Bytes} (standing : Standing S) (h
       absurd (true≢false (sym i ∙ ap isGroup (Option·some-injective _ _ (sym e ∙ first))))
   group-no-admin (suc g) s e i = omega arith
 
-  -- the slot of a group, by its seat
-  pub seat-slot : (g : ℕ) (s : Sort) → sortOf (S .declared) g ≡ some s → isGroup s ≡ true
-      → (q : ℕ) × (getD (sectionWords section.seats book) g 0 ≡ suc q) × (q < groupLimit) × (inUse bookHolders (sectionWords section.slots book) q ≡ true)
+  -- the slot of a group, by its word
+  pub group-slot : (g : ℕ) (s : Sort) → sortOf (S .declared) g ≡ some s → isGroup s ≡ true
+      → (q : ℕ) × (getD (sectionWords section.slotOf book) g 0 ≡ suc q) × (q < groupLimit) × (inUse bookHolders (sectionWords section.slots book) q ≡ true)
       × (getD (sectionWords section.slots book) q 0 ≡ g)
   unfolding inUse
-  seat-slot g s e i =
-      let r = held .groups .seated g s e i in
+  group-slot g s e i =
+      let r = held .groups .in-slot g s e i in
       let low = group-no-admin g s e i in
       let few = sorted-in-book standing held g e in
       let slot = getD (sectionWords section.slots book) (r .0) 0 in (
@@ -113,16 +101,12 @@ module _ {S : State} {book : List ℕ} {code : Bytes} (standing : Standing S) (h
       ap (tiedUp (sectionWords section.ups book) h) (sym same) ∙ r .2)
 
   -- a tie up that fits stands where some tie leads up so: the other kind does not fit
-  pub one-kind : (t : Tie) (h g : ℕ) → LeadsUp t h g → TieFits (S .declared) t → up (S .ties) h g ≡ S .ties t
-  one-kind t h g (inl e) f =
-      let x = subst (TieFits (S .declared)) e f in
-      ap (λ (b : Bool). S .ties (Tie.parent h g) || b) (off (S .ties (Tie.member h g)) (λ on.
-      let y = standing .ties-fit (Tie.member h g) on in
-      one-above (x .lower-sort) (x .upper-sort) (y .upper-sort) (x .one-above) (ap groupSort (Option·some-injective _ _ (sym (x .lower-is) ∙ y .lower-is)) ∙ y .one-above)))
+  pub stands-up : (t : Tie) (h g : ℕ) → LeadsUp t h g → TieFits (S .declared) t → up (S .ties) h g ≡ S .ties t
+  stands-up t h g (inl e) f =
+      ap (λ (b : Bool). S .ties (Tie.parent h g) || b)
+      (off-by (S .ties (Tie.member h g)) (λ on. one-kind (S .declared) h g (subst (TieFits (S .declared)) e f) (standing .ties-fit (Tie.member h g) on)))
       ∙ or-false (S .ties (Tie.parent h g)) ∙ ap (S .ties) (sym e)
-  one-kind t h g (inr e) f =
-      let y = subst (TieFits (S .declared)) e f in
-      ap (λ (b : Bool). b || S .ties (Tie.member h g)) (off (S .ties (Tie.parent h g)) (λ on.
-      let x = standing .ties-fit (Tie.parent h g) on in
-      one-above (x .lower-sort) (x .upper-sort) (y .upper-sort) (x .one-above) (ap groupSort (Option·some-injective _ _ (sym (x .lower-is) ∙ y .lower-is)) ∙ y .one-above)))
+  stands-up t h g (inr e) f =
+      ap (λ (b : Bool). b || S .ties (Tie.member h g))
+      (off-by (S .ties (Tie.parent h g)) (λ on. one-kind (S .declared) h g (standing .ties-fit (Tie.parent h g) on) (subst (TieFits (S .declared)) e f)))
       ∙ ap (S .ties) (sym e)

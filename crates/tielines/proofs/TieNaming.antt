@@ -9,7 +9,7 @@ use lib.ListN.{getD}
 use Rattle.model.specs.Notation.{_>>=_, _is_, isNone, nth}
 use Rattle.model.specs.Limits.{attributeLimit, pairLimit}
 use Rattle.model.specs.Numbers as refusal
-use Rattle.model.specs.Bytes.{Bytes, same}
+use Rattle.model.specs.Bytes.{Bytes}
 use Rattle.model.specs.Names.{isName}
 use Rattle.model.specs.Attributes.{Source}
 use Rattle.model.specs.Atoms.{Atom, typeOf, sameAtom}
@@ -33,7 +33,7 @@ use Rattle.book.specs.Sections as section
 use Rattle.book.specs.Sections.{sectionWords, bookHolders}
 use Rattle.book.specs.Held.{sortCode, Holds}
 use Rattle.book.specs.Finding.{HolderFound}
-use Rattle.tielines.specs.TieSteps.{tieBy, aboveFor, TwoNamed}
+use Rattle.tielines.specs.TieReading.{tieBy, aboveFor, TwoNamed}
 use Rattle.tielines.proofs.TieSorts.{sort-fits, sort-differs}
 use Rattle.book.proofs.HeldNumbers.{holder-in-book, sorted-in-book}
 use Rattle.tielines.proofs.TieEditing.{word-at}

@@ -1,23 +1,26 @@
 -- A book whose words of ties are written holds the declarations that it held, with the ties that those words keep. Assumes nothing.
 use Prim.Native.Nat.{ℕ, _+_, _≤_}
 use mathlib.Core.Path.{_≡_, refl, sym, ap, subst, _∙_}
+use mathlib.Core.Bool.{Bool, not}
 use mathlib.Core.List.{List}
+use mathlib.Core.Option.{some}
 use native.Mathlib.Omega.{arith}
-use lib.ListN.{length, take, drop, length-drop}
-use lib.Seq.{drop-drop, length-take-le}
+use lib.ListN.{length, take, drop}
+use lib.Seq.{drop-drop}
 use borrow.Rule.Slice.PartMut.{putMid, take-put, drop-put, same-len-mid}
 use Rattle.model.specs.Limits.{pairLimit}
 use Rattle.model.specs.Bytes.{Bytes}
-use Rattle.model.specs.Ties.{Ties}
+use Rattle.model.specs.Ties.{Tie, Ties}
 use Rattle.model.specs.State.{State}
-use Rattle.model.specs.Standing.{Standing}
+use Rattle.model.specs.Edits.{editedTies}
+use Rattle.model.specs.Standing.{Standing, TieFits}
 use Rattle.rows.specs.Rows.{AttributeRows}
 use Rattle.index.specs.Index.{Indexed}
 use Rattle.ties.specs.TieArrays.{KeepsTies}
 use Rattle.book.specs.Sections as section
 use Rattle.book.specs.Sections.{Section, sectionWords, bookWords, bookHolders}
 use Rattle.book.specs.Held.{CountsOf, OperationRows, pairRow, holderRow, SortRows, GroupSlots, RuleRows, Holds}
-use Rattle.tielines.specs.TieSteps.{TiesEdited}
+use Rattle.tielines.specs.TieSteps.{TieChanged}
 use Rattle.book.proofs.Sections.{part-size, front, mid-inside, mid-before}
 
 module _ {book : List ℕ} {code : Bytes} {S : State} (held : Holds book code S) (book′ : List ℕ) (long : length book′ ≡ bookWords)
@@ -41,22 +44,22 @@ module _ {book : List ℕ} {code : Bytes} {S : State} (held : Holds book code S)
     pairs = subst (λ (w : List ℕ). Indexed w pairLimit (pairRow (S .declared))) (sym (section-before section.pairs (omega arith))) (held .pairs);
     holders = subst (λ (w : List ℕ). Indexed w bookHolders (holderRow (S .declared))) (sym (section-before section.holders (omega arith))) (held .holders);
     sorts = subst (λ (w : List ℕ). SortRows w (S .declared)) (sym (section-before section.sorts (omega arith))) (held .sorts);
-    groups = subst (λ (w : List ℕ). GroupSlots w (sectionWords section.seats book′) (S .declared)) (sym slots-same)
-        (subst (λ (w : List ℕ). GroupSlots (sectionWords section.slots book) w (S .declared)) (sym (section-before section.seats (omega arith))) (held .groups));
+    groups = subst (λ (w : List ℕ). GroupSlots w (sectionWords section.slotOf book′) (S .declared)) (sym slots-same)
+        (subst (λ (w : List ℕ). GroupSlots (sectionWords section.slots book) w (S .declared)) (sym (section-before section.slotOf (omega arith))) (held .groups));
     ties = subst (λ (w : List ℕ). KeepsTies (sectionWords section.ups book′) (sectionWords section.own book′) w T) (sym slots-same) kept;
     rules = subst (λ (w : List ℕ). RuleRows w code (S .declared)) (sym (ap (take (section.rules .size)) behind)) (held .rules);
   }
 
--- a book as it was, where nothing may be changed so
-pub unedited : {may : State → Type 0} {change : Ties → Ties} (book : List ℕ) → length book ≡ bookWords
-    → ((S : State) (code : Bytes) → Standing S → Holds book code S → may S → ⊥) → TiesEdited may change book book
-unedited book long never = record { long = long; before = refl; behind = refl; holds = λ S code standing held m. absurd (never S code standing held m) }
+-- a book as it was, where the tie fits no declarations
+pub unedited : {t : Tie} {plus : Bool} (book : List ℕ) → length book ≡ bookWords
+    → ((S : State) (code : Bytes) → Standing S → Holds book code S → TieFits (S .declared) t → ⊥) → TieChanged t plus book book
+unedited book long never = record { long = long; before = refl; behind = refl; holds = λ S code standing held fits on. absurd (never S code standing held fits) }
 
 -- words written in the section of ties up, and in that of own pairs
-module _ (book ys : List ℕ) (long : length book ≡ bookWords) (may : State → Type 0) (change : Ties → Ties) where
+module _ (book ys : List ℕ) (long : length book ≡ bookWords) (t : Tie) (plus : Bool) where
   pub ups-edited : length ys ≡ section.ups .size
-      → ((S : State) (code : Bytes) → Standing S → Holds book code S → may S → KeepsTies ys (sectionWords section.own book) (sectionWords section.slots book) (change (S .ties)))
-      → TiesEdited may change book (putMid (section.ups .start) (section.ups .size) book ys)
+      → ((S : State) (code : Bytes) → Standing S → Holds book code S → TieFits (S .declared) t → S .ties t ≡ not plus → KeepsTies ys (sectionWords section.own book) (sectionWords section.slots book) (editedTies plus (some t) (S .ties)))
+      → TieChanged t plus book (putMid (section.ups .start) (section.ups .size) book ys)
   ups-edited size keeps =
       let start = section.ups .start in
       let book′ = putMid start (section.ups .size) book ys in
@@ -70,16 +73,16 @@ module _ (book ys : List ℕ) (long : length book ≡ bookWords) (may : State �
         long = all;
         before = before;
         behind = behind;
-        holds = λ S code standing held m.
-            with-ties held book′ all before behind (change (S .ties))
-            (subst (λ (w : List ℕ). KeepsTies w (sectionWords section.own book′) (sectionWords section.slots book) (change (S .ties)))
+        holds = λ S code standing held fits on.
+            with-ties held book′ all before behind (editedTies plus (some t) (S .ties))
+            (subst (λ (w : List ℕ). KeepsTies w (sectionWords section.own book′) (sectionWords section.slots book) (editedTies plus (some t) (S .ties)))
             (sym (mid-inside start (section.ups .size) book ys (omega arith) size))
-            (subst (λ (w : List ℕ). KeepsTies ys w (sectionWords section.slots book) (change (S .ties))) (sym (ap (take (section.own .size)) from)) (keeps S code standing held m)));
+            (subst (λ (w : List ℕ). KeepsTies ys w (sectionWords section.slots book) (editedTies plus (some t) (S .ties))) (sym (ap (take (section.own .size)) from)) (keeps S code standing held fits on)));
       }
 
   pub own-edited : length ys ≡ section.own .size
-      → ((S : State) (code : Bytes) → Standing S → Holds book code S → may S → KeepsTies (sectionWords section.ups book) ys (sectionWords section.slots book) (change (S .ties)))
-      → TiesEdited may change book (putMid (section.own .start) (section.own .size) book ys)
+      → ((S : State) (code : Bytes) → Standing S → Holds book code S → TieFits (S .declared) t → S .ties t ≡ not plus → KeepsTies (sectionWords section.ups book) ys (sectionWords section.slots book) (editedTies plus (some t) (S .ties)))
+      → TieChanged t plus book (putMid (section.own .start) (section.own .size) book ys)
   own-edited size keeps =
       let start = section.own .start in
       let book′ = putMid start (section.own .size) book ys in
@@ -92,10 +95,10 @@ module _ (book ys : List ℕ) (long : length book ≡ bookWords) (may : State �
         long = all;
         before = before;
         behind = behind;
-        holds = λ S code standing held m.
-            with-ties held book′ all before behind (change (S .ties))
-            (subst (λ (w : List ℕ). KeepsTies (sectionWords section.ups book′) w (sectionWords section.slots book) (change (S .ties)))
+        holds = λ S code standing held fits on.
+            with-ties held book′ all before behind (editedTies plus (some t) (S .ties))
+            (subst (λ (w : List ℕ). KeepsTies (sectionWords section.ups book′) w (sectionWords section.slots book) (editedTies plus (some t) (S .ties)))
             (sym (mid-inside start (section.own .size) book ys (omega arith) size))
-            (subst (λ (w : List ℕ). KeepsTies w ys (sectionWords section.slots book) (change (S .ties)))
-            (sym (mid-before start (section.own .size) book ys (omega arith) (section.ups .start) (section.ups .size) (omega arith))) (keeps S code standing held m)));
+            (subst (λ (w : List ℕ). KeepsTies w ys (sectionWords section.slots book) (editedTies plus (some t) (S .ties)))
+            (sym (mid-before start (section.own .size) book ys (omega arith) (section.ups .start) (section.ups .size) (omega arith))) (keeps S code standing held fits on)));
       }

@@ -11,9 +11,9 @@ use Rattle.model.specs.Declarations.{Sort, sortWord, isSort, parentSort, groupS
 use Rattle.model.proofs.WordTables.{same-refl, same-word, reads-sort, sorts}
 use Rattle.codes.specs.Codes.{coded, keyCode, sourceCode}
 use Rattle.codes.proofs.Codes.{withCode, code-injective}
+use Rattle.ties.proofs.Editing.{off-by}
 use Rattle.book.specs.Held.{sortCode}
-use Rattle.tielines.specs.TieSteps.{aboveFor}
-use Rattle.tielines.proofs.TieFitting.{off}
+use Rattle.tielines.specs.TieReading.{aboveFor}
 
 pub sort-injective : (a b : Sort) → sortCode a ≡ sortCode b → a ≡ b
 sort-injective = code-injective sortCode sorts reads
@@ -40,7 +40,7 @@ sort-fits (some w) b e = ap (λ (v : Sort). isSort v b) (sort-injective w b (sym
 
 pub sort-differs : (o : Option Sort) (b : Sort) → (sortCode b ≡ coded sortCode o → ⊥) → (o is λ w. isSort w b) ≡ false
 sort-differs none b n = refl
-sort-differs (some w) b n = off (isSort w b) (λ on. n (ap sortCode (sym (same-word sortWord sorts reads-sort w b on))))
+sort-differs (some w) b n = off-by (isSort w b) (λ on. n (ap sortCode (sym (same-word sortWord sorts reads-sort w b on))))
 
 -- ---- the sort above
 

@@ -1,1 +1,2 @@
+pub mod TieReading
 pub mod TieSteps

@@ -1,25 +1,30 @@
-// The tie of a line: its numbers, whether it stands or closes a circle, and one tie more or less in a book.
+// Tie lines, of files and of edits: the tie that the fields give, what it is refused for, and one tie more or less in a book.
 ghost use mathlib.Core.Path.{_≡_};
 ghost use Prim.Native.Nat.{_+_};
 ghost use lib.ListN.{length};
 ghost use Rattle.book.specs.Sections.{bookWords};
-ghost use Rattle.tielines.specs.TieSteps.{tieBy, SortAbove, TwoNamed, SourceOfSort, PairNamed, ValueNamed, SlotTold, SlotFound, UpPut, UpTaken, UpStands, ValuePut, ValueTaken, ValueStands, TiePut, TieTaken, TieStands, TieCloses};
+ghost use Rattle.tielines.specs.TieReading.{tieBy, SortAbove, TwoNamed, SourceOfSort, PairNamed, ValueNamed, KeyTie};
+ghost use Rattle.tielines.specs.TieSteps.{SlotTold, SlotFound, UpStands, ValueStands, TieStands, TieCloses, TieJudged, UpChanged, ValueChanged, TieChanged};
 use book::ATTRIBUTES_AT;
 use book::HOLDERS_AT;
 use book::OPERATIONS_AT;
 use book::OWN_AT;
 use book::PAIRS_AT;
 use book::RULES_AT;
-use book::SEATS_AT;
+use book::SLOT_OF_AT;
 use book::SLOTS_AT;
 use book::SORTS_AT;
 use book::UPS_AT;
 use book::find::HOLDERS;
 use book::find::PAIRS;
 use codes::ADMIN;
+use codes::CIRCULAR;
 use codes::KEY_PARENT;
 use codes::KEY_VALUE;
+use codes::MALFORMED;
+use codes::NOT_STANDING;
 use codes::OBJECT;
+use codes::REPEATED;
 use codes::UNDECLARED;
 use codes::USER;
 use codes::WRONG_SORT;
@@ -43,18 +48,18 @@ const OBJECT_SORT: u64 = codes::KEY_OBJECT as u64;
 // What a tie line says: the number that it is refused for, or 0; its key; the number of the edited holder; that of the group or of the pair.
 pub struct Tie {
     pub number: u8,
-    pub kind: u8,
+    pub key: u8,
     pub lower: usize,
     pub upper: usize,
 }
 
-// The answer of a line that is refused.
-fn refused(number: u8) -> Tie
+// A line that gives no tie.
+pub fn no_tie(number: u8) -> Tie
     ensures { λ r. ⌜ r .number ≡ number ⌝ }
 {
     Tie {
-        number: number,
-        kind: 0,
+        number,
+        key: 0,
         lower: 0,
         upper: 0,
     }
@@ -83,25 +88,25 @@ fn above(key: u8, sort: u64) -> u64
 }
 
 // The tie of a parent or member line with these names.
-pub fn two(book: &[u64], key: u8, lower: Packed, upper: Packed) -> Tie
+fn two(book: &[u64], key: u8, lower: Packed, upper: Packed) -> Tie
     requires { ⌜ length (now book) ≡ bookWords ⌝ }
-    ensures { λ r. ⌜ TwoNamed (now (book .entry)) key lower upper (r .number) (tieBy (r .kind) (r .lower) (r .upper)) ⌝ }
+    ensures { λ r. ⌜ TwoNamed (now (book .entry)) key lower upper (r .number) (tieBy (r .key) (r .lower) (r .upper)) ⌝ }
 {
     let h = book::find::holder_number(&book[HOLDERS_AT..SORTS_AT], lower.low, lower.high);
     if h >= HOLDERS {
-        return refused(UNDECLARED);
+        return no_tie(UNDECLARED);
     }
     let g = book::find::holder_number(&book[HOLDERS_AT..SORTS_AT], upper.low, upper.high);
     if g >= HOLDERS {
-        return refused(UNDECLARED);
+        return no_tie(UNDECLARED);
     }
     let wanted = above(key, book[SORTS_AT + h]);
     if book[SORTS_AT + g] != wanted {
-        return refused(WRONG_SORT);
+        return no_tie(WRONG_SORT);
     }
     Tie {
         number: 0,
-        kind: key,
+        key,
         lower: h,
         upper: g,
     }
@@ -137,45 +142,69 @@ fn pair_of(book: &[u64], source: u8, name: Packed, atom: Value) -> usize
     if k >= rows::ATTRIBUTES {
         return PAIRS;
     }
-    if book[ATTRIBUTES_AT + 8 * k + 1] != atom.kind as u64 {
+    if book[ATTRIBUTES_AT + 8 * k + 1] != atom.ty as u64 {
         return PAIRS;
     }
     book::find::pair_number(&book[PAIRS_AT..HOLDERS_AT], k, atom.words)
 }
 
 // The tie of a value line with these names and this atom.
-pub fn value(book: &[u64], holder: Packed, name: Packed, atom: Value) -> Tie
+fn value(book: &[u64], holder: Packed, name: Packed, atom: Value) -> Tie
     requires { ⌜ length (now book) ≡ bookWords ⌝ }
-    ensures { λ r. ⌜ ValueNamed (now (book .entry)) holder name atom (r .number) (tieBy (r .kind) (r .lower) (r .upper)) ⌝ }
+    ensures { λ r. ⌜ ValueNamed (now (book .entry)) holder name atom (r .number) (tieBy (r .key) (r .lower) (r .upper)) ⌝ }
 {
     let h = book::find::holder_number(&book[HOLDERS_AT..SORTS_AT], holder.low, holder.high);
     if h >= HOLDERS {
-        return refused(UNDECLARED);
+        return no_tie(UNDECLARED);
     }
     let source = source_for(book[SORTS_AT + h]);
     let p = pair_of(book, source, name, atom);
     if p >= PAIRS {
-        return refused(UNDECLARED);
+        return no_tie(UNDECLARED);
     }
     Tie {
         number: 0,
-        kind: KEY_VALUE,
+        key: KEY_VALUE,
         lower: h,
         upper: p,
     }
 }
 
-// The slot that a seat tells; the number of slots for any other word.
-fn slot(seat: u64) -> usize
-    ensures { λ r. ⌜ SlotTold seat r ⌝ }
+// The tie of a parent, member or value line, from its key and its fields.
+pub fn of_fields(book: &[u64], key: u8, f: &[u8]) -> Tie
+    requires { ⌜ length (now book) ≡ bookWords ⌝ }
+    ensures { λ r. ⌜ KeyTie (now (book .entry)) key (now (f .entry)) (r .number) (tieBy (r .key) (r .lower) (r .upper)) ⌝ }
 {
-    if seat == 0 {
+    if key == KEY_VALUE {
+        let v = fields::value_fields(f);
+        if !v.ok {
+            return no_tie(MALFORMED);
+        }
+        let holder = v.holder;
+        let name = v.name;
+        let atom = v.atom;
+        return value(book, holder, name, atom);
+    }
+    let v = fields::two_fields(f);
+    if !v.ok {
+        return no_tie(MALFORMED);
+    }
+    let lower = v.lower;
+    let upper = v.upper;
+    two(book, key, lower, upper)
+}
+
+// The slot that a holder's word tells, which is 1 + the slot of a group; the number of slots for any other word.
+fn slot(told: u64) -> usize
+    ensures { λ r. ⌜ SlotTold told r ⌝ }
+{
+    if told == 0 {
         return SLOT_NUMBERS;
     }
-    if seat > SLOT_NUMBERS as u64 {
+    if told > SLOT_NUMBERS as u64 {
         return SLOT_NUMBERS;
     }
-    seat as usize - 1
+    told as usize - 1
 }
 
 // The slot of the group of number g; the number of slots where there is none.
@@ -186,7 +215,7 @@ fn slot_of(book: &[u64], g: usize) -> usize
     if g >= HOLDERS {
         return SLOT_NUMBERS;
     }
-    slot(book[SEATS_AT + g])
+    slot(book[SLOT_OF_AT + g])
 }
 
 // Whether holder h has a tie up to the group of number g.
@@ -219,22 +248,22 @@ fn stands_value(book: &[u64], h: usize, p: usize) -> bool
 }
 
 // Whether a tie that fits the declarations stands.
-pub fn stands(book: &[u64], t: Tie) -> bool
+fn stands(book: &[u64], t: Tie) -> bool
     requires { ⌜ length (now book) ≡ bookWords ⌝ }
-    ensures { λ r. ⌜ TieStands (now (book .entry)) (tieBy (t .kind) (t .lower) (t .upper)) r ⌝ }
+    ensures { λ r. ⌜ TieStands (now (book .entry)) (tieBy (t .key) (t .lower) (t .upper)) r ⌝ }
 {
-    if t.kind == KEY_VALUE {
+    if t.key == KEY_VALUE {
         return stands_value(book, t.lower, t.upper);
     }
     stands_up(book, t.lower, t.upper)
 }
 
 // Whether a tie closes a circle: none but a parent tie does.
-pub fn closes(book: &[u64], t: Tie) -> bool
+fn closes(book: &[u64], t: Tie) -> bool
     requires { ⌜ length (now book) ≡ bookWords ⌝ }
-    ensures { λ r. ⌜ TieCloses (now (book .entry)) (tieBy (t .kind) (t .lower) (t .upper)) r ⌝ }
+    ensures { λ r. ⌜ TieCloses (now (book .entry)) (tieBy (t .key) (t .lower) (t .upper)) r ⌝ }
 {
-    if t.kind != KEY_PARENT {
+    if t.key != KEY_PARENT {
         return false;
     }
     ties::closes_circle(
@@ -245,10 +274,31 @@ pub fn closes(book: &[u64], t: Tie) -> bool
     )
 }
 
-// Holder h gets a tie up to the group of number g.
-fn put_up(book: &mut [u64], h: usize, g: usize)
+// What a tie is refused for, behind `+` or `-`; 0 for nothing. A line of a file adds its tie, as behind `+`.
+pub fn refusal(book: &[u64], t: Tie, plus: bool) -> u8
     requires { ⌜ length (now book) ≡ bookWords ⌝ }
-    ensures { λ _. ⌜ UpPut h g (now (book .entry)) (now (book .exit)) ⌝ }
+    ensures { λ r. ⌜ TieJudged (now (book .entry)) (tieBy (t .key) (t .lower) (t .upper)) plus r ⌝ }
+{
+    let standing = stands(book, t);
+    if plus {
+        if standing {
+            return REPEATED;
+        }
+        if closes(book, t) {
+            return CIRCULAR;
+        }
+        return 0;
+    }
+    if standing {
+        return 0;
+    }
+    NOT_STANDING
+}
+
+// Holder h gets or loses a tie up to the group of number g.
+fn change_up(book: &mut [u64], h: usize, g: usize, plus: bool)
+    requires { ⌜ length (now book) ≡ bookWords ⌝ }
+    ensures { λ _. ⌜ UpChanged h g plus (now (book .entry)) (now (book .exit)) ⌝ }
 {
     if h >= HOLDERS {
         return;
@@ -257,28 +307,13 @@ fn put_up(book: &mut [u64], h: usize, g: usize)
     if q >= SLOT_NUMBERS {
         return;
     }
-    ties::add_up(&mut book[UPS_AT..OWN_AT], h, q);
+    ties::change_up(&mut book[UPS_AT..OWN_AT], h, q, plus);
 }
 
-// Holder h loses it.
-fn take_up(book: &mut [u64], h: usize, g: usize)
+// Holder h gets or loses the pair p.
+fn change_value(book: &mut [u64], h: usize, p: usize, plus: bool)
     requires { ⌜ length (now book) ≡ bookWords ⌝ }
-    ensures { λ _. ⌜ UpTaken h g (now (book .entry)) (now (book .exit)) ⌝ }
-{
-    if h >= HOLDERS {
-        return;
-    }
-    let q = slot_of(book, g);
-    if q >= SLOT_NUMBERS {
-        return;
-    }
-    ties::take_up(&mut book[UPS_AT..OWN_AT], h, q);
-}
-
-// Holder h gets the pair p.
-fn put_value(book: &mut [u64], h: usize, p: usize)
-    requires { ⌜ length (now book) ≡ bookWords ⌝ }
-    ensures { λ _. ⌜ ValuePut h p (now (book .entry)) (now (book .exit)) ⌝ }
+    ensures { λ _. ⌜ ValueChanged h p plus (now (book .entry)) (now (book .exit)) ⌝ }
 {
     if h >= HOLDERS {
         return;
@@ -286,43 +321,17 @@ fn put_value(book: &mut [u64], h: usize, p: usize)
     if p >= PAIRS {
         return;
     }
-    ties::add_value(&mut book[OWN_AT..RULES_AT], h, p);
+    ties::change_value(&mut book[OWN_AT..RULES_AT], h, p, plus);
 }
 
-// Holder h loses it.
-fn take_value(book: &mut [u64], h: usize, p: usize)
+// One tie more or one less.
+pub fn change(book: &mut [u64], t: Tie, plus: bool)
     requires { ⌜ length (now book) ≡ bookWords ⌝ }
-    ensures { λ _. ⌜ ValueTaken h p (now (book .entry)) (now (book .exit)) ⌝ }
+    ensures { λ _. ⌜ TieChanged (tieBy (t .key) (t .lower) (t .upper)) plus (now (book .entry)) (now (book .exit)) ⌝ }
 {
-    if h >= HOLDERS {
-        return;
-    }
-    if p >= PAIRS {
-        return;
-    }
-    ties::take_value(&mut book[OWN_AT..RULES_AT], h, p);
-}
-
-// A tie more.
-pub fn put(book: &mut [u64], t: Tie)
-    requires { ⌜ length (now book) ≡ bookWords ⌝ }
-    ensures { λ _. ⌜ TiePut (tieBy (t .kind) (t .lower) (t .upper)) (now (book .entry)) (now (book .exit)) ⌝ }
-{
-    if t.kind == KEY_VALUE {
-        put_value(book, t.lower, t.upper);
+    if t.key == KEY_VALUE {
+        change_value(book, t.lower, t.upper, plus);
     } else {
-        put_up(book, t.lower, t.upper);
-    }
-}
-
-// A tie less.
-pub fn take(book: &mut [u64], t: Tie)
-    requires { ⌜ length (now book) ≡ bookWords ⌝ }
-    ensures { λ _. ⌜ TieTaken (tieBy (t .kind) (t .lower) (t .upper)) (now (book .entry)) (now (book .exit)) ⌝ }
-{
-    if t.kind == KEY_VALUE {
-        take_value(book, t.lower, t.upper);
-    } else {
-        take_up(book, t.lower, t.upper);
+        change_up(book, t.lower, t.upper, plus);
     }
 }

@@ -1,8 +1,8 @@
--- Arrays that keep ties keep them with one tie more and one less, and with a slot for a new group. Assumes nothing.
+-- Arrays that keep ties keep them with one tie more or less, and with a slot for a new group. Assumes nothing.
 use Prim.Native.Nat.{ℕ, _+_, _*_, _/_, _%_, _≤_, _<_}
 use mathlib.Core.Path.{_≡_, refl, sym, ap, ap₂, _∙_, subst}
-use mathlib.Core.Logic.{_⊎_, inl, inr, ⊎-elim}
-use mathlib.Core.Bool.{Bool, true, false, not, _&&_, _||_, or-false, and-true, and-false, true≢false}
+use mathlib.Core.Logic.{inl, inr}
+use mathlib.Core.Bool.{Bool, true, false, not, _&&_, _||_, or-false, and-false, true≢false}
 use mathlib.Core.List.{List}
 use mathlib.Core.Option.{some, Option·some-injective}
 use native.Mathlib.Decide.{ℕ-discrete}
@@ -11,40 +11,28 @@ use lib.Dec.{eqb, ltb}
 use lib.ListN.{getD, length, set, length-set}
 use lib.Seq.{getD-set-same, getD-set-other}
 use borrow.Author.Tests.{eq-eqb, eqb-true, ne-eqb}
+use Rattle.model.specs.Notation.{if_then_else_}
 use Rattle.model.specs.Declarations.{Declarations, Sort, parentSort, groupSort}
-use Rattle.model.specs.Ties.{Tie, Ties, noTies, parent, member, value, added, removed, up}
+use Rattle.model.specs.Ties.{Tie, sameTie, Ties, noTies, parent, member, value, up}
+use Rattle.model.specs.Edits.{editedTies}
 use Rattle.model.proofs.WordTables.{none-is-some}
 use Rattle.model.proofs.Options.{parts, both}
-use Rattle.model.proofs.Lists.{same-truth, or-cases, or-left, or-right}
-use Rattle.model.specs.Standing.{Standing}
+use Rattle.model.proofs.Lists.{same-truth}
+use Rattle.model.specs.Standing.{Standing, TieFits}
 use Rattle.bits.specs.Bits.{bit, holds, anyBelow}
 use Rattle.bits.specs.Bits
 use Rattle.bits.proofs.Sets.{member-stored, holds-member}
 use Rattle.bits.proofs.Bits.{bit-none}
-use Rattle.bits.proofs.Counts.{any-ext, any-at, any-find, find-any}
+use Rattle.bits.proofs.Counts.{any-ext, any-at, find-any}
 use Rattle.ties.specs.TieArrays.{inUse, tiedUp, Distinct, KeepsTies}
-use Rattle.ties.specs.TieEdits.{LeadsUp, AddedUp, TakenUp, AddedValue, TakenValue, SlotGiven}
+use Rattle.ties.specs.TieEdits.{LeadsUp, MaskChanged, OwnChanged, SlotGiven}
 use Rattle.ties.proofs.Masks.{in-use-lt, eqb-flip}
 
 -- ---- tests
 
-plus : Bool → Bool → Bool
-plus a b = a || b
-
-minus : Bool → Bool → Bool
-minus a b = a && not b
-
-not-on : (b : Bool) → (b ≡ true → ⊥) → not b ≡ true
-not-on true n = absurd (n refl)
-not-on false n = refl
-
-off-by : (b : Bool) → (b ≡ true → ⊥) → b ≡ false
+pub off-by : (b : Bool) → (b ≡ true → ⊥) → b ≡ false
 off-by true n = absurd (n refl)
 off-by false n = refl
-
-not-off : (b : Bool) → not b ≡ true → b ≡ true → ⊥
-not-off true n e = true≢false (sym n)
-not-off false n e = true≢false (sym e)
 
 flip-both : (a b c d : ℕ) → (eqb a b && eqb c d) ≡ (eqb b a && eqb d c)
 flip-both a b c d = ap₂ (λ (x y : Bool). x && y) (eqb-flip a b) (eqb-flip c d)
@@ -66,65 +54,62 @@ pair-test k r h p l m = same-truth (eqb (256 * k + r) (256 * h + p)) (eqb k h &&
 
 -- ---- a word that is stored anew
 
--- f is `or`, or `and not`
-module _ (f : Bool → Bool → Bool) (same : (b : Bool) → f b false ≡ b) where
-  tied-set : (ups : List ℕ) (h q v : ℕ) → h < length ups → ((j : ℕ) → bit v j ≡ f (bit (getD ups h 0) j) (eqb j q)) → (k r : ℕ)
-      → tiedUp (set ups h v) k r ≡ f (tiedUp ups k r) (eqb k h && eqb r q)
+module _ (plus : Bool) where
+  tied-set : (ups : List ℕ) (h q v : ℕ) → h < length ups → ((j : ℕ) → bit v j ≡ (if eqb j q then plus else bit (getD ups h 0) j)) → (k r : ℕ)
+      → tiedUp (set ups h v) k r ≡ (if eqb k h && eqb r q then plus else tiedUp ups k r)
   unfolding tiedUp
   tied-set ups h q v few one k r = go (ℕ-discrete k h)
     where
-      go : Dec (k ≡ h) → bit (getD (set ups h v) k 0) r ≡ f (bit (getD ups k 0) r) (eqb k h && eqb r q)
+      go : Dec (k ≡ h) → bit (getD (set ups h v) k 0) r ≡ (if eqb k h && eqb r q then plus else bit (getD ups k 0) r)
       go (yes e) =
           ap (λ (i : ℕ). bit (getD (set ups h v) i 0) r) e ∙ ap (λ (w : ℕ). bit w r) (getD-set-same ups h v 0 few) ∙ one r
-          ∙ ap₂ (λ (i : ℕ) (b : Bool). f (bit (getD ups i 0) r) (b && eqb r q)) (sym e) (sym (eq-eqb k h e))
+          ∙ ap₂ (λ (i : ℕ) (b : Bool). if b && eqb r q then plus else bit (getD ups i 0) r) (sym e) (sym (eq-eqb k h e))
       go (no n) =
           ap (λ (w : ℕ). bit w r) (getD-set-other ups h k v 0 n)
-          ∙ sym (ap (λ (b : Bool). f (bit (getD ups k 0) r) (b && eqb r q)) (ne-eqb k h n) ∙ same (bit (getD ups k 0) r))
+          ∙ sym (ap (λ (b : Bool). if b && eqb r q then plus else bit (getD ups k 0) r) (ne-eqb k h n))
 
-  holds-set : (own : List ℕ) (h p v : ℕ) → 4 * h + 4 ≤ length own → p < 256 → ((j : ℕ) → bit v j ≡ f (bit (getD own (4 * h + p / 64) 0) j) (eqb j (p % 64)))
-      → (k r : ℕ) → r < 256 → holds (set own (4 * h + p / 64) v) k r ≡ f (holds own k r) (eqb k h && eqb r p)
+  holds-set : (own : List ℕ) (h p v : ℕ) → 4 * h + 4 ≤ length own → p < 256
+      → ((j : ℕ) → bit v j ≡ (if eqb j (p % 64) then plus else bit (getD own (4 * h + p / 64) 0) j))
+      → (k r : ℕ) → r < 256 → holds (set own (4 * h + p / 64) v) k r ≡ (if eqb k h && eqb r p then plus else holds own k r)
   holds-set own h p v few low one k r l =
       let d : 4 * h + p / 64 ≡ (256 * h + p) / 64 = omega arith in
       let e : p % 64 ≡ (256 * h + p) % 64 = omega arith in
       sym (holds-member (set own (4 * h + p / 64) v) k r l)
       ∙ ap (λ (i : ℕ). Bits.member (set own i v) (256 * k + r)) d
-      ∙ member-stored own (256 * h + p) v (omega arith) f same (λ j. one j ∙ ap₂ (λ (x y : ℕ). f (bit (getD own x 0) j) (eqb j y)) d e) (256 * k + r)
-      (ℕ-discrete ((256 * k + r) / 64) ((256 * h + p) / 64))
-      ∙ ap₂ f (holds-member own k r l) (pair-test k r h p l low)
+      ∙ member-stored own (256 * h + p) v (omega arith) (λ a b. if b then plus else a) (λ b. refl)
+      (λ j. one j ∙ ap₂ (λ (x y : ℕ). if eqb j y then plus else bit (getD own x 0) j) d e) (256 * k + r) (ℕ-discrete ((256 * k + r) / 64) ((256 * h + p) / 64))
+      ∙ ap₂ (λ (a b : Bool). if b then plus else a) (holds-member own k r l) (pair-test k r h p l low)
 
--- ---- ties up, with one more and one less
+-- ---- ties with one more or less
 
-more-up : (x a b : Bool) → (x || a || b) ≡ (a || b || x)
-more-up true true b = refl
-more-up true false true = refl
-more-up true false false = refl
-more-up false a b = sym (or-false (a || b))
+-- by each tie
+edited-at : (plus : Bool) (t : Tie) (T : Ties) (u : Tie) → editedTies plus (some t) T u ≡ (if sameTie t u then plus else T u)
+edited-at true t T u = go (sameTie t u)
+  where
+    go : (b : Bool) → (b || T u) ≡ (if b then true else T u)
+    go true = refl
+    go false = refl
+edited-at false t T u = go (sameTie t u)
+  where
+    go : (b : Bool) → (not b && T u) ≡ (if b then false else T u)
+    go true = refl
+    go false = refl
 
-less-up : (x a b : Bool) → (x ≡ true → b ≡ false) → (not x && a || b) ≡ ((a || b) && not x)
-less-up true a b n = n refl ∙ sym (and-false (a || b))
-less-up false a b n = sym (and-true (a || b))
+-- where one of two is put, and a cleared one is not made up for by the other
+put-left : (x a b plus : Bool) → (plus ≡ false → x ≡ true → b ≡ false) → ((if x then plus else a) || b) ≡ (if x then plus else (a || b))
+put-left true a b true n = refl
+put-left true a b false n = n refl refl
+put-left false a b plus n = refl
 
-more-up-right : (x a b : Bool) → (a || (x || b)) ≡ (a || b || x)
-more-up-right x true b = refl
-more-up-right true false true = refl
-more-up-right true false false = refl
-more-up-right false false b = sym (or-false b)
-
-less-up-right : (x a b : Bool) → (x ≡ true → a ≡ false) → (a || not x && b) ≡ ((a || b) && not x)
-less-up-right true a b n = or-false a ∙ n refl ∙ sym (and-false (a || b))
-less-up-right false a b n = sym (and-true (a || b))
-
-up-added : (t : Tie) (h g : ℕ) → LeadsUp t h g → (T : Ties) (k m : ℕ) → up (added t T) k m ≡ (up T k m || eqb k h && eqb m g)
-up-added t h g (inl e) T k m =
-    ap (λ (t : Tie). up (added t T) k m) e ∙ more-up (eqb h k && eqb g m) (T (parent k m)) (T (member k m)) ∙ ap (λ (b : Bool). up T k m || b) (flip-both h k g m)
-up-added t h g (inr e) T k m =
-    ap (λ (t : Tie). up (added t T) k m) e ∙ more-up-right (eqb h k && eqb g m) (T (parent k m)) (T (member k m)) ∙ ap (λ (b : Bool). up T k m || b) (flip-both h k g m)
+put-right : (x a b plus : Bool) → (plus ≡ false → x ≡ true → a ≡ false) → (a || (if x then plus else b)) ≡ (if x then plus else (a || b))
+put-right true true b true n = refl
+put-right true false b true n = refl
+put-right true a b false n = or-false a ∙ n refl refl
+put-right false a b plus n = refl
 
 -- a group has parents, and a user or object is a member: no holder has both ties up to one group
-one-kind : (D : Declarations) (T : Ties) → Standing (record { declared = D; ties = T }) → (h g : ℕ) → T (parent h g) ≡ true → T (member h g) ≡ true → ⊥
-one-kind D T standing h g a b =
-    let x = standing .ties-fit (parent h g) a in
-    let y = standing .ties-fit (member h g) b in
+pub one-kind : (D : Declarations) (h g : ℕ) → TieFits D (parent h g) → TieFits D (member h g) → ⊥
+one-kind D h g x y =
     go (x .lower-sort) (x .upper-sort) (y .upper-sort) (x .one-above) (ap groupSort (Option·some-injective _ _ (sym (x .lower-is) ∙ y .lower-is)) ∙ y .one-above)
   where
     go : (s u v : Sort) → parentSort s ≡ some u → groupSort s ≡ some v → ⊥
@@ -134,146 +119,111 @@ one-kind D T standing h g a b =
     go Sort.user u v p q = none-is-some p
     go Sort.object u v p q = none-is-some p
 
-up-removed : (D : Declarations) (T : Ties) → Standing (record { declared = D; ties = T }) → (t : Tie) (h g : ℕ) → T t ≡ true → LeadsUp t h g
-    → (k m : ℕ) → up (removed t T) k m ≡ (up T k m && not (eqb k h && eqb m g))
-up-removed D T standing t h g on (inl e) k m =
-    ap (λ (t : Tie). up (removed t T) k m) e
-    ∙ less-up (eqb h k && eqb g m) (T (parent k m)) (T (member k m)) (λ x.
-    let s = parts (eqb h k) (eqb g m) x in
-    off-by (T (member k m)) (λ b. one-kind D T standing k m (ap T (ap₂ parent (sym (eqb-true h k (s .0))) (sym (eqb-true g m (s .1))) ∙ sym e) ∙ on) b))
-    ∙ ap (λ (b : Bool). up T k m && not b) (flip-both h k g m)
-up-removed D T standing t h g on (inr e) k m =
-    ap (λ (t : Tie). up (removed t T) k m) e
-    ∙ less-up-right (eqb h k && eqb g m) (T (parent k m)) (T (member k m)) (λ x.
-    let s = parts (eqb h k) (eqb g m) x in
-    off-by (T (parent k m)) (λ b. one-kind D T standing k m b (ap T (ap₂ member (sym (eqb-true h k (s .0))) (sym (eqb-true g m (s .1))) ∙ sym e) ∙ on)))
-    ∙ ap (λ (b : Bool). up T k m && not b) (flip-both h k g m)
+module _ (plus : Bool) (t : Tie) (h g : ℕ) where
+  up-edited : (D : Declarations) (T : Ties) → Standing (record { declared = D; ties = T }) → T t ≡ not plus → LeadsUp t h g
+      → (k m : ℕ) → up (editedTies plus (some t) T) k m ≡ (if eqb k h && eqb m g then plus else up T k m)
+  up-edited D T standing on leads k m = go leads ∙ ap (λ (b : Bool). if b then plus else up T k m) (flip-both h k g m)
+    where
+      -- a tie that is taken stands
+      stood : (line : ℕ → ℕ → Tie) → t ≡ line h g → plus ≡ false → (eqb h k && eqb g m) ≡ true → T (line k m) ≡ true
+      stood line e p x =
+          let s = parts (eqb h k) (eqb g m) x in
+          ap T (ap₂ line (sym (eqb-true h k (s .0))) (sym (eqb-true g m (s .1))) ∙ sym e) ∙ on ∙ ap not p
 
--- a tie of a pair is no tie up, and a tie up is no tie of a pair
-value-added : (t : Tie) (h g : ℕ) → LeadsUp t h g → (T : Ties) (k p : ℕ) → added t T (value k p) ≡ T (value k p)
-value-added t h g (inl e) T k p = ap (λ (t : Tie). added t T (value k p)) e
-value-added t h g (inr e) T k p = ap (λ (t : Tie). added t T (value k p)) e
+      go : LeadsUp t h g → up (editedTies plus (some t) T) k m ≡ (if eqb h k && eqb g m then plus else up T k m)
+      go (inl e) =
+          ap (λ (t : Tie). up (editedTies plus (some t) T) k m) e
+          ∙ ap₂ (λ (a b : Bool). a || b) (edited-at plus (parent h g) T (parent k m)) (edited-at plus (parent h g) T (member k m))
+          ∙ put-left (eqb h k && eqb g m) (T (parent k m)) (T (member k m)) plus
+          (λ p x. off-by (T (member k m)) (λ b. one-kind D k m (standing .ties-fit (parent k m) (stood parent e p x)) (standing .ties-fit (member k m) b)))
+      go (inr e) =
+          ap (λ (t : Tie). up (editedTies plus (some t) T) k m) e
+          ∙ ap₂ (λ (a b : Bool). a || b) (edited-at plus (member h g) T (parent k m)) (edited-at plus (member h g) T (member k m))
+          ∙ put-right (eqb h k && eqb g m) (T (parent k m)) (T (member k m)) plus
+          (λ p x. off-by (T (parent k m)) (λ a. one-kind D k m (standing .ties-fit (parent k m) a) (standing .ties-fit (member k m) (stood member e p x))))
 
-value-removed : (t : Tie) (h g : ℕ) → LeadsUp t h g → (T : Ties) (k p : ℕ) → removed t T (value k p) ≡ T (value k p)
-value-removed t h g (inl e) T k p = ap (λ (t : Tie). removed t T (value k p)) e
-value-removed t h g (inr e) T k p = ap (λ (t : Tie). removed t T (value k p)) e
+  -- a tie up is no tie of a pair
+  value-edited : LeadsUp t h g → (T : Ties) (k p : ℕ) → editedTies plus (some t) T (value k p) ≡ T (value k p)
+  value-edited (inl e) T k p = ap (λ (t : Tie). editedTies plus (some t) T (value k p)) e ∙ edited-at plus (parent h g) T (value k p)
+  value-edited (inr e) T k p = ap (λ (t : Tie). editedTies plus (some t) T (value k p)) e ∙ edited-at plus (member h g) T (value k p)
 
 -- ---- the arrays
 
-module _ (ups : List ℕ) (h q : ℕ) (ups′ : List ℕ) (long : length ups′ ≡ length ups) where
-  module _ (bits : (k r : ℕ) → tiedUp ups′ k r ≡ (tiedUp ups k r || eqb k h && eqb r q)) (own slots : List ℕ) (T : Ties) (t : Tie) (kept : KeepsTies ups own slots T)
-      (low : q < 64) (live : inUse (length ups) slots q ≡ true) (leads : LeadsUp t h (getD slots q 0)) where
-    groups-more : (k g : ℕ) → anyBelow 64 (λ r. tiedUp ups′ k r && eqb (getD slots r 0) g) ≡ (anyBelow 64 (λ r. tiedUp ups k r && eqb (getD slots r 0) g) || eqb k h && eqb g (getD slots q 0))
-    groups-more k g = same-truth (anyBelow 64 new) (anyBelow 64 old || eqb k h && eqb g (getD slots q 0))
-        (λ e.
-        let r = any-find 64 new e in
-        let s = parts (tiedUp ups′ k (r .0)) (eqb (getD slots (r .0) 0) g) (r .2) in
-        ⊎-elim (λ y. or-left (anyBelow 64 old) (eqb k h && eqb g (getD slots q 0)) (find-any 64 old (r .0) (r .1) (both y (s .1))))
-        (λ y.
-        let z = parts (eqb k h) (eqb (r .0) q) y in
-        or-right (anyBelow 64 old) (eqb k h && eqb g (getD slots q 0))
-        (both (z .0) (eq-eqb g (getD slots q 0) (sym (eqb-true (getD slots (r .0) 0) g (s .1)) ∙ ap (λ (i : ℕ). getD slots i 0) (eqb-true (r .0) q (z .1))))))
-        (or-cases (tiedUp ups k (r .0)) (eqb k h && eqb (r .0) q) (sym (bits k (r .0)) ∙ s .0)))
-        (λ e. ⊎-elim
-        (λ y.
-        let r = any-find 64 old y in
-        let s = parts (tiedUp ups k (r .0)) (eqb (getD slots (r .0) 0) g) (r .2) in
-        find-any 64 new (r .0) (r .1) (both (bits k (r .0) ∙ or-left (tiedUp ups k (r .0)) (eqb k h && eqb (r .0) q) (s .0)) (s .1)))
-        (λ y.
-        let z = parts (eqb k h) (eqb g (getD slots q 0)) y in
-        find-any 64 new q low
-        (both (bits k q ∙ or-right (tiedUp ups k q) (eqb k h && eqb q q) (both (z .0) (eq-eqb q q refl))) (eq-eqb (getD slots q 0) g (sym (eqb-true g (getD slots q 0) (z .1))))))
-        (or-cases (anyBelow 64 old) (eqb k h && eqb g (getD slots q 0)) e))
-      where
-        new : ℕ → Bool
-        new r = tiedUp ups′ k r && eqb (getD slots r 0) g
-
-        old : ℕ → Bool
-        old r = tiedUp ups k r && eqb (getD slots r 0) g
-
-    used-more : (k r : ℕ) → k < length ups → r < 64 → tiedUp ups′ k r ≡ true → inUse (length ups) slots r ≡ true
-    used-more k r few l e = ⊎-elim (kept .used k r few l) (λ y. ap (inUse (length ups) slots) (eqb-true r q (parts (eqb k h) (eqb r q) y .1)) ∙ live)
-        (or-cases (tiedUp ups k r) (eqb k h && eqb r q) (sym (bits k r) ∙ e))
-
-    pub keeps-more : KeepsTies ups′ own slots (added t T)
-    keeps-more = record {
-      pairs = λ k p few l. kept .pairs k p (omega arith) l ∙ sym (value-added t h (getD slots q 0) leads T k p);
-      groups = λ k g few. up-added t h (getD slots q 0) leads T k g ∙ ap (λ (b : Bool). b || eqb k h && eqb g (getD slots q 0)) (kept .groups k g (omega arith)) ∙ sym (groups-more k g);
-      used = λ k r few l e. ap (λ (n : ℕ). inUse n slots r) long ∙ used-more k r (omega arith) l e;
-      distinct = subst (λ (n : ℕ). Distinct n slots) (sym long) (kept .distinct);
-    }
-
-  module _ (bits : (k r : ℕ) → tiedUp ups′ k r ≡ (tiedUp ups k r && not (eqb k h && eqb r q))) (own slots : List ℕ) (D : Declarations) (T : Ties) (t : Tie)
-      (standing : Standing (record { declared = D; ties = T })) (kept : KeepsTies ups own slots T) (low : q < 64) (live : inUse (length ups) slots q ≡ true) (on : T t ≡ true)
-      (leads : LeadsUp t h (getD slots q 0)) where
-    -- the slots are distinct: no other one has the group that is left
-    groups-less : (k g : ℕ) → anyBelow 64 (λ r. tiedUp ups′ k r && eqb (getD slots r 0) g) ≡ (anyBelow 64 (λ r. tiedUp ups k r && eqb (getD slots r 0) g) && not (eqb k h && eqb g (getD slots q 0)))
-    unfolding Distinct
-    groups-less k g = same-truth (anyBelow 64 new) (anyBelow 64 old && not (eqb k h && eqb g (getD slots q 0)))
-        (λ e.
-        let r = any-find 64 new e in
-        let s = parts (tiedUp ups′ k (r .0)) (eqb (getD slots (r .0) 0) g) (r .2) in
-        let y = parts (tiedUp ups k (r .0)) (not (eqb k h && eqb (r .0) q)) (sym (bits k (r .0)) ∙ s .0) in
-        both (find-any 64 old (r .0) (r .1) (both (y .0) (s .1)))
-        (not-on (eqb k h && eqb g (getD slots q 0)) (λ x.
-        let z = parts (eqb k h) (eqb g (getD slots q 0)) x in
-        not-off (eqb k h && eqb (r .0) q) (y .1)
-        (both (z .0) (eq-eqb (r .0) q (kept .distinct q (r .0) low (r .1) live (eqb-true (getD slots (r .0) 0) g (s .1) ∙ eqb-true g (getD slots q 0) (z .1))))))))
-        (λ e.
-        let y = parts (anyBelow 64 old) (not (eqb k h && eqb g (getD slots q 0))) e in
-        let r = any-find 64 old (y .0) in
-        let s = parts (tiedUp ups k (r .0)) (eqb (getD slots (r .0) 0) g) (r .2) in
-        find-any 64 new (r .0) (r .1) (both (bits k (r .0) ∙ both (s .0)
-        (not-on (eqb k h && eqb (r .0) q) (λ x.
-        let z = parts (eqb k h) (eqb (r .0) q) x in
-        not-off (eqb k h && eqb g (getD slots q 0)) (y .1)
-        (both (z .0) (eq-eqb g (getD slots q 0) (sym (eqb-true (getD slots (r .0) 0) g (s .1)) ∙ ap (λ (i : ℕ). getD slots i 0) (eqb-true (r .0) q (z .1)))))))) (s .1)))
-      where
-        new : ℕ → Bool
-        new r = tiedUp ups′ k r && eqb (getD slots r 0) g
-
-        old : ℕ → Bool
-        old r = tiedUp ups k r && eqb (getD slots r 0) g
-
-    pub keeps-less : KeepsTies ups′ own slots (removed t T)
-    keeps-less = record {
-      pairs = λ k p few l. kept .pairs k p (omega arith) l ∙ sym (value-removed t h (getD slots q 0) leads T k p);
-      groups = λ k g few. up-removed D T standing t h (getD slots q 0) on leads k g ∙ ap (λ (b : Bool). b && not (eqb k h && eqb g (getD slots q 0))) (kept .groups k g (omega arith)) ∙ sym (groups-less k g);
-      used = λ k r few l e. ap (λ (n : ℕ). inUse n slots r) long ∙ kept .used k r (omega arith) l (parts (tiedUp ups k r) (not (eqb k h && eqb r q)) (sym (bits k r) ∙ e) .0);
-      distinct = subst (λ (n : ℕ). Distinct n slots) (sym long) (kept .distinct);
-    }
-
--- pairs of the holder h
-module _ (own : List ℕ) (h p : ℕ) (own′ : List ℕ) (ups slots : List ℕ) (T : Ties) (kept : KeepsTies ups own slots T) where
-  pub keeps-value-more : ((k r : ℕ) → r < 256 → holds own′ k r ≡ (holds own k r || eqb k h && eqb r p)) → KeepsTies ups own′ slots (added (value h p) T)
-  keeps-value-more bits = record {
-    pairs = λ k r few l.
-        bits k r l ∙ ap₂ (λ (a b : Bool). a || b) (kept .pairs k r few l) (flip-both k h r p) ∙ swap (T (value k r)) (eqb h k && eqb p r);
-    groups = kept .groups;
-    used = kept .used;
-    distinct = kept .distinct;
-  }
+-- a tie of the holder h up to the group of slot q
+module _ (ups : List ℕ) (h q : ℕ) (plus : Bool) (ups′ : List ℕ) (long : length ups′ ≡ length ups)
+    (bits : (k r : ℕ) → tiedUp ups′ k r ≡ (if eqb k h && eqb r q then plus else tiedUp ups k r)) (own slots : List ℕ) (D : Declarations) (T : Ties) (t : Tie)
+    (standing : Standing (record { declared = D; ties = T })) (kept : KeepsTies ups own slots T) (low : q < 64) (live : inUse (length ups) slots q ≡ true)
+    (on : T t ≡ not plus) (leads : LeadsUp t h (getD slots q 0)) where
+  -- the slots are distinct: no other one has the group
+  groups-edited : (k g : ℕ) → anyBelow 64 (λ r. tiedUp ups′ k r && eqb (getD slots r 0) g)
+      ≡ (if eqb k h && eqb g (getD slots q 0) then plus else anyBelow 64 (λ r. tiedUp ups k r && eqb (getD slots r 0) g))
+  unfolding Distinct
+  groups-edited k g = go (eqb k h && eqb g (getD slots q 0)) refl
     where
-      swap : (a b : Bool) → (a || b) ≡ (b || a)
-      swap true true = refl
-      swap true false = refl
-      swap false true = refl
-      swap false false = refl
+      new : ℕ → Bool
+      new r = tiedUp ups′ k r && eqb (getD slots r 0) g
 
-  pub keeps-value-less : ((k r : ℕ) → r < 256 → holds own′ k r ≡ (holds own k r && not (eqb k h && eqb r p))) → KeepsTies ups own′ slots (removed (value h p) T)
-  keeps-value-less bits = record {
-    pairs = λ k r few l.
-        bits k r l ∙ ap₂ (λ (a b : Bool). a && not b) (kept .pairs k r few l) (flip-both k h r p) ∙ swap (T (value k r)) (not (eqb h k && eqb p r));
-    groups = kept .groups;
-    used = kept .used;
-    distinct = kept .distinct;
-  }
+      old : ℕ → Bool
+      old r = tiedUp ups k r && eqb (getD slots r 0) g
+
+      there : (x b : Bool) → ((if x then plus else b) && x) ≡ (plus && x)
+      there true b = refl
+      there false b = and-false b ∙ sym (and-false plus)
+
+      at-slot : (eqb k h && eqb g (getD slots q 0)) ≡ true → (r : ℕ) → r < 64 → new r ≡ (plus && eqb r q)
+      at-slot e r l =
+          let z = parts (eqb k h) (eqb g (getD slots q 0)) e in
+          let group = eqb-true g (getD slots q 0) (z .1) in
+          let same : eqb (getD slots r 0) g ≡ eqb r q = same-truth (eqb (getD slots r 0) g) (eqb r q)
+          (λ x. eq-eqb r q (kept .distinct q r low l live (eqb-true (getD slots r 0) g x ∙ group)))
+          (λ x. eq-eqb (getD slots r 0) g (ap (λ (i : ℕ). getD slots i 0) (eqb-true r q x) ∙ sym group)) in
+          ap₂ (λ (a b : Bool). a && b) (bits k r ∙ ap (λ (b : Bool). if b && eqb r q then plus else tiedUp ups k r) (z .0)) same ∙ there (eqb r q) (tiedUp ups k r)
+
+      one-slot : (b : Bool) → anyBelow 64 (λ r. b && eqb r q) ≡ b
+      one-slot true = find-any 64 (λ r. eqb r q) q low (eq-eqb q q refl)
+      one-slot false = any-at 64 (λ r. false) (λ r l. refl)
+
+      elsewhere : (eqb k h && eqb g (getD slots q 0)) ≡ false → (r : ℕ) (b : Bool) → (eqb k h && eqb r q) ≡ b → tiedUp ups′ k r ≡ (if b then plus else tiedUp ups k r)
+          → new r ≡ old r
+      elsewhere e r false y is = ap (λ (a : Bool). a && eqb (getD slots r 0) g) is
+      elsewhere e r true y is =
+          let z = parts (eqb k h) (eqb r q) y in
+          let other : eqb (getD slots r 0) g ≡ false = off-by (eqb (getD slots r 0) g) (λ x.
+          true≢false (sym (both (z .0) (eq-eqb g (getD slots q 0) (sym (eqb-true (getD slots r 0) g x) ∙ ap (λ (i : ℕ). getD slots i 0) (eqb-true r q (z .1))))) ∙ e)) in
+          ap (λ (a : Bool). tiedUp ups′ k r && a) other ∙ and-false (tiedUp ups′ k r)
+          ∙ sym (ap (λ (a : Bool). tiedUp ups k r && a) other ∙ and-false (tiedUp ups k r))
+
+      go : (b : Bool) → (eqb k h && eqb g (getD slots q 0)) ≡ b → anyBelow 64 new ≡ (if b then plus else anyBelow 64 old)
+      go true e = any-ext 64 new (λ r. plus && eqb r q) (at-slot e) ∙ one-slot plus
+      go false e = any-ext 64 new old (λ r l. elsewhere e r (eqb k h && eqb r q) refl (bits k r))
+
+  used-edited : (k r : ℕ) → k < length ups → r < 64 → tiedUp ups′ k r ≡ true → inUse (length ups) slots r ≡ true
+  used-edited k r few l e = go (eqb k h && eqb r q) refl (sym (bits k r) ∙ e)
     where
-      swap : (a b : Bool) → (a && b) ≡ (b && a)
-      swap true true = refl
-      swap true false = refl
-      swap false true = refl
-      swap false false = refl
+      go : (b : Bool) → (eqb k h && eqb r q) ≡ b → (if b then plus else tiedUp ups k r) ≡ true → inUse (length ups) slots r ≡ true
+      go true y x = ap (inUse (length ups) slots) (eqb-true r q (parts (eqb k h) (eqb r q) y .1)) ∙ live
+      go false y x = kept .used k r few l x
+
+  keeps-up : KeepsTies ups′ own slots (editedTies plus (some t) T)
+  keeps-up = record {
+    pairs = λ k p few l. kept .pairs k p (omega arith) l ∙ sym (value-edited plus t h (getD slots q 0) leads T k p);
+    groups = λ k g few.
+        up-edited plus t h (getD slots q 0) D T standing on leads k g
+        ∙ ap (λ (b : Bool). if eqb k h && eqb g (getD slots q 0) then plus else b) (kept .groups k g (omega arith)) ∙ sym (groups-edited k g);
+    used = λ k r few l e. ap (λ (n : ℕ). inUse n slots r) long ∙ used-edited k r (omega arith) l e;
+    distinct = subst (λ (n : ℕ). Distinct n slots) (sym long) (kept .distinct);
+  }
+
+-- a pair of the holder h
+keeps-value : (own : List ℕ) (h p : ℕ) (plus : Bool) (own′ : List ℕ) → ((k r : ℕ) → r < 256 → holds own′ k r ≡ (if eqb k h && eqb r p then plus else holds own k r))
+    → (ups slots : List ℕ) (T : Ties) → KeepsTies ups own slots T → KeepsTies ups own′ slots (editedTies plus (some (value h p)) T)
+keeps-value own h p plus own′ bits ups slots T kept = record {
+  pairs = λ k r few l.
+      bits k r l ∙ ap₂ (λ (a b : Bool). if b then plus else a) (kept .pairs k r few l) (flip-both k h r p) ∙ sym (edited-at plus (value h p) T (value k r));
+  groups = λ k g few. ap₂ (λ (a b : Bool). a || b) (edited-at plus (value h p) T (parent k g)) (edited-at plus (value h p) T (member k g)) ∙ kept .groups k g few;
+  used = kept .used;
+  distinct = kept .distinct;
+}
 
 -- a slot for the holder number k
 module _ (slots : List ℕ) (q v : ℕ) (within : q < length slots) (ups own : List ℕ) (T : Ties) (kept : KeepsTies ups own slots T)
@@ -333,34 +283,21 @@ keeps-none ups own slots no-ups no-own no-slots = record {
 
 -- ---- what the functions do
 
-module _ (ups : List ℕ) (h q v : ℕ) (few : h < length ups) (low : q < 64) where
-  pub added-up : ((j : ℕ) → bit v j ≡ (bit (getD ups h 0) j || eqb j q)) → AddedUp ups h q (set ups h v)
-  unfolding plus
-  added-up one =
-      let words = tied-set plus or-false ups h q v few one in
-      record { bits = words; keeps = λ own slots T t kept live leads. keeps-more ups h q (set ups h v) (simp length-set) words own slots T t kept low live leads }
+pub up-changed : (ups : List ℕ) (h q v : ℕ) (plus : Bool) → h < length ups → q < 64 → ((j : ℕ) → bit v j ≡ (if eqb j q then plus else bit (getD ups h 0) j))
+    → MaskChanged ups h q plus (set ups h v)
+up-changed ups h q v plus few low one =
+    let words = tied-set plus ups h q v few one in
+    record {
+      bits = words;
+      keeps = λ own slots D T t standing kept live on leads.
+          keeps-up ups h q plus (set ups h v) (simp length-set) words own slots D T t standing kept low live on leads;
+    }
 
-  pub taken-up : ((j : ℕ) → bit v j ≡ (bit (getD ups h 0) j && not (eqb j q))) → TakenUp ups h q (set ups h v)
-  unfolding minus
-  taken-up one =
-      let words = tied-set minus and-true ups h q v few one in
-      record {
-        bits = words;
-        keeps = λ own slots D T t standing kept live on leads. keeps-less ups h q (set ups h v) (simp length-set) words own slots D T t standing kept low live on leads;
-      }
-
-module _ (own : List ℕ) (h p v : ℕ) (few : 4 * h + 4 ≤ length own) (low : p < 256) where
-  pub added-value : ((j : ℕ) → bit v j ≡ (bit (getD own (4 * h + p / 64) 0) j || eqb j (p % 64))) → AddedValue own h p (set own (4 * h + p / 64) v)
-  unfolding plus
-  added-value one =
-      let words = holds-set plus or-false own h p v few low one in
-      record { bits = words; keeps = λ ups slots T kept. keeps-value-more own h p (set own (4 * h + p / 64) v) ups slots T kept words }
-
-  pub taken-value : ((j : ℕ) → bit v j ≡ (bit (getD own (4 * h + p / 64) 0) j && not (eqb j (p % 64)))) → TakenValue own h p (set own (4 * h + p / 64) v)
-  unfolding minus
-  taken-value one =
-      let words = holds-set minus and-true own h p v few low one in
-      record { bits = words; keeps = λ ups slots T kept. keeps-value-less own h p (set own (4 * h + p / 64) v) ups slots T kept words }
+pub value-changed : (own : List ℕ) (h p v : ℕ) (plus : Bool) → 4 * h + 4 ≤ length own → p < 256
+    → ((j : ℕ) → bit v j ≡ (if eqb j (p % 64) then plus else bit (getD own (4 * h + p / 64) 0) j)) → OwnChanged own h p plus (set own (4 * h + p / 64) v)
+value-changed own h p v plus few low one =
+    let words = holds-set plus own h p v few low one in
+    record { bits = words; keeps = keeps-value own h p plus (set own (4 * h + p / 64) v) words }
 
 pub slot-given : (slots : List ℕ) (q k : ℕ) → q < length slots → SlotGiven slots q k (set slots q k)
 slot-given slots q k within = record { words = refl; keeps = λ ups own T kept free new. keeps-slot slots q k within ups own T kept free new }

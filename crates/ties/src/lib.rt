@@ -7,20 +7,14 @@ ghost use lib.ListN.{length, getD};
 ghost use Rattle.model.specs.Limits.{groupLimit, pairLimit};
 ghost use Rattle.bits.specs.Bits.{bit, member, anyBelow};
 ghost use Rattle.ties.specs.TieArrays.{inUse, meets, hasSlot, groupOf, under, HasNumbered, AddsNumbered, Marks, Widened, LeadsTo, ClosesCircle};
-ghost use Rattle.ties.specs.TieEdits.{AddedUp, TakenUp, AddedValue, TakenValue, SlotGiven};
-
-fn wide(s: u64) -> usize
-    ensures { λ r. ⌜ r ≡ s ⌝ }
-{
-    s as usize
-}
+ghost use Rattle.ties.specs.TieEdits.{MaskChanged, OwnChanged, SlotGiven};
 
 // The holder number of slot q.
 pub fn holder_at(slots: &[u64], q: usize) -> usize
     requires { ⌜ q < length (now slots) ⌝ }
     ensures { λ r. ⌜ r ≡ getD (now (slots .entry)) q 0 ⌝ }
 {
-    wide(slots[q])
+    codes::word_to_index(slots[q])
 }
 
 // Whether slot q is in use, among n holders.
@@ -258,45 +252,24 @@ pub fn closes_circle(ups: &[u64], slots: &[u64], child: usize, group: usize) -> 
     leads_up(ups, slots, group, child)
 }
 
-// Holder h gets a tie up to the group of slot q.
-pub fn add_up(ups: &mut [u64], h: usize, q: usize)
+// Holder h gets or loses a tie up to the group of slot q.
+pub fn change_up(ups: &mut [u64], h: usize, q: usize, plus: bool)
     requires { ⌜ (h < length (now ups)) × (q < groupLimit) ⌝ }
-    ensures { λ _. ⌜ AddedUp (now (ups .entry)) h q (now (ups .exit)) ⌝ }
+    ensures { λ _. ⌜ MaskChanged (now (ups .entry)) h q plus (now (ups .exit)) ⌝ }
 {
     let word = ups[h];
-    let next = bits::with(word, q);
+    let next = bits::put(word, q, plus);
     ups[h] = next;
 }
 
-// Holder h loses its tie up to the group of slot q.
-pub fn take_up(ups: &mut [u64], h: usize, q: usize)
-    requires { ⌜ (h < length (now ups)) × (q < groupLimit) ⌝ }
-    ensures { λ _. ⌜ TakenUp (now (ups .entry)) h q (now (ups .exit)) ⌝ }
-{
-    let word = ups[h];
-    let next = bits::without(word, q);
-    ups[h] = next;
-}
-
-// Holder h gets the pair p.
-pub fn add_value(own: &mut [u64], h: usize, p: usize)
+// Holder h gets or loses the pair p.
+pub fn change_value(own: &mut [u64], h: usize, p: usize, plus: bool)
     requires { ⌜ (4 * h + 4 ≤ length (now own)) × (p < pairLimit) ⌝ }
-    ensures { λ _. ⌜ AddedValue (now (own .entry)) h p (now (own .exit)) ⌝ }
+    ensures { λ _. ⌜ OwnChanged (now (own .entry)) h p plus (now (own .exit)) ⌝ }
 {
     let at = 4 * h + p / 64;
     let word = own[at];
-    let next = bits::with(word, p % 64);
-    own[at] = next;
-}
-
-// Holder h loses the pair p.
-pub fn take_value(own: &mut [u64], h: usize, p: usize)
-    requires { ⌜ (4 * h + 4 ≤ length (now own)) × (p < pairLimit) ⌝ }
-    ensures { λ _. ⌜ TakenValue (now (own .entry)) h p (now (own .exit)) ⌝ }
-{
-    let at = 4 * h + p / 64;
-    let word = own[at];
-    let next = bits::without(word, p % 64);
+    let next = bits::put(word, p % 64, plus);
     own[at] = next;
 }
 

@@ -40,6 +40,21 @@ use rows::ATTRIBUTES;
 // The number of no attribute.
 const UNKNOWN: u8 = 255;
 
+// The words in capitals, packed as names are, and the kinds of token that they are.
+const CAPITALS: [u64; 9] = [
+    0, // none
+    4476481, // `AND`
+    21071, // `OR`
+    5525326, // `NOT`
+    1163219540, // `TRUE`
+    297750249798, // `FALSE`
+    301809815125, // `UNDEF`
+    20041, // `IN`
+    92656726332755, // `SUBSET`
+];
+
+const CAPITAL_KINDS: [u8; 9] = [0, AND, OR, NOT, TRUE, FALSE, UNDEF, IN, SUBSET];
+
 // Whether some byte is of no token, whether some name is undeclared, and how many bytes of code are written.
 pub struct Encoded {
     pub bad: bool,
@@ -146,14 +161,7 @@ fn run_length(s: &[u8], class: u8) -> usize
 fn capital_of(w: &[u8]) -> u8
     ensures { λ r. ⌜ r ≡ capitalKind (now (w .entry)) ⌝ }
 {
-    let k1 = text::choose(w, b"SUBSET", SUBSET, 0);
-    let k2 = text::choose(w, b"IN", IN, k1);
-    let k3 = text::choose(w, b"UNDEF", UNDEF, k2);
-    let k4 = text::choose(w, b"FALSE", FALSE, k3);
-    let k5 = text::choose(w, b"TRUE", TRUE, k4);
-    let k6 = text::choose(w, b"NOT", NOT, k5);
-    let k7 = text::choose(w, b"OR", OR, k6);
-    text::choose(w, b"AND", AND, k7)
+    CAPITAL_KINDS[text::keyword(w, &CAPITALS)]
 }
 
 // The name of an attribute, with its source.

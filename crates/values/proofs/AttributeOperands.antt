@@ -16,12 +16,12 @@ module _ (rows : List ℕ) (k : ℕ) where
     unfolding attributeOperand
     no-row e = simp (lt-ltb k 32 h, eq-eqb (getD rows (8 * k) 0) 0 e)
 
-    pub in-words : (getD rows (8 * k) 0 ≡ 0 → ⊥) → getD rows (8 * k) 0 ≤ 3 → (kind : ℕ) → kind ≡ rowType rows k → operand kind 0 k 0 ≡ attributeOperand rows k
+    pub in-words : (getD rows (8 * k) 0 ≡ 0 → ⊥) → getD rows (8 * k) 0 ≤ 3 → (ty : ℕ) → ty ≡ rowType rows k → operand ty 0 k 0 ≡ attributeOperand rows k
     unfolding attributeOperand
-    in-words e l kind t =
+    in-words e l ty t =
         ap (λ (n : ℕ). operand n 0 k 0) t ∙ sym (simp (lt-ltb k 32 h, ne-eqb (getD rows (8 * k) 0) 0 e, le-leb (getD rows (8 * k) 0) 3 l))
 
-    pub in-entries : (getD rows (8 * k) 0 ≡ 0 → ⊥) → 3 < getD rows (8 * k) 0 → (kind : ℕ) → kind ≡ rowType rows k → operand kind 1 k 0 ≡ attributeOperand rows k
+    pub in-entries : (getD rows (8 * k) 0 ≡ 0 → ⊥) → 3 < getD rows (8 * k) 0 → (ty : ℕ) → ty ≡ rowType rows k → operand ty 1 k 0 ≡ attributeOperand rows k
     unfolding attributeOperand
-    in-entries e l kind t =
+    in-entries e l ty t =
         ap (λ (n : ℕ). operand n 1 k 0) t ∙ sym (simp (lt-ltb k 32 h, ne-eqb (getD rows (8 * k) 0) 0 e, lt-leb (getD rows (8 * k) 0) 3 l))

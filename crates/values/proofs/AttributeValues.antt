@@ -75,28 +75,28 @@ module _ (pairs session : List ℕ) (k i : ℕ) where
 -- ---- the entries
 
 -- the words of an entry's value, by the type
-module _ (kind v : ℕ) where
-  pub entry-number : (kind ≡ 3 → ⊥) → words v 0 0 ≡ entryWords kind v
-  entry-number h = sym (ap (λ (t : Bool). if t then words (truthBit (eqb v 1)) 0 0 else words v 0 0) (ne-eqb kind 3 h))
+module _ (ty v : ℕ) where
+  pub entry-number : (ty ≡ 3 → ⊥) → words v 0 0 ≡ entryWords ty v
+  entry-number h = sym (ap (λ (t : Bool). if t then words (truthBit (eqb v 1)) 0 0 else words v 0 0) (ne-eqb ty 3 h))
 
-  pub entry-true : kind ≡ 3 → v ≡ 1 → words 1 0 0 ≡ entryWords kind v
-  entry-true h e = sym (ap₂ (λ (t u : Bool). if t then words (truthBit u) 0 0 else words v 0 0) (eq-eqb kind 3 h) (eq-eqb v 1 e))
+  pub entry-true : ty ≡ 3 → v ≡ 1 → words 1 0 0 ≡ entryWords ty v
+  entry-true h e = sym (ap₂ (λ (t u : Bool). if t then words (truthBit u) 0 0 else words v 0 0) (eq-eqb ty 3 h) (eq-eqb v 1 e))
 
-  pub entry-false : kind ≡ 3 → (v ≡ 1 → ⊥) → words 0 0 0 ≡ entryWords kind v
-  entry-false h e = sym (ap₂ (λ (t u : Bool). if t then words (truthBit u) 0 0 else words v 0 0) (eq-eqb kind 3 h) (ne-eqb v 1 e))
+  pub entry-false : ty ≡ 3 → (v ≡ 1 → ⊥) → words 0 0 0 ≡ entryWords ty v
+  entry-false h e = sym (ap₂ (λ (t u : Bool). if t then words (truthBit u) 0 0 else words v 0 0) (eq-eqb ty 3 h) (ne-eqb v 1 e))
 
-module _ (entries : Bytes) (kind k i j : ℕ) (first : First (λ n. eqb (byteAt entries (5 * n)) k) (length entries / 5) i j) where
-  pub entry-end : (r : Found) → r ≡ nothing → length entries / 5 ≤ j → Finds (entriesFrom entries kind k) i r
+module _ (entries : Bytes) (ty k i j : ℕ) (first : First (λ n. eqb (byteAt entries (5 * n)) k) (length entries / 5) i j) where
+  pub entry-end : (r : Found) → r ≡ nothing → length entries / 5 ≤ j → Finds (entriesFrom entries ty k) i r
   unfolding entriesFrom
   entry-end r e h =
-      subst (Finds (entriesFrom entries kind k) i) (sym e)
-      (finds-end (λ n. eqb (byteAt entries (5 * n)) k) (λ n. entryWords kind (valueAt entries (5 * n + 1))) (length entries / 5) i j first h)
+      subst (Finds (entriesFrom entries ty k) i) (sym e)
+      (finds-end (λ n. eqb (byteAt entries (5 * n)) k) (λ n. entryWords ty (valueAt entries (5 * n + 1))) (length entries / 5) i j first h)
 
-  pub entry-next : (w : Words) → w ≡ entryWords kind (valueAt entries (5 * j + 1)) → j < length entries / 5 → Finds (entriesFrom entries kind k) i (found w (j + 1))
+  pub entry-next : (w : Words) → w ≡ entryWords ty (valueAt entries (5 * j + 1)) → j < length entries / 5 → Finds (entriesFrom entries ty k) i (found w (j + 1))
   unfolding entriesFrom
   entry-next w e h =
-      subst (λ (v : Words). Finds (entriesFrom entries kind k) i (found v (j + 1))) (sym e)
-      (finds-next (λ n. eqb (byteAt entries (5 * n)) k) (λ n. entryWords kind (valueAt entries (5 * n + 1))) (length entries / 5) i j first h)
+      subst (λ (v : Words). Finds (entriesFrom entries ty k) i (found v (j + 1))) (sym e)
+      (finds-next (λ n. eqb (byteAt entries (5 * n)) k) (λ n. entryWords ty (valueAt entries (5 * n + 1))) (length entries / 5) i j first h)
 
 -- ---- an operand's place
 
@@ -106,11 +106,11 @@ module _ (L : Lent) (o : Operand) where
   unfolding valuesFrom
   session-from e j = rw (eq-eqb (o .place) 0 e)
 
-  block-from : o .place ≡ 1 → (j : ℕ) → valuesFrom L o j ≡ entriesFrom (L .entries) (o .kind) (o .start) j
+  block-from : o .place ≡ 1 → (j : ℕ) → valuesFrom L o j ≡ entriesFrom (L .entries) (o .ty) (o .start) j
   unfolding valuesFrom
   block-from e j = let n : o .place ≡ 0 → ⊥ = λ z. omega arith in rw (ne-eqb (o .place) 0 n, eq-eqb (o .place) 1 e)
 
-  code-from : (o .place ≡ 0 → ⊥) → (o .place ≡ 1 → ⊥) → (j : ℕ) → valuesFrom L o j ≡ constantsFrom (o .kind) (L .code) (o .end) j
+  code-from : (o .place ≡ 0 → ⊥) → (o .place ≡ 1 → ⊥) → (j : ℕ) → valuesFrom L o j ≡ constantsFrom (o .ty) (L .code) (o .end) j
   unfolding valuesFrom
   code-from n m j = rw (ne-eqb (o .place) 0 n, ne-eqb (o .place) 1 m)
 
@@ -119,11 +119,11 @@ module _ (L : Lent) (o : Operand) where
   unfolding firstOf
   session-values e = sym (rw (le-leb (o .place) 1 (omega arith)) (session-from e 0))
 
-  pub block-values : o .place ≡ 1 → entriesFrom (L .entries) (o .kind) (o .start) 0 ≡ operandValues L o
+  pub block-values : o .place ≡ 1 → entriesFrom (L .entries) (o .ty) (o .start) 0 ≡ operandValues L o
   unfolding firstOf
   block-values e = sym (rw (le-leb (o .place) 1 (omega arith)) (block-from e 0))
 
-  pub code-values : (o .place ≡ 0 → ⊥) → (o .place ≡ 1 → ⊥) → constantsFrom (o .kind) (L .code) (o .end) (o .start) ≡ operandValues L o
+  pub code-values : (o .place ≡ 0 → ⊥) → (o .place ≡ 1 → ⊥) → constantsFrom (o .ty) (L .code) (o .end) (o .start) ≡ operandValues L o
   unfolding firstOf
   code-values n m = sym (rw (lt-leb (o .place) 1 (omega arith)) (code-from n m (o .start)))
 
@@ -132,8 +132,8 @@ module _ (L : Lent) (o : Operand) where
     pub in-session : o .place ≡ 0 → Finds (wordsFrom (L .pairs) (L .session) (o .start)) i r → Finds (valuesFrom L o) i r
     in-session e = finds-by (valuesFrom L o) (wordsFrom (L .pairs) (L .session) (o .start)) (session-from e) i r
 
-    pub in-block : o .place ≡ 1 → Finds (entriesFrom (L .entries) (o .kind) (o .start)) i r → Finds (valuesFrom L o) i r
-    in-block e = finds-by (valuesFrom L o) (entriesFrom (L .entries) (o .kind) (o .start)) (block-from e) i r
+    pub in-block : o .place ≡ 1 → Finds (entriesFrom (L .entries) (o .ty) (o .start)) i r → Finds (valuesFrom L o) i r
+    in-block e = finds-by (valuesFrom L o) (entriesFrom (L .entries) (o .ty) (o .start)) (block-from e) i r
 
-    pub in-code : (o .place ≡ 0 → ⊥) → (o .place ≡ 1 → ⊥) → Finds (constantsFrom (o .kind) (L .code) (o .end)) i r → Finds (valuesFrom L o) i r
-    in-code n m = finds-by (valuesFrom L o) (constantsFrom (o .kind) (L .code) (o .end)) (code-from n m) i r
+    pub in-code : (o .place ≡ 0 → ⊥) → (o .place ≡ 1 → ⊥) → Finds (constantsFrom (o .ty) (L .code) (o .end)) i r → Finds (valuesFrom L o) i r
+    in-code n m = finds-by (valuesFrom L o) (constantsFrom (o .ty) (L .code) (o .end)) (code-from n m) i r

@@ -32,22 +32,22 @@ use Rattle.values.proofs.ComparedAtoms.{amongValues, someFound, int-sma
 
 -- what an operator says of present values of one type
 unfoldable likeValues : Operator → ℕ → List Words → List Words → model.Truth
-likeValues Operator.equal kind l r = truth (someFound true l r)
-likeValues Operator.IN kind l r = truth (someFound true l r)
-likeValues Operator.unequal kind l r = NOT (truth (someFound true l r))
-likeValues Operator.SUBSET kind l r = NOT (truth (someFound false l r))
-likeValues Operator.less kind l r = orderOf kind false l r
-likeValues Operator.atMost kind l r = orderOf kind true l r
-likeValues Operator.greater kind l r = orderOf kind false r l
-likeValues Operator.atLeast kind l r = orderOf kind true r l
+likeValues Operator.equal ty l r = truth (someFound true l r)
+likeValues Operator.IN ty l r = truth (someFound true l r)
+likeValues Operator.unequal ty l r = NOT (truth (someFound true l r))
+likeValues Operator.SUBSET ty l r = NOT (truth (someFound false l r))
+likeValues Operator.less ty l r = orderOf ty false l r
+likeValues Operator.atMost ty l r = orderOf ty true l r
+likeValues Operator.greater ty l r = orderOf ty false r l
+likeValues Operator.atLeast ty l r = orderOf ty true r l
 
 -- and of any values
 unfoldable compareValues : Operator → ℕ → ℕ → List Words → List Words → model.Truth
-compareValues o kind kind′ l r = if eqb kind kind′ then ofPresent l r (likeValues o kind l r) else model.UNDEF
+compareValues o ty ty′ l r = if eqb ty ty′ then ofPresent l r (likeValues o ty l r) else model.UNDEF
 
 -- what a lone attribute with these values comes to
 unfoldable loneOf : ℕ → List Words → model.Truth
-loneOf kind values = if (eqb kind 3 && not (isEmpty values)) then truth (amongValues values (words 1 0 0)) else model.UNDEF
+loneOf ty values = if (eqb ty 3 && not (isEmpty values)) then truth (amongValues values (words 1 0 0)) else model.UNDEF
 
 -- what is said of two operands that have values, by the test for them
 undef-either : (b : Bool) → (if b then model.UNDEF else model.UNDEF) ≡ model.UNDEF
@@ -157,16 +157,16 @@ found-so wanted (w ∷ l) (v ∷ r) =
     (λ x. ap (asked wanted) (among-so (v ∷ r) x) ∙ asked-truth wanted (amongValues (v ∷ r) x)) (w ∷ l)
 
 -- types are the same where their numbers are
-same-kind : (a b : Atom) → sameType (typeOf a) (typeOf b) ≡ eqb (typeCode (typeOf a)) (typeCode (typeOf b))
-same-kind (int m) (int n) = refl
-same-kind (int m) (str t) = refl
-same-kind (int m) (bool b) = refl
-same-kind (str s) (int n) = refl
-same-kind (str s) (str t) = refl
-same-kind (str s) (bool b) = refl
-same-kind (bool a) (int n) = refl
-same-kind (bool a) (str t) = refl
-same-kind (bool a) (bool b) = refl
+same-ty : (a b : Atom) → sameType (typeOf a) (typeOf b) ≡ eqb (typeCode (typeOf a)) (typeCode (typeOf b))
+same-ty (int m) (int n) = refl
+same-ty (int m) (str t) = refl
+same-ty (int m) (bool b) = refl
+same-ty (str s) (int n) = refl
+same-ty (str s) (str t) = refl
+same-ty (str s) (bool b) = refl
+same-ty (bool a) (int n) = refl
+same-ty (bool a) (str t) = refl
+same-ty (bool a) (bool b) = refl
 
 not-truth : (b : Bool) → NOT (truth b) ≡ truth (not b)
 not-truth true = refl
@@ -180,21 +180,21 @@ module _ (k : ℕ) (a : Atom) (l : List Atom) (b : Atom) (m : List Atom) (tl : T
   unfolding orderOf
   order-so equal low high before f = go a refl
     where
-      kind : (x : Atom) → x ≡ a → k ≡ typeCode (typeOf x)
-      kind x p = sym (tl .kinds a (here refl)) ∙ ap (λ (y : Atom). typeCode (typeOf y)) (sym p)
+      ty : (x : Atom) → x ≡ a → k ≡ typeCode (typeOf x)
+      ty x p = sym (tl .types a (here refl)) ∙ ap (λ (y : Atom). typeCode (typeOf y)) (sym p)
 
       go : (x : Atom) → x ≡ a → (if eqb k 1 then truth (leastBelowGreatest equal low high) else model.UNDEF) ≡ order before (typeOf x) (a ∷ l) (b ∷ m)
       go (int x) p =
-          let e : k ≡ 1 = kind (int x) p in
+          let e : k ≡ 1 = ty (int x) p in
           rw (eq-eqb k 1 e) (ap truth (f (subst (λ (j : ℕ). Typed j (a ∷ l)) e tl) (subst (λ (j : ℕ). Typed j (b ∷ m)) e tm)))
-      go (str x) p = let e : k ≡ 2 = kind (str x) p in rw e
-      go (bool x) p = let e : k ≡ 3 = kind (bool x) p in rw e
+      go (str x) p = let e : k ≡ 2 = ty (str x) p in rw e
+      go (bool x) p = let e : k ≡ 3 = ty (bool x) p in rw e
 
   small-left : Typed 1 (a ∷ l) → atomWords a .first ≤ Rattle.model.specs.Limits.largestInt
-  small-left t = int-small a (t .written a (here refl)) (t .kinds a (here refl))
+  small-left t = int-small a (t .written a (here refl)) (t .types a (here refl))
 
   small-right : Typed 1 (b ∷ m) → atomWords b .first ≤ Rattle.model.specs.Limits.largestInt
-  small-right t = int-small b (t .written b (here refl)) (t .kinds b (here refl))
+  small-right t = int-small b (t .written b (here refl)) (t .types b (here refl))
 
   like-atoms : (o : Operator) → likeValues o k (map atomWords (a ∷ l)) (map atomWords (b ∷ m)) ≡ compareLike o (typeOf a) (a ∷ l) (b ∷ m)
   unfolding likeValues
@@ -227,8 +227,8 @@ compare-atoms o k k′ (a ∷ l) [] tl tm =
     empty o k k′ (map atomWords (a ∷ l)) [] (absent-right (map atomWords (a ∷ l)) (likeValues o k (map atomWords (a ∷ l)) []))
 compare-atoms o k k′ (a ∷ l) (b ∷ m) tl tm = go (eqb k k′) refl
   where
-    kinds : sameType (typeOf a) (typeOf b) ≡ eqb k k′
-    kinds = same-kind a b ∙ ap₂ eqb (tl .kinds a (here refl)) (tm .kinds b (here refl))
+    types : sameType (typeOf a) (typeOf b) ≡ eqb k k′
+    types = same-ty a b ∙ ap₂ eqb (tl .types a (here refl)) (tm .types b (here refl))
 
     go : (t : Bool) → eqb k k′ ≡ t → compareValues o k k′ (map atomWords (a ∷ l)) (map atomWords (b ∷ m))
         ≡ (elim (sameType (typeOf a) (typeOf b)) as (λ _. model.Truth) [ true ↦ compareLike o (typeOf a) (a ∷ l) (b ∷ m) | false ↦ model.UNDEF ])
@@ -236,17 +236,17 @@ compare-atoms o k k′ (a ∷ l) (b ∷ m) tl tm = go (eqb k k′) refl
         let same : k ≡ k′ = eqb-true k k′ e in
         alike o k k′ (map atomWords (a ∷ l)) (map atomWords (b ∷ m)) same
         ∙ both-there (atomWords a) (map atomWords l) (atomWords b) (map atomWords m) (likeValues o k (map atomWords (a ∷ l)) (map atomWords (b ∷ m)))
-        ∙ like-atoms k a l b m tl (record { kinds = λ x p. tm .kinds x p ∙ sym same; written = tm .written }) o
-        ∙ ap (λ (t : Bool). elim t as (λ _. model.Truth) [ true ↦ compareLike o (typeOf a) (a ∷ l) (b ∷ m) | false ↦ model.UNDEF ]) (sym (kinds ∙ e))
+        ∙ like-atoms k a l b m tl (record { types = λ x p. tm .types x p ∙ sym same; written = tm .written }) o
+        ∙ ap (λ (t : Bool). elim t as (λ _. model.Truth) [ true ↦ compareLike o (typeOf a) (a ∷ l) (b ∷ m) | false ↦ model.UNDEF ]) (sym (types ∙ e))
     go false e =
         unlike o k k′ (map atomWords (a ∷ l)) (map atomWords (b ∷ m)) (eqb-false k k′ e)
-        ∙ ap (λ (t : Bool). elim t as (λ _. model.Truth) [ true ↦ compareLike o (typeOf a) (a ∷ l) (b ∷ m) | false ↦ model.UNDEF ]) (sym (kinds ∙ e))
+        ∙ ap (λ (t : Bool). elim t as (λ _. model.Truth) [ true ↦ compareLike o (typeOf a) (a ∷ l) (b ∷ m) | false ↦ model.UNDEF ]) (sym (types ∙ e))
 
 -- the atoms that an operand stands for have its type
-stands-typed : (L : Lent) (o : Operand) {l : List Atom} → Stands L o l → Typed (o .kind) l
+stands-typed : (L : Lent) (o : Operand) {l : List Atom} → Stands L o l → Typed (o .ty) l
 stands-typed L o {l} s =
     record {
-      kinds = λ a p. eqb-true (typeCode (typeOf a)) (o .kind) (all-in (λ x. eqb (typeCode (typeOf x)) (o .kind)) l (s .typed) p);
+      types = λ a p. eqb-true (typeCode (typeOf a)) (o .ty) (all-in (λ x. eqb (typeCode (typeOf x)) (o .ty)) l (s .typed) p);
       written = λ a p. all-in isAtom l (s .written) p;
     }
 
@@ -254,23 +254,23 @@ stands-typed L o {l} s =
 module _ (L : Lent) (n : ℕ) (left right : Operand) where
   -- the comparison by an operator, whose number it is
   compared : (x : Operator) → n ≡ operatorCode x → (r : Truth)
-      → truthOf r ≡ compareValues x (left .kind) (right .kind) (operandValues L left) (operandValues L right) → Compared L n left right r
+      → truthOf r ≡ compareValues x (left .ty) (right .ty) (operandValues L left) (operandValues L right) → Compared L n left right r
   compared x e r f =
       record {
         by-operator = λ o l m d s t.
-            f ∙ ap (λ (y : Operator). compareValues y (left .kind) (right .kind) (operandValues L left) (operandValues L right)) (operator-injective x o (sym e ∙ d))
-            ∙ ap₂ (compareValues o (left .kind) (right .kind)) (s .coded) (t .coded)
-            ∙ compare-atoms o (left .kind) (right .kind) l m (stands-typed L left s) (stands-typed L right t);
+            f ∙ ap (λ (y : Operator). compareValues y (left .ty) (right .ty) (operandValues L left) (operandValues L right)) (operator-injective x o (sym e ∙ d))
+            ∙ ap₂ (compareValues o (left .ty) (right .ty)) (s .coded) (t .coded)
+            ∙ compare-atoms o (left .ty) (right .ty) l m (stands-typed L left s) (stands-typed L right t);
         by-none = λ g. absurd (g x e);
       }
 
-  pub types-differ : (left .kind ≡ right .kind → ⊥) → Compared L n left right Undef
+  pub types-differ : (left .ty ≡ right .ty → ⊥) → Compared L n left right Undef
   types-differ h =
       record {
         by-operator = λ o l m d s t.
-            sym (unlike o (left .kind) (right .kind) (operandValues L left) (operandValues L right) h)
-            ∙ ap₂ (compareValues o (left .kind) (right .kind)) (s .coded) (t .coded)
-            ∙ compare-atoms o (left .kind) (right .kind) l m (stands-typed L left s) (stands-typed L right t);
+            sym (unlike o (left .ty) (right .ty) (operandValues L left) (operandValues L right) h)
+            ∙ ap₂ (compareValues o (left .ty) (right .ty)) (s .coded) (t .coded)
+            ∙ compare-atoms o (left .ty) (right .ty) l m (stands-typed L left s) (stands-typed L right t);
         by-none = λ g. refl;
       }
 
@@ -281,12 +281,12 @@ module _ (L : Lent) (n : ℕ) (left right : Operand) where
       outside o d (inl a) = let (low, high) = operator-range o in absurd (omega arith)
       outside o d (inr b) = let (low, high) = operator-range o in absurd (omega arith)
 
-  module _ (same : left .kind ≡ right .kind) (r : Truth) where
+  module _ (same : left .ty ≡ right .ty) (r : Truth) where
     -- by what the operator says of present values
     present : (x : Operator) → n ≡ operatorCode x
-        → truthOf r ≡ ofPresent (operandValues L left) (operandValues L right) (likeValues x (left .kind) (operandValues L left) (operandValues L right))
+        → truthOf r ≡ ofPresent (operandValues L left) (operandValues L right) (likeValues x (left .ty) (operandValues L left) (operandValues L right))
         → Compared L n left right r
-    present x e f = compared x e r (f ∙ sym (alike x (left .kind) (right .kind) (operandValues L left) (operandValues L right) same))
+    present x e f = compared x e r (f ∙ sym (alike x (left .ty) (right .ty) (operandValues L left) (operandValues L right) same))
 
     pub by-equality : 16 ≤ n → n ≤ 17 → truthOf r ≡ foundOf true (operandValues L left) (operandValues L right) → Compared L n left right r
     unfolding likeValues
@@ -312,9 +312,9 @@ module _ (L : Lent) (n : ℕ) (left right : Operand) where
     by-subset e f = present Operator.SUBSET e (negated false f)
 
     -- an order whose low side is on the right
-    from-right : (equal : Bool) → belowOf L equal right left ≡ ofPresent (operandValues L left) (operandValues L right) (orderOf (left .kind) equal (operandValues L right) (operandValues L left))
+    from-right : (equal : Bool) → belowOf L equal right left ≡ ofPresent (operandValues L left) (operandValues L right) (orderOf (left .ty) equal (operandValues L right) (operandValues L left))
     from-right equal =
-        turned (operandValues L left) (operandValues L right) (orderOf (right .kind) equal (operandValues L right) (operandValues L left))
+        turned (operandValues L left) (operandValues L right) (orderOf (right .ty) equal (operandValues L right) (operandValues L left))
         ∙ ap (λ (k : ℕ). ofPresent (operandValues L left) (operandValues L right) (orderOf k equal (operandValues L right) (operandValues L left))) (sym same)
 
     pub by-less : n ≡ 20 → truthOf r ≡ belowOf L false left right → Compared L n left right r
@@ -337,42 +337,42 @@ module _ (L : Lent) (n : ℕ) (left right : Operand) where
 lone-atoms : (k : ℕ) (l : List Atom) → Typed k l → loneOf k (map atomWords l) ≡ loneValue l
 unfolding loneOf loneValue
 lone-atoms k [] t = rw (and-false (eqb k 3))
-lone-atoms k (int n ∷ l) t = let e : k ≡ 1 = sym (t .kinds (int n) (here refl)) in rw e
-lone-atoms k (str s ∷ l) t = let e : k ≡ 2 = sym (t .kinds (str s) (here refl)) in rw e
+lone-atoms k (int n ∷ l) t = let e : k ≡ 1 = sym (t .types (int n) (here refl)) in rw e
+lone-atoms k (str s ∷ l) t = let e : k ≡ 2 = sym (t .types (str s) (here refl)) in rw e
 lone-atoms k (bool b ∷ l) t =
-    let e : k ≡ 3 = sym (t .kinds (bool b) (here refl)) in
+    let e : k ≡ 3 = sym (t .types (bool b) (here refl)) in
     rw e (ap truth (among-atoms 3 (bool true) (bool b ∷ l) refl refl (subst (λ (n : ℕ). Typed n (bool b ∷ l)) e t)))
 
 module _ (L : Lent) (o : Operand) (r : Truth) where
-  alone : truthOf r ≡ loneOf (o .kind) (operandValues L o) → Lone L o r
-  alone e = record { lone-value = λ l s. e ∙ ap (loneOf (o .kind)) (s .coded) ∙ lone-atoms (o .kind) l (stands-typed L o s) }
+  alone : truthOf r ≡ loneOf (o .ty) (operandValues L o) → Lone L o r
+  alone e = record { lone-value = λ l s. e ∙ ap (loneOf (o .ty)) (s .coded) ∙ lone-atoms (o .ty) l (stands-typed L o s) }
 
 -- the ways through a lone attribute's tests
 module _ (L : Lent) (o : Operand) where
-  pub not-bool : (o .kind ≡ 3 → ⊥) → Lone L o Undef
+  pub not-bool : (o .ty ≡ 3 → ⊥) → Lone L o Undef
   unfolding loneOf
-  not-bool h = alone L o Undef (sym (rw (ne-eqb (o .kind) 3 h)))
+  not-bool h = alone L o Undef (sym (rw (ne-eqb (o .ty) 3 h)))
 
-  pub some-alone : o .kind ≡ 3 → (w : Words) → w ≡ words 1 0 0 → (r : Truth) → truthOf r ≡ amongOf (operandValues L o) w → Lone L o r
+  pub some-alone : o .ty ≡ 3 → (w : Words) → w ≡ words 1 0 0 → (r : Truth) → truthOf r ≡ amongOf (operandValues L o) w → Lone L o r
   unfolding loneOf
   some-alone e w ew r er =
-      alone L o r (er ∙ ap (amongOf (operandValues L o)) ew ∙ among-so (operandValues L o) (words 1 0 0) ∙ sym (rw (eq-eqb (o .kind) 3 e)))
+      alone L o r (er ∙ ap (amongOf (operandValues L o)) ew ∙ among-so (operandValues L o) (words 1 0 0) ∙ sym (rw (eq-eqb (o .ty) 3 e)))
 
 -- the ways through an order's tests
-module _ (kind : ℕ) (equal : Bool) (low high : List Words) where
-  pub not-ints : (kind ≡ 1 → ⊥) → model.UNDEF ≡ ofPresent low high (orderOf kind equal low high)
+module _ (ty : ℕ) (equal : Bool) (low high : List Words) where
+  pub not-ints : (ty ≡ 1 → ⊥) → model.UNDEF ≡ ofPresent low high (orderOf ty equal low high)
   unfolding orderOf
-  not-ints h = sym (ap (ofPresent low high) (rw (ne-eqb kind 1 h)) ∙ never low high)
+  not-ints h = sym (ap (ofPresent low high) (rw (ne-eqb ty 1 h)) ∙ never low high)
 
-  module _ (e : kind ≡ 1) where
-    ints : truth (leastBelowGreatest equal low high) ≡ orderOf kind equal low high
+  module _ (e : ty ≡ 1) where
+    ints : truth (leastBelowGreatest equal low high) ≡ orderOf ty equal low high
     unfolding orderOf
-    ints = sym (rw (eq-eqb kind 1 e))
+    ints = sym (rw (eq-eqb ty 1 e))
 
-    pub at-most : equal ≡ true → truth (leb (leastOf low) (greatestOf high)) ≡ orderOf kind equal low high
+    pub at-most : equal ≡ true → truth (leb (leastOf low) (greatestOf high)) ≡ orderOf ty equal low high
     unfolding leastBelowGreatest
     at-most f = sym (ap (λ (t : Bool). truth (if t then leb (leastOf low) (greatestOf high) else ltb (leastOf low) (greatestOf high))) f) ∙ ints
 
-    pub strictly : equal ≡ false → truth (ltb (leastOf low) (greatestOf high)) ≡ orderOf kind equal low high
+    pub strictly : equal ≡ false → truth (ltb (leastOf low) (greatestOf high)) ≡ orderOf ty equal low high
     unfolding leastBelowGreatest
     strictly f = sym (ap (λ (t : Bool). truth (if t then leb (leastOf low) (greatestOf high) else ltb (leastOf low) (greatestOf high))) f) ∙ ints

@@ -62,7 +62,7 @@ ordered-numbers before (bool a) b p q = absurd (omega arith)
 
 -- atoms of one type, well formed
 pub record Typed (k : ℕ) (l : List Atom) : Type 0 where
-  pub kinds : (a : Atom) → a ∈ l → typeCode (typeOf a) ≡ k
+  pub types : (a : Atom) → a ∈ l → typeCode (typeOf a) ≡ k
   pub written : (a : Atom) → a ∈ l → isAtom a ≡ true
 
 -- a value is among others where its atom is
@@ -71,7 +71,7 @@ pub among-atoms : (k : ℕ) (a : Atom) (m : List Atom) → isAtom a ≡ true →
 among-atoms k a m w t tm =
     any-map (sameWords (atomWords a)) atomWords m
     ∙ any-ext (λ b. sameWords (atomWords a) (atomWords b)) (sameAtom a) m
-    (λ b q. words-same a b w (tm .written b q) (type-injective (typeOf a) (typeOf b) (t ∙ sym (tm .kinds b q))))
+    (λ b q. words-same a b w (tm .written b q) (type-injective (typeOf a) (typeOf b) (t ∙ sym (tm .types b q))))
 
 module _ (k : ℕ) (l m : List Atom) (tl : Typed k l) (tm : Typed k m) where
   found-atoms : (wanted : Bool) → someFound wanted (map atomWords l) (map atomWords m) ≡ anyOf (λ a. Bool·beq (model.among m a) wanted) l
@@ -79,7 +79,7 @@ module _ (k : ℕ) (l m : List Atom) (tl : Typed k l) (tm : Typed k m) where
   found-atoms wanted =
       any-map (λ w. Bool·beq (amongValues (map atomWords m) w) wanted) atomWords l
       ∙ any-ext (λ a. Bool·beq (amongValues (map atomWords m) (atomWords a)) wanted) (λ a. Bool·beq (model.among m a) wanted) l
-      (λ a p. ap (λ (b : Bool). Bool·beq b wanted) (among-atoms k a m (tl .written a p) (tl .kinds a p) tm))
+      (λ a p. ap (λ (b : Bool). Bool·beq b wanted) (among-atoms k a m (tl .written a p) (tl .types a p) tm))
 
   pub common-atoms : someFound true (map atomWords l) (map atomWords m) ≡ model.common l m
   common-atoms = found-atoms true ∙ any-ext (λ a. Bool·beq (model.among m a) true) (model.among m) l (λ a p. beq-true (model.among m a))
@@ -95,7 +95,7 @@ before-atoms before l m tl tm =
     ∙ any-ext (λ a. anyOf (λ w. before (atomWords a .first) (w .first)) (map atomWords m)) (λ a. anyOf (ordered before a) m) l
     (λ a p.
     any-map (λ w. before (atomWords a .first) (w .first)) atomWords m
-    ∙ any-ext (λ b. before (atomWords a .first) (atomWords b .first)) (ordered before a) m (λ b q. ordered-numbers before a b (tl .kinds a p) (tm .kinds b q)))
+    ∙ any-ext (λ b. before (atomWords a .first) (atomWords b .first)) (ordered before a) m (λ b q. ordered-numbers before a b (tl .types a p) (tm .types b q)))
 
 pub turned : {A : Type 0} (f : A → A → Bool) (l m : List A) → anyOf (λ a. anyOf (f a) m) l ≡ anyOf (λ b. anyOf (λ a. f a b) l) m
 turned f l m = same-truth (anyOf (λ a. anyOf (f a) m) l) (anyOf (λ b. anyOf (λ a. f a b) l) m) there-so back

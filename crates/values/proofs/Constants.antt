@@ -96,18 +96,18 @@ module _ (code : Bytes) (end i : ℕ) where
           (omega arith, omega arith)
       go false e = no-move
 
-module _ (kind : ℕ) (code : Bytes) (end : ℕ) where
-  pub as-str : (i : ℕ) → kind ≡ 2 → strAt code end i ≡ constantAt kind code end i
+module _ (ty : ℕ) (code : Bytes) (end : ℕ) where
+  pub as-str : (i : ℕ) → ty ≡ 2 → strAt code end i ≡ constantAt ty code end i
   unfolding constantAt
-  as-str i e = sym (ap (λ (t : Bool). if t then strAt code end i else intAt code end i) (eq-eqb kind 2 e))
+  as-str i e = sym (ap (λ (t : Bool). if t then strAt code end i else intAt code end i) (eq-eqb ty 2 e))
 
-  pub as-int : (i : ℕ) → (kind ≡ 2 → ⊥) → intAt code end i ≡ constantAt kind code end i
+  pub as-int : (i : ℕ) → (ty ≡ 2 → ⊥) → intAt code end i ≡ constantAt ty code end i
   unfolding constantAt
-  as-int i e = sym (ap (λ (t : Bool). if t then strAt code end i else intAt code end i) (ne-eqb kind 2 e))
+  as-int i e = sym (ap (λ (t : Bool). if t then strAt code end i else intAt code end i) (ne-eqb ty 2 e))
 
-  moves : (i : ℕ) → Moves code end i (constantAt kind code end i)
+  moves : (i : ℕ) → Moves code end i (constantAt ty code end i)
   unfolding constantAt
-  moves i = go (eqb kind 2)
+  moves i = go (eqb ty 2)
     where
       go : (t : Bool) → Moves code end i (if t then strAt code end i else intAt code end i)
       go true = str-moves code end i
@@ -115,83 +115,83 @@ module _ (kind : ℕ) (code : Bytes) (end : ℕ) where
 
   -- one step of a walk
   abbrev step : ℕ → ℕ → List Words
-  step n i = if constantAt kind code end i .here then constantAt kind code end i .words ∷ constantsWithin n kind code end (constantAt kind code end i .next) else []
+  step n i = if constantAt ty code end i .here then constantAt ty code end i .words ∷ constantsWithin n ty code end (constantAt ty code end i .next) else []
 
-  within-step : (n i : ℕ) → constantsWithin (suc n) kind code end i ≡ step n i
+  within-step : (n i : ℕ) → constantsWithin (suc n) ty code end i ≡ step n i
   unfolding constantsWithin
   within-step n i = refl
 
-  step-here : (n i : ℕ) → constantAt kind code end i .here ≡ true
-      → step n i ≡ constantAt kind code end i .words ∷ constantsWithin n kind code end (constantAt kind code end i .next)
+  step-here : (n i : ℕ) → constantAt ty code end i .here ≡ true
+      → step n i ≡ constantAt ty code end i .words ∷ constantsWithin n ty code end (constantAt ty code end i .next)
   step-here n i e =
-      ap (λ (t : Bool). if t then constantAt kind code end i .words ∷ constantsWithin n kind code end (constantAt kind code end i .next) else []) e
+      ap (λ (t : Bool). if t then constantAt ty code end i .words ∷ constantsWithin n ty code end (constantAt ty code end i .next) else []) e
 
-  step-none : (n i : ℕ) → constantAt kind code end i .here ≡ false → step n i ≡ []
+  step-none : (n i : ℕ) → constantAt ty code end i .here ≡ false → step n i ≡ []
   step-none n i e =
-      ap (λ (t : Bool). if t then constantAt kind code end i .words ∷ constantsWithin n kind code end (constantAt kind code end i .next) else []) e
+      ap (λ (t : Bool). if t then constantAt ty code end i .words ∷ constantsWithin n ty code end (constantAt ty code end i .next) else []) e
 
-  nothing-within : (n i : ℕ) → constantAt kind code end i .here ≡ false → constantsWithin n kind code end i ≡ []
+  nothing-within : (n i : ℕ) → constantAt ty code end i .here ≡ false → constantsWithin n ty code end i ≡ []
   unfolding constantsWithin
   nothing-within zero i e = refl
   nothing-within (suc n) i e = step-none n i e
 
-  at-end : (i : ℕ) → length code ≤ i → constantAt kind code end i .here ≡ false
-  at-end i h = go (constantAt kind code end i .here) refl
+  at-end : (i : ℕ) → length code ≤ i → constantAt ty code end i .here ≡ false
+  at-end i h = go (constantAt ty code end i .here) refl
     where
-      go : (t : Bool) → constantAt kind code end i .here ≡ t → t ≡ false
+      go : (t : Bool) → constantAt ty code end i .here ≡ t → t ≡ false
       go true e = let (a, b) = moves i e in absurd (omega arith)
       go false e = refl
 
   -- the bound does not matter
-  same-within : (n m i : ℕ) → length code - i ≤ n → length code - i ≤ m → constantsWithin n kind code end i ≡ constantsWithin m kind code end i
+  same-within : (n m i : ℕ) → length code - i ≤ n → length code - i ≤ m → constantsWithin n ty code end i ≡ constantsWithin m ty code end i
   unfolding constantsWithin
   same-within zero m i h l = let e = at-end i (omega arith) in sym (nothing-within m i e)
   same-within (suc n) zero i h l = let e = at-end i (omega arith) in nothing-within (suc n) i e
-  same-within (suc n) (suc m) i h l = go (constantAt kind code end i .here) refl (λ k a b. same-within n m k a b)
+  same-within (suc n) (suc m) i h l = go (constantAt ty code end i .here) refl (λ k a b. same-within n m k a b)
     where
-      go : (t : Bool) → constantAt kind code end i .here ≡ t
-          → ((k : ℕ) → length code - k ≤ n → length code - k ≤ m → constantsWithin n kind code end k ≡ constantsWithin m kind code end k)
-          → constantsWithin (suc n) kind code end i ≡ constantsWithin (suc m) kind code end i
+      go : (t : Bool) → constantAt ty code end i .here ≡ t
+          → ((k : ℕ) → length code - k ≤ n → length code - k ≤ m → constantsWithin n ty code end k ≡ constantsWithin m ty code end k)
+          → constantsWithin (suc n) ty code end i ≡ constantsWithin (suc m) ty code end i
       go false e f = nothing-within (suc n) i e ∙ sym (nothing-within (suc m) i e)
       go true e f =
           let (a, b) = moves i e in
           within-step n i ∙ step-here n i e
-          ∙ ap (λ (r : List Words). constantAt kind code end i .words ∷ r) (f (constantAt kind code end i .next) (omega arith) (omega arith))
+          ∙ ap (λ (r : List Words). constantAt ty code end i .words ∷ r) (f (constantAt ty code end i .next) (omega arith) (omega arith))
           ∙ sym (within-step m i ∙ step-here m i e)
 
-  pub constants-find : (i : ℕ) (r : Found) → r ≡ constantAt kind code end i → Finds (constantsFrom kind code end) i r
-  constants-find i r e = subst (Finds (constantsFrom kind code end) i) (sym e) (record { more = more; none = nothing-within (length code - i) i })
+  pub constants-find : (i : ℕ) (r : Found) → r ≡ constantAt ty code end i → Finds (constantsFrom ty code end) i r
+  constants-find i r e = subst (Finds (constantsFrom ty code end) i) (sym e) (record { more = more; none = nothing-within (length code - i) i })
     where
-      more : constantAt kind code end i .here ≡ true
-          → constantsFrom kind code end i ≡ constantAt kind code end i .words ∷ constantsFrom kind code end (constantAt kind code end i .next)
+      more : constantAt ty code end i .here ≡ true
+          → constantsFrom ty code end i ≡ constantAt ty code end i .words ∷ constantsFrom ty code end (constantAt ty code end i .next)
       more t =
           let (a, b) = moves i t in
           let s : length code - i ≡ suc (length code - suc i) = omega arith in
-          ap (λ (n : ℕ). constantsWithin n kind code end i) s ∙ within-step (length code - suc i) i ∙ step-here (length code - suc i) i t
-          ∙ ap (λ (l : List Words). constantAt kind code end i .words ∷ l)
-          (same-within (length code - suc i) (length code - constantAt kind code end i .next) (constantAt kind code end i .next) (omega arith) (omega arith))
+          ap (λ (n : ℕ). constantsWithin n ty code end i) s ∙ within-step (length code - suc i) i ∙ step-here (length code - suc i) i t
+          ∙ ap (λ (l : List Words). constantAt ty code end i .words ∷ l)
+          (same-within (length code - suc i) (length code - constantAt ty code end i .next) (constantAt ty code end i .next) (omega arith) (omega arith))
 
 -- those of one type: ints are all that are no strs
-module _ (code : Bytes) (end i : ℕ) (r : Found) where
+module _ (code : Bytes) (end : ℕ) {i : ℕ} {r : Found} where
   pub ints-find : r ≡ intAt code end i → Finds (constantsFrom 1 code end) i r
   ints-find e = constants-find 1 code end i r (e ∙ as-int 1 code end i (λ z. omega arith))
 
   pub strs-find : r ≡ strAt code end i → Finds (constantsFrom 2 code end) i r
   strs-find e = constants-find 2 code end i r (e ∙ as-str 2 code end i refl)
 
-module _ (kind : ℕ) (code : Bytes) (end i : ℕ) where
-  pub strs-of : kind ≡ 2 → constantsFrom 2 code end i ≡ constantsFrom kind code end i
+module _ (ty : ℕ) (code : Bytes) (end i : ℕ) where
+  pub strs-of : ty ≡ 2 → constantsFrom 2 code end i ≡ constantsFrom ty code end i
   strs-of e = ap (λ (k : ℕ). constantsFrom k code end i) (sym e)
 
-  pub ints-of : (kind ≡ 2 → ⊥) → constantsFrom 1 code end i ≡ constantsFrom kind code end i
+  pub ints-of : (ty ≡ 2 → ⊥) → constantsFrom 1 code end i ≡ constantsFrom ty code end i
   unfolding constantsWithin
   ints-of f = go (length code - i) i
     where
-      at : (j : ℕ) → constantAt 1 code end j ≡ constantAt kind code end j
-      at j = sym (as-int 1 code end j (λ z. omega arith)) ∙ as-int kind code end j f
+      at : (j : ℕ) → constantAt 1 code end j ≡ constantAt ty code end j
+      at j = sym (as-int 1 code end j (λ z. omega arith)) ∙ as-int ty code end j f
 
-      go : (n j : ℕ) → constantsWithin n 1 code end j ≡ constantsWithin n kind code end j
+      go : (n j : ℕ) → constantsWithin n 1 code end j ≡ constantsWithin n ty code end j
       go zero j = refl
       go (suc n) j =
           ap (λ (x : Found). if x .here then x .words ∷ constantsWithin n 1 code end (x .next) else []) (at j)
-          ∙ ap (λ (l : List Words). if constantAt kind code end j .here then constantAt kind code end j .words ∷ l else []) (go n (constantAt kind code end j .next))
+          ∙ ap (λ (l : List Words). if constantAt ty code end j .here then constantAt ty code end j .words ∷ l else []) (go n (constantAt ty code end j .next))

@@ -2,7 +2,7 @@
 use Prim.Native.Nat.{ℕ, _≤_, _<_}
 use native.Mathlib.Omega.{arith}
 use native.Mathlib.Decide.{decLt}
-use mathlib.Core.Path.{_≡_, refl, sym, ap, _∙_}
+use mathlib.Core.Path.{_≡_, refl, sym, ap, subst, _∙_}
 use mathlib.Core.Logic.{_⊎_, inl, inr}
 use mathlib.Core.Bool.{Bool, true, false}
 use mathlib.Core.List.{List, [], _∷_, List·Memᴰ·head as here, List·Memᴰ·tail as there}
@@ -12,7 +12,7 @@ use Rattle.model.specs.Notation.{anyOf, if_then_else_}
 use Rattle.model.specs.Limits.{largestInt}
 use Rattle.model.proofs.Lists.{_∈_, any-in, in-any, same-truth}
 use Rattle.text.specs.declared.Words.{Words}
-use Rattle.values.specs.Compared.{further, extremeFrom, greatestOf, leastOf, leastBelowGreatest}
+use Rattle.values.specs.Compared.{further, extremeFrom, worst, greatestOf, leastOf, leastBelowGreatest}
 
 -- one step: the greatest or the least of what was seen and one value more
 further-cases : (greatest : Bool) (a b : ℕ) → (further greatest a b ≡ a) ⊎ (further greatest a b ≡ b)
@@ -28,17 +28,31 @@ further-cases false a b = go (ltb b a)
     go true = inr refl
     go false = inl refl
 
-greater : (a b : ℕ) → (a ≤ further true a b) × (b ≤ further true a b)
+-- y is no less far than x
+abbrev Reaches : Bool → ℕ → ℕ → Type 0
+Reaches true x y = x ≤ y
+Reaches false x y = y ≤ x
+
+reaches-same : (greatest : Bool) (x : ℕ) → Reaches greatest x x
+reaches-same true x = omega arith
+reaches-same false x = omega arith
+
+reaches-on : (greatest : Bool) (x y z : ℕ) → Reaches greatest x y → Reaches greatest y z → Reaches greatest x z
+reaches-on true x y z p q = omega arith
+reaches-on false x y z p q = omega arith
+
+reaches-both : (greatest : Bool) (x y : ℕ) → Reaches greatest x y → Reaches greatest y x → y ≡ x
+reaches-both true x y p q = omega arith
+reaches-both false x y p q = omega arith
+
+further-reaches : (greatest : Bool) (a b : ℕ) → Reaches greatest a (further greatest a b) × Reaches greatest b (further greatest a b)
 unfolding further
-greater a b = go (decLt a b)
+further-reaches true a b = go (decLt a b)
   where
     go : Dec (a < b) → (a ≤ (if ltb a b then b else a)) × (b ≤ (if ltb a b then b else a))
     go (yes h) = rw (lt-ltb a b h) (omega arith, omega arith)
     go (no h) = let l : b ≤ a = omega arith in rw (le-ltb a b l) (omega arith, omega arith)
-
-less : (a b : ℕ) → (further false a b ≤ a) × (further false a b ≤ b)
-unfolding further
-less a b = go (decLt b a)
+further-reaches false a b = go (decLt b a)
   where
     go : Dec (b < a) → ((if ltb b a then b else a) ≤ a) × ((if ltb b a then b else a) ≤ b)
     go (yes h) = rw (lt-ltb b a h) (omega arith, omega arith)
@@ -59,49 +73,34 @@ extreme-in greatest best (w ∷ l) = go (extreme-in greatest (further greatest b
     go (inl e) (inr f) = inr (w, here refl, e ∙ f)
     go (inr (x, m, e)) f = inr (x, there m, e)
 
--- none of the values is greater, or less
-at-least : (best : ℕ) (l : List Words) → best ≤ extremeFrom true best l
+-- none of the values is further
+extreme-reaches : (greatest : Bool) (best : ℕ) (l : List Words) → Reaches greatest best (extremeFrom greatest best l)
 unfolding extremeFrom
-at-least best [] = omega arith
-at-least best (w ∷ l) = let (a, b) = greater best (w .first) in let h = at-least (further true best (w .first)) l in omega arith
+extreme-reaches greatest best [] = reaches-same greatest best
+extreme-reaches greatest best (w ∷ l) =
+    let next = further greatest best (w .first) in
+    reaches-on greatest best next (extremeFrom greatest next l) (further-reaches greatest best (w .first) .0) (extreme-reaches greatest next l)
 
-at-most : (best : ℕ) (l : List Words) → extremeFrom false best l ≤ best
+none-further : (greatest : Bool) (best : ℕ) {l : List Words} {w : Words} → w ∈ l → Reaches greatest (w .first) (extremeFrom greatest best l)
 unfolding extremeFrom
-at-most best [] = omega arith
-at-most best (w ∷ l) = let (a, b) = less best (w .first) in let h = at-most (further false best (w .first)) l in omega arith
-
-none-greater : (best : ℕ) {l : List Words} {w : Words} → w ∈ l → w .first ≤ extremeFrom true best l
-unfolding extremeFrom
-none-greater best {w = w} (here {x = y} {xs = l} e) =
-    let (a, b) = greater best (y .first) in
-    let h = at-least (further true best (y .first)) l in
-    omega (arith, ap (λ (x : Words). x .first) e)
-none-greater best (there {x = y} {xs = l} m) = none-greater (further true best (y .first)) m
-
-none-less : (best : ℕ) {l : List Words} {w : Words} → w ∈ l → extremeFrom false best l ≤ w .first
-unfolding extremeFrom
-none-less best {w = w} (here {x = y} {xs = l} e) =
-    let (a, b) = less best (y .first) in
-    let h = at-most (further false best (y .first)) l in
-    omega (arith, ap (λ (x : Words). x .first) e)
-none-less best (there {x = y} {xs = l} m) = none-less (further false best (y .first)) m
+none-further greatest best (here {x = y} {xs = l} e) =
+    let next = further greatest best (y .first) in
+    subst (λ (v : Words). Reaches greatest (v .first) (extremeFrom greatest next l)) (sym e)
+    (reaches-on greatest (y .first) next (extremeFrom greatest next l) (further-reaches greatest best (y .first) .1) (extreme-reaches greatest next l))
+none-further greatest best (there {x = y} {xs = l} m) = none-further greatest (further greatest best (y .first)) m
 
 -- so the greatest and the least of present ints are among them
-pub greatest-in : (v : Words) (l : List Words) → (w : Words) × (w ∈ (v ∷ l)) × (greatestOf (v ∷ l) ≡ w .first)
-greatest-in v l = go (extreme-in true 0 (v ∷ l)) (none-greater 0 (here refl))
+extreme-met : (greatest : Bool) (v : Words) (l : List Words) → Reaches greatest (worst greatest) (v .first)
+    → (w : Words) × (w ∈ (v ∷ l)) × (extremeFrom greatest (worst greatest) (v ∷ l) ≡ w .first)
+extreme-met greatest v l b = go (extreme-in greatest (worst greatest) (v ∷ l))
   where
-    go : (greatestOf (v ∷ l) ≡ 0) ⊎ ((w : Words) × (w ∈ (v ∷ l)) × (greatestOf (v ∷ l) ≡ w .first)) → v .first ≤ greatestOf (v ∷ l)
-        → (w : Words) × (w ∈ (v ∷ l)) × (greatestOf (v ∷ l) ≡ w .first)
-    go (inl e) h = (v, here refl, omega arith)
-    go (inr x) h = x
+    far : ℕ
+    far = extremeFrom greatest (worst greatest) (v ∷ l)
 
-pub least-in : (v : Words) (l : List Words) → v .first ≤ largestInt → (w : Words) × (w ∈ (v ∷ l)) × (leastOf (v ∷ l) ≡ w .first)
-least-in v l b = go (extreme-in false largestInt (v ∷ l)) (none-less largestInt (here refl))
-  where
-    go : (leastOf (v ∷ l) ≡ largestInt) ⊎ ((w : Words) × (w ∈ (v ∷ l)) × (leastOf (v ∷ l) ≡ w .first)) → leastOf (v ∷ l) ≤ v .first
-        → (w : Words) × (w ∈ (v ∷ l)) × (leastOf (v ∷ l) ≡ w .first)
-    go (inl e) h = (v, here refl, omega arith)
-    go (inr x) h = x
+    go : (far ≡ worst greatest) ⊎ ((w : Words) × (w ∈ (v ∷ l)) × (far ≡ w .first)) → (w : Words) × (w ∈ (v ∷ l)) × (far ≡ w .first)
+    go (inl e) =
+        (v, here refl, reaches-both greatest (v .first) far (none-further greatest (worst greatest) (here refl)) (subst (λ (x : ℕ). Reaches greatest x (v .first)) (sym e) b))
+    go (inr x) = x
 
 -- "some left and some right value are so ordered"
 abbrev pub someBefore : (ℕ → ℕ → Bool) → List Words → List Words → Bool
@@ -113,14 +112,14 @@ module _ (before : ℕ → ℕ → Bool) (wider : (a b x y : ℕ) → x ≤ a �
   ordered-ends =
       same-truth (before (leastOf (v ∷ low)) (greatestOf (w ∷ high))) (someBefore before (v ∷ low) (w ∷ high))
       (λ e.
-      let (a, m, p) = least-in v low small in
-      let (b, n, q) = greatest-in w high in
+      let (a, m, p) = extreme-met false v low small in
+      let (b, n, q) = extreme-met true w high (omega arith) in
       in-any (λ a. anyOf (λ b. before (a .first) (b .first)) (w ∷ high)) m
       (in-any (λ b. before (a .first) (b .first)) n (sym (ap (λ (x : ℕ). before x (b .first)) p) ∙ sym (ap (before (leastOf (v ∷ low))) q) ∙ e)))
       (λ e.
       let (a, m, p) = any-in (λ a. anyOf (λ b. before (a .first) (b .first)) (w ∷ high)) (v ∷ low) e in
       let (b, n, q) = any-in (λ b. before (a .first) (b .first)) (w ∷ high) p in
-      wider (a .first) (b .first) (leastOf (v ∷ low)) (greatestOf (w ∷ high)) (none-less largestInt m) (none-greater 0 n) q)
+      wider (a .first) (b .first) (leastOf (v ∷ low)) (greatestOf (w ∷ high)) (none-further false largestInt m) (none-further true 0 n) q)
 
 -- the two orders
 pub below-so : (v : Words) (low : List Words) (w : Words) (high : List Words) → v .first ≤ largestInt

@@ -12,12 +12,12 @@ use Rattle.values.specs.Operands.{Lent, chosen, pairWords, wordsFrom, en
 use Rattle.values.proofs.Constants.{int-short, as-int, constants-find}
 
 -- the values of an attribute's words, and of its entries
-module _ (L : Lent) (kind k : ℕ) where
-  pub session-values : k < 32 → operandValues L (operand kind 0 k 0) ≡ chosen (holds (L .session) k) (pairWords (L .pairs)) 256 0
+module _ (L : Lent) (ty k : ℕ) where
+  pub session-values : k < 32 → operandValues L (operand ty 0 k 0) ≡ chosen (holds (L .session) k) (pairWords (L .pairs)) 256 0
   unfolding valuesFrom firstOf wordsFrom
   session-values h = ap (λ (t : Bool). if t then chosen (holds (L .session) k) (pairWords (L .pairs)) 256 0 else []) (lt-ltb k 32 h)
 
-  pub block-values : operandValues L (operand kind 1 k 0) ≡ entriesFrom (L .entries) kind k 0
+  pub block-values : operandValues L (operand ty 1 k 0) ≡ entriesFrom (L .entries) ty k 0
   unfolding valuesFrom firstOf
   block-values = refl
 

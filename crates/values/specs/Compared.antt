@@ -89,11 +89,11 @@ ofPresent left right t = if (not (isEmpty left) && not (isEmpty right)) then t e
 
 -- an order, by the least of some values and the greatest of others; "an order between non-integers" gives UNDEF
 unfoldable pub orderOf : ℕ → Bool → List Words → List Words → model.Truth
-orderOf kind equal low high = if eqb kind 1 then truth (leastBelowGreatest equal low high) else model.UNDEF
+orderOf ty equal low high = if eqb ty 1 then truth (leastBelowGreatest equal low high) else model.UNDEF
 
 -- what an order says of two operands, the low one first
 abbrev pub belowOf : Lent → Bool → Operand → Operand → model.Truth
-belowOf L equal low high = ofPresent (operandValues L low) (operandValues L high) (orderOf (low .kind) equal (operandValues L low) (operandValues L high))
+belowOf L equal low high = ofPresent (operandValues L low) (operandValues L high) (orderOf (low .ty) equal (operandValues L low) (operandValues L high))
 
 -- r is what the operator of a number says of the atoms that two operands stand for; of a number that is no operator's, UNDEF
 pub record Compared (L : Lent) (n : ℕ) (left right : Operand) (r : Truth) : Type 0 where

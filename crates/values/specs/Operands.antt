@@ -55,11 +55,11 @@ wordsFrom pairs session k i = if ltb k attributeLimit then chosen (holds session
 
 -- "a 32-bit value … (bool 0 or 1)", by the number of the type
 abbrev pub entryWords : ℕ → ℕ → Words
-entryWords kind v = if eqb kind 3 then words (truthBit (eqb v 1)) 0 0 else words v 0 0
+entryWords ty v = if eqb ty 3 then words (truthBit (eqb v 1)) 0 0 else words v 0 0
 
 unfoldable pub entriesFrom : Bytes → ℕ → ℕ → ℕ → List Words
-entriesFrom entries kind k i =
-    chosen (λ j. eqb (byteAt entries (entryBytes * j)) k) (λ j. entryWords kind (valueAt entries (entryBytes * j + 1))) (length entries / entryBytes) i
+entriesFrom entries ty k i =
+    chosen (λ j. eqb (byteAt entries (entryBytes * j)) k) (λ j. entryWords ty (valueAt entries (entryBytes * j + 1))) (length entries / entryBytes) i
 
 -- ---- constants in rule code, from byte i up to the byte `end`, parted by a byte
 
@@ -80,16 +80,16 @@ strAt code end i =
     then found (threeWords (take (byteAt code (i + 1)) (drop (i + 2) code))) (i + 3 + byteAt code (i + 1)) else nothing
 
 unfoldable pub constantAt : ℕ → Bytes → ℕ → ℕ → Found
-constantAt kind code end i = if eqb kind 2 then strAt code end i else intAt code end i
+constantAt ty code end i = if eqb ty 2 then strAt code end i else intAt code end i
 
 -- at most n constants: each begins behind the one before it, so that a code's length is enough
 unfoldable pub constantsWithin : ℕ → ℕ → Bytes → ℕ → ℕ → List Words
-constantsWithin zero kind code end i = []
-constantsWithin (suc n) kind code end i =
-    if constantAt kind code end i .here then constantAt kind code end i .words ∷ constantsWithin n kind code end (constantAt kind code end i .next) else []
+constantsWithin zero ty code end i = []
+constantsWithin (suc n) ty code end i =
+    if constantAt ty code end i .here then constantAt ty code end i .words ∷ constantsWithin n ty code end (constantAt ty code end i .next) else []
 
 abbrev pub constantsFrom : ℕ → Bytes → ℕ → ℕ → List Words
-constantsFrom kind code end i = constantsWithin (length code - i) kind code end i
+constantsFrom ty code end i = constantsWithin (length code - i) ty code end i
 
 -- ---- an operand's values
 
@@ -97,8 +97,8 @@ constantsFrom kind code end i = constantsWithin (length code - i) kind code end 
 unfoldable pub valuesFrom : Lent → Operand → ℕ → List Words
 valuesFrom L o i =
     if eqb (o .place) 0 then wordsFrom (L .pairs) (L .session) (o .start) i
-    else (if eqb (o .place) 1 then entriesFrom (L .entries) (o .kind) (o .start) i
-    else constantsFrom (o .kind) (L .code) (o .end) i)
+    else (if eqb (o .place) 1 then entriesFrom (L .entries) (o .ty) (o .start) i
+    else constantsFrom (o .ty) (L .code) (o .end) i)
 
 -- where they begin
 unfoldable pub firstOf : Operand → ℕ
@@ -115,13 +115,13 @@ pub record Finds (from : ℕ → List Words) (i : ℕ) (r : Found) : Type 0 wher
 -- an operand stands for these atoms
 pub record Stands (L : Lent) (o : Operand) (atoms : List Atom) : Type 0 where
   pub coded : operandValues L o ≡ map atomWords atoms
-  pub typed : allOf (λ a. eqb (typeCode (typeOf a)) (o .kind)) atoms ≡ true
+  pub typed : allOf (λ a. eqb (typeCode (typeOf a)) (o .ty)) atoms ≡ true
   pub written : allOf isAtom atoms ≡ true
 
 -- ---- the operands that rules have
 
 abbrev pub operand : ℕ → ℕ → ℕ → ℕ → Operand
-operand kind place start end = record { kind = kind; place = place; start = start; end = end }
+operand ty place start end = record { ty = ty; place = place; start = start; end = end }
 
 abbrev pub noValues : Operand
 noValues = operand 0 2 0 0

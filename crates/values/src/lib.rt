@@ -39,7 +39,7 @@ const LARGEST: u64 = 4294967295;
 // The values beside an operator, all of one type.
 pub struct Operand {
     // The type; 0 where there is no value.
-    pub kind: u8,
+    pub ty: u8,
     pub place: u8,
     // The attribute's number; of constants, the byte of the code where they begin, and the one behind their last.
     pub start: usize,
@@ -83,21 +83,15 @@ fn one_word(first: u64) -> Words
     }
 }
 
-fn wide(x: u8) -> u64
-    ensures { λ r. ⌜ (r ≡ x) × (r ≤ 255) ⌝ }
-{
-    x as u64
-}
-
 // The number of four bytes, low byte first.
 pub fn four(s: &[u8], at: usize) -> u64
     requires { ⌜ at + 4 ≤ length (now s) ⌝ }
     ensures { λ r. ⌜ r ≡ valueAt (now (s .entry)) at ⌝ }
 {
-    let a = wide(s[at]);
-    let b = wide(s[at + 1]);
-    let c = wide(s[at + 2]);
-    let d = wide(s[at + 3]);
+    let a = codes::byte_to_word(s[at]);
+    let b = codes::byte_to_word(s[at + 1]);
+    let c = codes::byte_to_word(s[at + 2]);
+    let d = codes::byte_to_word(s[at + 3]);
     a + 256 * (b + 256 * (c + 256 * d))
 }
 
@@ -134,7 +128,7 @@ fn entry_number(entries: &[u8], k: usize, i: usize) -> usize
     let n = entries.len() / 5;
     let mut j = i;
     while j < n {
-        if wide(entries[5 * j]) == k as u64 {
+        if codes::byte_to_word(entries[5 * j]) == k as u64 {
             return j;
         }
         j += 1;
@@ -143,10 +137,10 @@ fn entry_number(entries: &[u8], k: usize, i: usize) -> usize
 }
 
 // "a 32-bit value, low byte first (bool 0 or 1)", by its type.
-fn entry_words(kind: u8, v: u64) -> Words
-    ensures { λ r. ⌜ r ≡ entryWords kind v ⌝ }
+fn entry_words(ty: u8, v: u64) -> Words
+    ensures { λ r. ⌜ r ≡ entryWords ty v ⌝ }
 {
-    if kind != BOOL {
+    if ty != BOOL {
         return one_word(v);
     }
     if v == 1 {
@@ -156,8 +150,8 @@ fn entry_words(kind: u8, v: u64) -> Words
 }
 
 // The first entry from number i on that is one of attribute k.
-fn entry_from(entries: &[u8], kind: u8, k: usize, i: usize) -> Found
-    ensures { λ r. ⌜ Finds (entriesFrom (now (entries .entry)) kind k) i r ⌝ }
+fn entry_from(entries: &[u8], ty: u8, k: usize, i: usize) -> Found
+    ensures { λ r. ⌜ Finds (entriesFrom (now (entries .entry)) ty k) i r ⌝ }
 {
     let j = entry_number(entries, k, i);
     if entries.len() / 5 <= j {
@@ -165,7 +159,7 @@ fn entry_from(entries: &[u8], kind: u8, k: usize, i: usize) -> Found
     }
     Found {
         here: true,
-        words: entry_words(kind, four(entries, 5 * j + 1)),
+        words: entry_words(ty, four(entries, 5 * j + 1)),
         next: j + 1,
     }
 }
@@ -220,10 +214,10 @@ fn str_at(code: &[u8], end: usize, i: usize) -> Found
 }
 
 // The constant at byte i.
-fn constant_from(code: &[u8], kind: u8, end: usize, i: usize) -> Found
-    ensures { λ r. ⌜ Finds (constantsFrom kind (now (code .entry)) end) i r ⌝ }
+fn constant_from(code: &[u8], ty: u8, end: usize, i: usize) -> Found
+    ensures { λ r. ⌜ Finds (constantsFrom ty (now (code .entry)) end) i r ⌝ }
 {
-    if kind == STR {
+    if ty == STR {
         str_at(code, end, i)
     } else {
         int_at(code, end, i)
@@ -245,8 +239,8 @@ fn value_from(
     let place = operand.place;
     match place {
         WORDS => pair_from(pairs, session, operand.start, i),
-        ENTRIES => entry_from(entries, operand.kind, operand.start, i),
-        _ => constant_from(code, operand.kind, operand.end, i),
+        ENTRIES => entry_from(entries, operand.ty, operand.start, i),
+        _ => constant_from(code, operand.ty, operand.end, i),
     }
 }
 
@@ -301,13 +295,13 @@ fn among_pairs(pairs: &[u64], session: &[u64; 128], wanted: Words, k: usize) -> 
 }
 
 // Whether a value is among those that the entries have of attribute k.
-fn among_entries(entries: &[u8], kind: u8, wanted: Words, k: usize) -> Truth
-    ensures { λ r. ⌜ truthOf r ≡ amongOf (entriesFrom (now (entries .entry)) kind k 0) wanted ⌝ }
+fn among_entries(entries: &[u8], ty: u8, wanted: Words, k: usize) -> Truth
+    ensures { λ r. ⌜ truthOf r ≡ amongOf (entriesFrom (now (entries .entry)) ty k 0) wanted ⌝ }
 {
     let mut some = false;
     let mut i: usize = 0;
     loop {
-        let f = entry_from(entries, kind, k, i);
+        let f = entry_from(entries, ty, k, i);
         if !f.here {
             return at_end(some);
         }
@@ -361,10 +355,10 @@ fn among_strs(code: &[u8], wanted: Words, start: usize, end: usize) -> Truth
 }
 
 // Whether a value is among the constants from byte `start` up to byte `end`.
-fn among_constants(code: &[u8], kind: u8, wanted: Words, start: usize, end: usize) -> Truth
-    ensures { λ r. ⌜ truthOf r ≡ amongOf (constantsFrom kind (now (code .entry)) end start) wanted ⌝ }
+fn among_constants(code: &[u8], ty: u8, wanted: Words, start: usize, end: usize) -> Truth
+    ensures { λ r. ⌜ truthOf r ≡ amongOf (constantsFrom ty (now (code .entry)) end start) wanted ⌝ }
 {
-    if kind == STR {
+    if ty == STR {
         among_strs(code, wanted, start, end)
     } else {
         among_ints(code, wanted, start, end)
@@ -386,8 +380,8 @@ fn among(
     let place = operand.place;
     match place {
         WORDS => among_pairs(pairs, session, wanted, operand.start),
-        ENTRIES => among_entries(entries, operand.kind, wanted, operand.start),
-        _ => among_constants(code, operand.kind, wanted, operand.start, operand.end),
+        ENTRIES => among_entries(entries, operand.ty, wanted, operand.start),
+        _ => among_constants(code, operand.ty, wanted, operand.start, operand.end),
     }
 }
 
@@ -554,7 +548,7 @@ fn extreme(
     operand: Operand,
     greatest: bool,
 ) -> Bound
-    requires { ⌜ (length (now pairs) ≡ 1024) × (operand .kind ≡ 1) ⌝ }
+    requires { ⌜ (length (now pairs) ≡ 1024) × (operand .ty ≡ 1) ⌝ }
     ensures { λ r. ⌜ Extreme greatest (operandValues (lent (now (code .entry)) (now (pairs .entry)) (now (session .entry)) (now (entries .entry))) operand) r ⌝ }
 {
     let place = operand.place;
@@ -576,10 +570,10 @@ fn below(
     high: Operand,
     equal: bool,
 ) -> Truth
-    requires { ⌜ (length (now pairs) ≡ 1024) × (low .kind ≡ high .kind) ⌝ }
+    requires { ⌜ (length (now pairs) ≡ 1024) × (low .ty ≡ high .ty) ⌝ }
     ensures { λ r. ⌜ truthOf r ≡ belowOf (lent (now (code .entry)) (now (pairs .entry)) (now (session .entry)) (now (entries .entry))) equal low high ⌝ }
 {
-    if low.kind != INT {
+    if low.ty != INT {
         return Truth::Undef;
     }
     let least = extreme(code, pairs, session, entries, low, false);
@@ -609,7 +603,7 @@ pub fn compare(
     requires { ⌜ length (now pairs) ≡ 1024 ⌝ }
     ensures { λ r. ⌜ Compared (lent (now (code .entry)) (now (pairs .entry)) (now (session .entry)) (now (entries .entry))) operator left right r ⌝ }
 {
-    if left.kind != right.kind {
+    if left.ty != right.ty {
         return Truth::Undef;
     }
     match operator {
@@ -635,7 +629,7 @@ pub fn lone(
     requires { ⌜ length (now pairs) ≡ 1024 ⌝ }
     ensures { λ r. ⌜ Lone (lent (now (code .entry)) (now (pairs .entry)) (now (session .entry)) (now (entries .entry))) operand r ⌝ }
 {
-    if operand.kind != BOOL {
+    if operand.ty != BOOL {
         return Truth::Undef;
     }
     among(code, pairs, session, entries, one_word(1), operand)
@@ -646,7 +640,7 @@ pub fn no_values() -> Operand
     ensures { λ r. ⌜ r ≡ noValues ⌝ }
 {
     Operand {
-        kind: 0,
+        ty: 0,
         place: CONSTANTS,
         start: 0,
         end: 0,
@@ -654,11 +648,11 @@ pub fn no_values() -> Operand
 }
 
 // The constants of one type in the code from byte `start` up to byte `end`, parted by a byte.
-pub fn constant(kind: u8, start: usize, end: usize) -> Operand
-    ensures { λ r. ⌜ r ≡ operand kind 2 start end ⌝ }
+pub fn constant(ty: u8, start: usize, end: usize) -> Operand
+    ensures { λ r. ⌜ r ≡ operand ty 2 start end ⌝ }
 {
     Operand {
-        kind,
+        ty,
         place: CONSTANTS,
         start,
         end,
@@ -670,8 +664,8 @@ fn type_of(attributes: &[u64], k: usize) -> u8
     requires { ⌜ (length (now attributes) ≡ 256) × (k < 32) ⌝ }
     ensures { λ r. ⌜ r ≡ rowType (now (attributes .entry)) k ⌝ }
 {
-    let kind = attributes[8 * k + 1];
-    if kind <= 3 { kind as u8 } else { 0 }
+    let ty = attributes[8 * k + 1];
+    if ty <= 3 { ty as u8 } else { 0 }
 }
 
 // The values of attribute k: in the session for user, object and admin, in the block for env and connect; none where no attribute has that number.
@@ -688,14 +682,14 @@ pub fn attribute(attributes: &[u64], k: usize) -> Operand
     }
     if source <= 3 {
         return Operand {
-            kind: type_of(attributes, k),
+            ty: type_of(attributes, k),
             place: WORDS,
             start: k,
             end: 0,
         };
     }
     Operand {
-        kind: type_of(attributes, k),
+        ty: type_of(attributes, k),
         place: ENTRIES,
         start: k,
         end: 0,

@@ -1,6 +1,6 @@
 -- The text of a book's words is the file of the state that it holds. Assumes nothing.
 use Prim.Native.Nat.{ℕ}
-use mathlib.Core.Path.{_≡_, sym, ap, ap₂, _∙_}
+use mathlib.Core.Path.{_≡_, sym, ap₂, _∙_}
 use mathlib.Core.List.{List, _++_, append-assoc}
 use Rattle.model.specs.Notation.{map, each}
 use Rattle.model.specs.Limits.{Edition}
@@ -13,10 +13,10 @@ use Rattle.model.specs.FileText.{attributeLine, pairLine, ruleLine, holderLines
 use Rattle.book.specs.Held.{Holds}
 use Rattle.writer.specs.Texts.{bookText}
 use Rattle.model.proofs.Lists.{each-append}
-use Rattle.writer.proofs.BookDeclared.{pair-name, pair-atom, declared-text}
-use Rattle.writer.proofs.BookHolders.{holders-text}
+use Rattle.spelling.proofs.BookDeclared.{pair-name, pair-atom, declared-text}
+use Rattle.spelling.proofs.BookHolders.{holders-text}
 use Rattle.writer.proofs.BookTies.{ties-text}
-use Rattle.writer.proofs.BookRules.{rules-text}
+use Rattle.spelling.proofs.BookRules.{rules-text}
 
 module _ {book : List ℕ} {rules : Bytes} {S : State} (standing : Standing S) (held : Holds book rules S) where
   abbrev D : Declarations
@@ -29,27 +29,7 @@ module _ {book : List ℕ} {rules : Bytes} {S : State} (standing : Standing S) (
   lines-apart : text (fileLines S)
       ≡ (text (map attributeLine (D .attributes)) ++ (text (map op (D .operations)) ++ text (map pairLine (D .pairs)))) ++ (text (holderLines D) ++ (text (tieLines S) ++ text (map ruleLine (D .rules))))
   unfolding fileLines
-  lines-apart =
-      apart (map attributeLine (D .attributes)) _ ∙ ap (λ (s : Bytes). a ++ s)
-      (apart (map op (D .operations)) _ ∙ ap (λ (s : Bytes). o ++ s)
-      (apart (map pairLine (D .pairs)) _ ∙ ap (λ (s : Bytes). p ++ s) (apart (holderLines D) _ ∙ ap (λ (s : Bytes). text (holderLines D) ++ s) (apart (tieLines S) (map ruleLine (D .rules))))))
-      ∙ ap (λ (s : Bytes). a ++ s) (sym (append-assoc o p rest))
-      ∙ sym (append-assoc a (o ++ p) rest)
-    where
-      apart : (xs ys : List Line) → text (xs ++ ys) ≡ text xs ++ text ys
-      apart xs ys = each-append lineText xs ys
-
-      a : Bytes
-      a = text (map attributeLine (D .attributes))
-
-      o : Bytes
-      o = text (map op (D .operations))
-
-      p : Bytes
-      p = text (map pairLine (D .pairs))
-
-      rest : Bytes
-      rest = text (holderLines D) ++ (text (tieLines S) ++ text (map ruleLine (D .rules)))
+  lines-apart = simp (each-append, append-assoc)
 
   pub book-text : bookText book rules ≡ fileText S
   unfolding bookText fileText

@@ -12,7 +12,7 @@ use Rattle.model.specs.Limits.{pairLimit}
 use Rattle.model.specs.Bytes.{Bytes, bytes}
 use Rattle.model.specs.Atoms.{writeAtom}
 use Rattle.model.specs.Declarations.{Holder, Pair, Sort, holderOf, sortOf, holderNumbersOf, isGroup, parentSort, groupSort, groups}
-use Rattle.model.specs.Lines.{parent as parentLine, member as memberLine, value as valueLine}
+use Rattle.model.specs.Lines.{Line, parent as parentLine, member as memberLine, value as valueLine}
 use Rattle.model.specs.Ties.{Tie, up}
 use Rattle.model.specs.State.{State}
 use Rattle.model.specs.Standing.{Standing}
@@ -28,23 +28,12 @@ use Rattle.book.specs.Held.{Holds}
 use Rattle.book.proofs.HeldNumbers.{sorted-in-book}
 use Rattle.book.proofs.Sections.{part-size}
 use Rattle.output.specs.Laid.{wordText}
-use Rattle.writer.specs.Texts.{listedText, nameText, rowOfPair, pairAtomText, lineEnd, inMask, hasUp, upLineText, upText, keyOfUps, holderUpsText, ownOf, valueLineText, valueText, valuesText, tiesText}
-use Rattle.writer.proofs.LaidTexts.{each-none, each-same}
+use Rattle.writer.specs.Texts.{memberText, inMask, hasUp, upLineText, upText, keyOfUps, holderUpsText, ownOf, valueLineText, valuesText, tiesText}
+use Rattle.spelling.specs.LineTexts.{keyWords, listedText, nameText, rowOfPair, pairAtomText, lineEnd}
 use Rattle.writer.proofs.TieTexts.{member-key, parent-key, ups-of-key, ups-of-other}
-use Rattle.writer.proofs.Listing.{each-ext, each-map, each-filter}
-use Rattle.writer.proofs.SectionWords.{section-word, word-at}
-use Rattle.writer.proofs.BookHolders.{holder-there, holder-numbers, holder-count, holder-name}
-
--- ---- texts, joined from the right and from the left
-
-join₃ : (a b c e : Bytes) → a ++ (b ++ (c ++ e)) ≡ ((a ++ b) ++ c) ++ e
-join₃ a b c e = sym (append-assoc a b (c ++ e)) ∙ sym (append-assoc (a ++ b) c e)
-
-join₄ : (a b c d e : Bytes) → a ++ (b ++ (c ++ (d ++ e))) ≡ (((a ++ b) ++ c) ++ d) ++ e
-join₄ a b c d e = join₃ a b c (d ++ e) ∙ sym (append-assoc ((a ++ b) ++ c) d e)
-
-join₆ : (a b c d f g e : Bytes) → a ++ (b ++ (c ++ (d ++ (f ++ (g ++ e))))) ≡ (((((a ++ b) ++ c) ++ d) ++ f) ++ g) ++ e
-join₆ a b c d f g e = join₄ a b c d (f ++ (g ++ e)) ∙ join₃ (((a ++ b) ++ c) ++ d) f g e
+use Rattle.spelling.proofs.Listing.{each-ext, each-map, each-filter, each-none, each-same}
+use Rattle.spelling.proofs.SectionWords.{section-word, word-at}
+use Rattle.spelling.proofs.BookHolders.{holder-there, holder-numbers, holder-count, holder-name}
 
 -- ---- sorts
 
@@ -88,18 +77,18 @@ module _ {book : List ℕ} {rules : Bytes} {S : State} (standing : Standing S) (
   ups-long : length (sectionWords section.ups book) ≡ 256
   ups-long = part-size section.ups book (held .long) (omega arith)
 
-  -- ---- seats
+  -- ---- the slots of groups
 
-  seat-group : (g : ℕ) (s : Sort) → sortOf (S .declared) g ≡ some s → isGroup s ≡ true
-      → (q : ℕ) × (getD book (section.seats .start + g) 0 ≡ suc q) × (q < 64) × (getD slots q 0 ≡ g)
-  seat-group g s e f =
-      let (q, a, b, c) = held .groups .seated g s e f in
-      (q, word-at section.seats book a (sorted-in-book standing held g e) refl, omega (arith, b, standing .declarations .holders .few-groups), c)
+  group-slot : (g : ℕ) (s : Sort) → sortOf (S .declared) g ≡ some s → isGroup s ≡ true
+      → (q : ℕ) × (getD book (section.slotOf .start + g) 0 ≡ suc q) × (q < 64) × (getD slots q 0 ≡ g)
+  group-slot g s e f =
+      let (q, a, b, c) = held .groups .in-slot g s e f in
+      (q, word-at section.slotOf book a (sorted-in-book standing held g e) refl, omega (arith, b, standing .declarations .holders .few-groups), c)
 
-  seat-other : (g : ℕ) (s : Sort) → sortOf (S .declared) g ≡ some s → isGroup s ≡ false → getD book (section.seats .start + g) 0 ≡ 0
-  seat-other g s e f =
+  other-slot : (g : ℕ) (s : Sort) → sortOf (S .declared) g ≡ some s → isGroup s ≡ false → getD book (section.slotOf .start + g) 0 ≡ 0
+  other-slot g s e f =
       let l = sorted-in-book standing held g e in
-      word-at section.seats book (held .groups .unseated g l (λ t d. ap isGroup (Option·some-injective t s (sym d ∙ e)) ∙ f)) l refl
+      word-at section.slotOf book (held .groups .no-slot g l (λ t d. ap isGroup (Option·some-injective t s (sym d ∙ e)) ∙ f)) l refl
 
   -- ---- ties up
 
@@ -127,25 +116,24 @@ module _ {book : List ℕ} {rules : Bytes} {S : State} (standing : Standing S) (
   abbrev tieText : Tie → Bytes
   tieText t = if S .ties t then each lineText (listed (tieLine (S .declared) t)) else []
 
-  parent-line : (h g : ℕ) → h < count → g < count → upLineText book 8 h g ≡ each lineText (listed (tieLine (S .declared) (Tie.parent h g)))
-  unfolding listedText wordText
-  parent-line h g l m =
+  -- the line of a tie up, from the word of its key
+  up-line : (key : ℕ) (line : Bytes → Bytes → Line) → ((x y : Bytes) → listedText keyWords key ++ (x ++ (bytes "," ++ (y ++ lineEnd))) ≡ lineText (line x y)) → (h g : ℕ) → h < count → g < count
+      → upLineText book key h g ≡ each lineText (listed (holderOf (S .declared) h >>= λ c. holderOf (S .declared) g >>= λ d. some (line (c .name) (d .name))))
+  up-line key line spells h g l m =
       let (a, e) = holder-there standing held h l in
       let (b, f) = holder-there standing held g m in
-      ap₂ (λ (x y : Bytes). bytes "parent=" ++ (x ++ (bytes "," ++ (y ++ lineEnd)))) (holder-name standing held h a e) (holder-name standing held g b f)
-      ∙ join₄ (bytes "parent=") (a .name) (bytes ",") (b .name) lineEnd
-      ∙ sym (append-nil (lineText (parentLine (a .name) (b .name))))
-      ∙ ap₂ (λ (o p : Option Holder). each lineText (listed (o >>= λ c. p >>= λ d. some (parentLine (c .name) (d .name))))) (sym e) (sym f)
+      ap₂ (λ (x y : Bytes). listedText keyWords key ++ (x ++ (bytes "," ++ (y ++ lineEnd)))) (holder-name standing held h a e) (holder-name standing held g b f)
+      ∙ spells (a .name) (b .name)
+      ∙ sym (append-nil (lineText (line (a .name) (b .name))))
+      ∙ ap₂ (λ (o p : Option Holder). each lineText (listed (o >>= λ c. p >>= λ d. some (line (c .name) (d .name))))) (sym e) (sym f)
+
+  parent-line : (h g : ℕ) → h < count → g < count → upLineText book 8 h g ≡ each lineText (listed (tieLine (S .declared) (Tie.parent h g)))
+  unfolding listedText wordText
+  parent-line = up-line 8 parentLine (λ x y. simp append-assoc)
 
   member-line : (h g : ℕ) → h < count → g < count → upLineText book 9 h g ≡ each lineText (listed (tieLine (S .declared) (Tie.member h g)))
   unfolding listedText wordText
-  member-line h g l m =
-      let (a, e) = holder-there standing held h l in
-      let (b, f) = holder-there standing held g m in
-      ap₂ (λ (x y : Bytes). bytes "member=" ++ (x ++ (bytes "," ++ (y ++ lineEnd)))) (holder-name standing held h a e) (holder-name standing held g b f)
-      ∙ join₄ (bytes "member=") (a .name) (bytes ",") (b .name) lineEnd
-      ∙ sym (append-nil (lineText (memberLine (a .name) (b .name))))
-      ∙ ap₂ (λ (o p : Option Holder). each lineText (listed (o >>= λ c. p >>= λ d. some (memberLine (c .name) (d .name))))) (sym e) (sym f)
+  member-line = up-line 9 memberLine (λ x y. simp append-assoc)
 
   -- ---- the ties of a holder up, of one key
 
@@ -165,33 +153,35 @@ module _ {book : List ℕ} {rules : Bytes} {S : State} (standing : Standing S) (
       (λ g a b. ap (λ (t : Bool). if t then each lineText (listed (tieLine (S .declared) (tie h g))) else []) (no-tie g))
 
   group-key : (h : ℕ) (s : Sort) → sortOf (S .declared) h ≡ some s → isGroup s ≡ true → keyOfUps book h ≡ 8
-  group-key h s e f = let (q, a, b, c) = seat-group h s e f in sym (parent-key book h (λ z. omega arith))
+  group-key h s e f = let (q, a, b, c) = group-slot h s e f in sym (parent-key book h (λ z. omega arith))
 
   other-key : (h : ℕ) (s : Sort) → sortOf (S .declared) h ≡ some s → isGroup s ≡ false → keyOfUps book h ≡ 9
-  other-key h s e f = sym (member-key book h (seat-other h s e f))
+  other-key h s e f = sym (member-key book h (other-slot h s e f))
+
+  -- a holder is a group or not
+  by-sort : {P : Type 0} (h : ℕ) → h < count → ((s : Sort) → sortOf (S .declared) h ≡ some s → isGroup s ≡ true → P)
+      → ((s : Sort) → sortOf (S .declared) h ≡ some s → isGroup s ≡ false → P) → P
+  by-sort {P} h l group other = let (a, e) = holder-there standing held h l in go (a .sort) (sort-of h a e) (isGroup (a .sort)) refl
+    where
+      go : (s : Sort) → sortOf (S .declared) h ≡ some s → (t : Bool) → isGroup s ≡ t → P
+      go s e true f = group s e f
+      go s e false f = other s e f
 
   -- those of the key `parent`, and of the key `member`
   parents-of : (h : ℕ) → h < count → holderUpsText book count 8 h ≡ each (λ g. tieText (Tie.parent h g)) (below count)
-  parents-of h l = let (a, e) = holder-there standing held h l in go (a .sort) (sort-of h a e) (isGroup (a .sort)) refl
-    where
-      go : (s : Sort) → sortOf (S .declared) h ≡ some s → (t : Bool) → isGroup s ≡ t
-          → holderUpsText book count 8 h ≡ each (λ g. tieText (Tie.parent h g)) (below count)
-      go s e true f =
-          ups-text 8 Tie.parent h (group-key h s e f)
-          (λ g m. up-is h g (sorted-in-book standing held h e) m ∙ or-off (S .ties (Tie.parent h g)) (S .ties (Tie.member h g)) (no-member h s e f g))
-          (λ g m. parent-line h g l m)
-      go s e false f = no-ups-text 8 Tie.parent h (λ z. let y = other-key h s e f in omega arith) (no-parent h s e f)
+  parents-of h l =
+      by-sort h l
+      (λ s e f. ups-text 8 Tie.parent h (group-key h s e f)
+      (λ g m. up-is h g (sorted-in-book standing held h e) m ∙ or-off (S .ties (Tie.parent h g)) (S .ties (Tie.member h g)) (no-member h s e f g))
+      (λ g m. parent-line h g l m))
+      (λ s e f. no-ups-text 8 Tie.parent h (λ z. let y = other-key h s e f in omega arith) (no-parent h s e f))
 
   members-of : (h : ℕ) → h < count → holderUpsText book count 9 h ≡ each (λ g. tieText (Tie.member h g)) (below count)
-  members-of h l = let (a, e) = holder-there standing held h l in go (a .sort) (sort-of h a e) (isGroup (a .sort)) refl
-    where
-      go : (s : Sort) → sortOf (S .declared) h ≡ some s → (t : Bool) → isGroup s ≡ t
-          → holderUpsText book count 9 h ≡ each (λ g. tieText (Tie.member h g)) (below count)
-      go s e true f = no-ups-text 9 Tie.member h (λ z. let y = group-key h s e f in omega arith) (no-member h s e f)
-      go s e false f =
-          ups-text 9 Tie.member h (other-key h s e f)
-          (λ g m. up-is h g (sorted-in-book standing held h e) m ∙ ap (λ (t : Bool). t || S .ties (Tie.member h g)) (no-parent h s e f g))
-          (λ g m. member-line h g l m)
+  members-of h l =
+      by-sort h l (λ s e f. no-ups-text 9 Tie.member h (λ z. let y = group-key h s e f in omega arith) (no-member h s e f))
+      (λ s e f. ups-text 9 Tie.member h (other-key h s e f)
+      (λ g m. up-is h g (sorted-in-book standing held h e) m ∙ ap (λ (t : Bool). t || S .ties (Tie.member h g)) (no-parent h s e f g))
+      (λ g m. member-line h g l m))
 
   -- ---- the values of a holder
 
@@ -244,18 +234,18 @@ module _ {book : List ℕ} {rules : Bytes} {S : State} (standing : Standing S) (
         ap₂ (λ (x y : Bytes). bytes "value=" ++ (x ++ (bytes "," ++ (y ++ (bytes "," ++ (pairAtomText book p ++ lineEnd))))))
         (holder-name standing held h a e) (pair-name p q f)
         ∙ ap (λ (z : Bytes). bytes "value=" ++ (a .name ++ (bytes "," ++ (q .name ++ (bytes "," ++ (z ++ lineEnd)))))) (pair-atom p q f)
-        ∙ join₆ (bytes "value=") (a .name) (bytes ",") (q .name) (bytes ",") (writeAtom (q .atom)) lineEnd
+        ∙ (simp append-assoc)
         ∙ sym (append-nil (lineText (valueLine (a .name) (q .name) (q .atom))))
         ∙ ap₂ (λ (o : Option Holder) (u : Option Pair). each lineText (listed (o >>= λ k. u >>= λ q. some (valueLine (k .name) (q .name) (q .atom))))) (sym e) (sym f)
 
     values-of : (h : ℕ) → h < count → valuesText book h ≡ each (λ p. tieText (Tie.value h p)) (below (length (S .declared .pairs)))
-    unfolding valueText
+    unfolding memberText
     values-of h l =
         let (a, e) = holder-there standing held h l in
         let few = sorted-in-book standing held h (sort-of h a e) in
-        sym (each-none (valueText book h) (length (S .declared .pairs)) pairLimit (pairs-fit standing)
+        sym (each-none (memberText (ownOf book h) (valueLineText book h)) (length (S .declared .pairs)) pairLimit (pairs-fit standing)
         (λ p i j. ap (λ (t : Bool). if t then valueLineText book h p else []) (own-is h p few j ∙ off (S .ties (Tie.value h p)) (λ on. no-pair p i on))))
-        ∙ each-same (valueText book h) (λ p. tieText (Tie.value h p)) (length (S .declared .pairs))
+        ∙ each-same (memberText (ownOf book h) (valueLineText book h)) (λ p. tieText (Tie.value h p)) (length (S .declared .pairs))
         (λ p i. ap₂ (λ (t : Bool) (x : Bytes). if t then x else []) (own-is h p few (omega (arith, pairs-fit standing))) (value-line h p l i))
       where
         no-pair : (p : ℕ) → length (S .declared .pairs) ≤ p → S .ties (Tie.value h p) ≡ true → ⊥

@@ -1,37 +1,41 @@
 -- The texts of ties: which of them are there, and where none is, so that a walk may pass over them. Assumes nothing.
-use Prim.Native.Nat.{ℕ, zero, suc, _+_, _*_, _/_, _%_, _≤_, _<_, min}
+use Prim.Native.Nat.{ℕ, zero, suc, _+_, _-_, _*_, _/_, _%_, _≤_, _<_, min}
 use mathlib.Core.Path.{_≡_, refl, sym, ap, subst, _∙_}
 use mathlib.Core.Bool.{Bool, true, false, _&&_, _||_, not, or-false, or-assoc}
 use mathlib.Core.List.{List, [], _∷_}
 use native.Mathlib.Decide.{decLt}
+use native.Mathlib.Nat.{mul-le-mul-left}
 use native.Mathlib.Omega.{arith}
-use borrow.Author.Tests.{eq-eqb, ne-eqb}
+use borrow.Author.Tests.{ne-eqb}
 use lib.Dec.{eqb}
-use lib.ListN.{length, getD, drop, length-drop}
+use lib.ListN.{length, getD, take, drop, length-drop}
 use lib.Seq.{length-take-le}
 use Rattle.model.specs.Notation.{if_then_else_, each, below}
-use Rattle.model.specs.Limits.{pairLimit}
+use Rattle.model.specs.Bytes.{Bytes}
 use Rattle.bits.specs.Bits.{bit, member}
 use Rattle.bits.specs.Lowest.{FirstFrom}
 use Rattle.bits.proofs.Bits.{bit-none}
 use Rattle.bits.proofs.Walks.{any-left, none-left}
 use Rattle.ties.proofs.Masks.{eqb-flip}
+use Rattle.output.specs.Laid.{Laid}
+use Rattle.output.proofs.Laying.{laid-as}
 use Rattle.book.specs.Sections as section
 use Rattle.book.specs.Sections.{sectionWords, bookWords, bookHolders}
 use Rattle.writer.specs.GroupSets.{AddsGroup, AddsGroups}
-use Rattle.writer.specs.Texts.{inMask, upLineText, upAmong, upText, upsText, keyOfUps, holderUpsText, ownOf, valueLineText, valueText}
-use Rattle.writer.proofs.LaidTexts.{chosen, passed, each-none, each-same}
+use Rattle.writer.specs.Texts.{memberText, inMask, upLineText, upText, upsText, keyOfUps, holderUpsText, ownOf}
+use Rattle.spelling.proofs.LaidTexts.{chosen, passed, EachLaid, each-start, each-next, each-end}
+use Rattle.spelling.proofs.Listing.{each-none, each-same}
 
 -- ---- ties up
 
 module _ (book : List ℕ) (h : ℕ) where
-  pub member-key : getD book (section.seats .start + h) 0 ≡ 0 → 9 ≡ keyOfUps book h
+  pub member-key : getD book (section.slotOf .start + h) 0 ≡ 0 → 9 ≡ keyOfUps book h
   unfolding keyOfUps
-  member-key e = ap (λ (t : Bool). if t then 9 else 8) (sym (eq-eqb (getD book (section.seats .start + h) 0) 0 e))
+  member-key e = chosen 9 8 e
 
-  pub parent-key : (getD book (section.seats .start + h) 0 ≡ 0 → ⊥) → 8 ≡ keyOfUps book h
+  pub parent-key : (getD book (section.slotOf .start + h) 0 ≡ 0 → ⊥) → 8 ≡ keyOfUps book h
   unfolding keyOfUps
-  parent-key e = ap (λ (t : Bool). if t then 9 else 8) (sym (ne-eqb (getD book (section.seats .start + h) 0) 0 e))
+  parent-key e = passed 9 8 e
 
   module _ (n key : ℕ) where
     pub ups-of-key : keyOfUps book h ≡ key → upsText book n key h ≡ holderUpsText book n key h
@@ -80,34 +84,56 @@ groups-end {slots} {mask} {before} {groups} {left} so-far none = record {
       ∙ so-far .members g m;
 }
 
-module _ (groups book : List ℕ) (n key h : ℕ) where
-  pub among-there : (g : ℕ) → member groups g ≡ true → upLineText book key h g ≡ upAmong groups book key h g
-  unfolding upAmong
-  among-there g e = ap (λ (t : Bool). if t then upLineText book key h g else []) (sym e)
+-- ---- the lines of a set's members
 
-  among-lacks : (g : ℕ) → member groups g ≡ false → upAmong groups book key h g ≡ []
-  unfolding upAmong
-  among-lacks g e = ap (λ (t : Bool). if t then upLineText book key h g else []) e
+module _ (s : List ℕ) (line : ℕ → Bytes) where
+  among-lacks : (k : ℕ) → member s k ≡ false → memberText s line k ≡ []
+  unfolding memberText
+  among-lacks k e = ap (λ (t : Bool). if t then line k else []) e
 
-  -- r is the next group of the set from g on: the texts of those between are empty. All of them, where it is n or more
-  pub record NextGroup (g r : ℕ) : Type 0 where
-    pub from : g ≤ r
-    pub line : r < n → upLineText book key h r ≡ upAmong groups book key h r
-    pub passes : each (upAmong groups book key h) (below g) ≡ each (upAmong groups book key h) (below (min r n))
+  among-there : (k : ℕ) → member s k ≡ true → line k ≡ memberText s line k
+  unfolding memberText
+  among-there k e = ap (λ (t : Bool). if t then line k else []) (sym e)
 
-  pub next-group : {g r : ℕ} → length groups ≡ 4 → n ≤ 256 → g ≤ n → FirstFrom groups g r → NextGroup g r
-  next-group {g} {r} long few l f = go (decLt r 256)
-    where
-      rest : g ≤ r → NextGroup g r
-      rest q = record {
-        from = q;
-        line = λ m. among-there r (f .held (omega arith) .1);
-        passes = each-none (upAmong groups book key h) g (min r n) (omega arith) (λ k a b. among-lacks k (f .lower k a (omega arith)));
+  -- the lines of the members below k are laid, each of `most` bytes at most, and k is the next member, or no number below n
+  pub record WalkLaid (most n : ℕ) (before : Bytes) (at : ℕ) (out : Bytes) (m k : ℕ) : Type 0 where
+    pub next : k < n → member s k ≡ true
+    pub so-far : EachLaid (memberText s line) most before at out m (min k n)
+
+-- the next member is no earlier
+pub walk-less : {s : List ℕ} {n i r : ℕ} → length s ≡ 4 → n ≤ 256 → i ≤ n → FirstFrom s i r → i ≤ r
+walk-less {n = n} {i} {r} long few l f = go (decLt r 256)
+  where
+    go : Dec (r < 256) → i ≤ r
+    go (yes m) = f .held (omega arith) .0
+    go (no m) = omega arith
+
+module _ {s : List ℕ} {line : ℕ → Bytes} {most n : ℕ} (long : length s ≡ 4) (few : n ≤ 256) where
+  -- the texts between have no bytes
+  walk-on : {before : Bytes} {at : ℕ} {out : Bytes} {m i r : ℕ} → i ≤ n → FirstFrom s i r → EachLaid (memberText s line) most before at out m i → WalkLaid s line most n before at out m r
+  walk-on {i = i} {r} l f so-far =
+      let from = walk-less long few l f in
+      let grows : most * i ≤ most * min r n = mul-le-mul-left most (let z : i ≤ min r n = omega arith in z) in
+      record {
+        next = λ g. f .held (omega arith) .1;
+        so-far = record {
+          laid = laid-as (each-none (memberText s line) i (min r n) (omega arith) (λ k a b. among-lacks s line k (f .lower k a (omega arith)))) (so-far .laid);
+          room = omega (arith, so-far .room, grows);
+        };
       }
 
-      go : Dec (r < 256) → NextGroup g r
-      go (yes m) = rest (f .held (omega arith) .0)
-      go (no m) = rest (omega arith)
+  pub walk-start : (before : Bytes) (at : ℕ) {r : ℕ} → FirstFrom s 0 r → WalkLaid s line most n before at before at r
+  walk-start before at f = walk-on (omega arith) f (each-start before at)
+
+  pub walk-next : {before : Bytes} {at : ℕ} {out : Bytes} {m k : ℕ} → WalkLaid s line most n before at out m k → k < n → {after : Bytes} {r : ℕ}
+      → Laid out m (line k) after r × (r ≤ m + most) → {j : ℕ} → FirstFrom s (k + 1) j → WalkLaid s line most n before at after r j
+  walk-next {before} {at} {out} {m} {k} w l (p, room) f =
+      let e : min k n ≡ k = omega arith in
+      walk-on (omega arith) f (each-next (subst (λ (i : ℕ). EachLaid (memberText s line) most before at out m i) e (w .so-far)) (laid-as (among-there s line k (w .next l)) p, room))
+
+  pub walk-end : {before : Bytes} {at : ℕ} {out : Bytes} {m k : ℕ} → WalkLaid s line most n before at out m k → n ≤ k
+      → Laid before at (each (memberText s line) (below n)) out m × (m ≤ at + most * n)
+  walk-end {k = k} w l = let e : min k n ≡ n = omega arith in each-end (w .so-far) e (refl, omega arith)
 
 -- four words of 0 hold no number
 abbrev pub noGroups : List ℕ
@@ -126,48 +152,22 @@ none-in g = ap (λ (w : ℕ). bit w (g % 64)) (word (g / 64)) ∙ bit-none (g % 
 
 -- a set that was empty, with the groups of a holder's mask: its lines are those of the holder's ties
 pub ups-among : (groups before book : List ℕ) (n key h : ℕ) {mask : ℕ} → n ≤ 256 → ((g : ℕ) → member before g ≡ false) → mask ≡ getD book (section.ups .start + h) 0
-    → AddsGroups (sectionWords section.slots book) mask before groups → each (upAmong groups book key h) (below n) ≡ upsText book n key h
-unfolding upAmong upText
+    → AddsGroups (sectionWords section.slots book) mask before groups → each (memberText groups (upLineText book key h)) (below n) ≡ upsText book n key h
+unfolding memberText upText
 ups-among groups before book n key h {mask} few empty same added =
-    each-same (upAmong groups book key h) (upText book key h) n
+    each-same (memberText groups (upLineText book key h)) (upText book key h) n
     (λ g l. ap (λ (t : Bool). if t then upLineText book key h g else [])
     (added .members g (omega arith) ∙ ap (λ (b : Bool). b || inMask (sectionWords section.slots book) mask g) (empty g) ∙ ap (λ (m : ℕ). inMask (sectionWords section.slots book) m g) same))
 
 -- ---- values
 
+-- the words that are lent for a walk over a holder's pairs are its own
 module _ (book : List ℕ) (h : ℕ) where
-  pub value-there : (p : ℕ) → member (ownOf book h) p ≡ true → valueLineText book h p ≡ valueText book h p
-  unfolding valueText
-  value-there p e = ap (λ (t : Bool). if t then valueLineText book h p else []) (sym e)
+  abbrev start : ℕ
+  start = section.own .start + 4 * h
 
-  value-lacks : (p : ℕ) → member (ownOf book h) p ≡ false → valueText book h p ≡ []
-  unfolding valueText
-  value-lacks p e = ap (λ (t : Bool). if t then valueLineText book h p else []) e
+  pub lent-own : take (start + 4 - start) (drop start book) ≡ ownOf book h
+  lent-own = let z : start + 4 - start ≡ 4 = omega arith in ap (λ (k : ℕ). take k (drop start book)) z
 
-  pub own-long : length book ≡ bookWords → h < 256 → length (ownOf book h) ≡ 4
-  own-long l m = length-take-le 4 (drop (section.own .start + 4 * h) book) (omega (arith, length-drop (section.own .start + 4 * h) book))
-
-  -- r is the next pair from i on: the texts of those between are empty
-  pub record NextValue (i r : ℕ) : Type 0 where
-    pub from : i ≤ r
-    pub within : r ≤ pairLimit
-    pub held : r < pairLimit → member (ownOf book h) r ≡ true
-    pub passes : each (valueText book h) (below i) ≡ each (valueText book h) (below r)
-
-  pub next-value : {own : List ℕ} {i r : ℕ} → own ≡ ownOf book h → length (ownOf book h) ≡ 4 → i ≤ 256 → FirstFrom own i r → NextValue i r
-  next-value {own} {i} {r} same long l f = go (subst (λ (s : List ℕ). FirstFrom s i r) same f)
-    where
-      go : FirstFrom (ownOf book h) i r → NextValue i r
-      go f = between (decLt r 256)
-        where
-          rest : i ≤ r → NextValue i r
-          rest q = record {
-            from = q;
-            within = omega (arith, f .within);
-            held = λ m. f .held (omega arith) .1;
-            passes = each-none (valueText book h) i r q (λ k a b. value-lacks k (f .lower k a b));
-          }
-
-          between : Dec (r < 256) → NextValue i r
-          between (yes m) = rest (f .held (omega arith) .0)
-          between (no m) = rest (omega arith)
+  pub lent-long : length book ≡ bookWords → h < 256 → length (take (start + 4 - start) (drop start book)) ≡ 4
+  lent-long l m = ap length lent-own ∙ length-take-le 4 (drop start book) (omega (arith, length-drop start book))

@@ -1,10 +1,10 @@
 // The file as it stands now: the text of the state that a book holds, put into a lent buffer. Length and writing are one walk: over a buffer of 0 bytes it
 // tells the length, so that a refusal is known before a byte is written.
-ghost use mathlib.Core.Path.{_≡_};
 ghost use Prim.Native.Nat.{_≤_};
 ghost use lib.ListN.{length};
 ghost use Rattle.output.specs.Laid.{Laid};
-ghost use Rattle.writer.specs.Texts.{declaredText, holdersText, tiesText, bookText};
+ghost use Rattle.writer.specs.Texts.{tiesText, bookText};
+ghost use Rattle.spelling.specs.LineTexts.{declaredText, holdersText};
 ghost use Rattle.writer.specs.WriteCalls.{WriteCall, LengthCall};
 use book::BOOK_WORDS;
 use book::RULE_BYTES;
@@ -16,9 +16,6 @@ use codes::KEY_PARENT;
 use codes::KEY_UGROUP;
 use codes::KEY_USER;
 
-pub mod field;
-pub mod line;
-pub mod rule;
 pub mod tie;
 
 // The longest file.
@@ -35,9 +32,9 @@ fn put_declared(out: &mut [u8], at: usize, book: &[u64]) -> usize
     requires { ⌜ at ≤ 9 ⌝ }
     ensures { λ r. ⌜ Laid (now (out .entry)) at (declaredText (now (book .entry))) (now (out .exit)) r × (r ≤ 18700) ⌝ }
 {
-    let a = line::put_attributes(out, at, book);
-    let b = line::put_operations(out, a, book);
-    line::put_pairs(out, b, book)
+    let a = spelling::line::put_attributes(out, at, book);
+    let b = spelling::line::put_operations(out, a, book);
+    spelling::line::put_pairs(out, b, book)
 }
 
 // The lines of holders, key by key.
@@ -45,10 +42,10 @@ fn put_holders(out: &mut [u8], at: usize, book: &[u64]) -> usize
     requires { ⌜ at ≤ 18700 ⌝ }
     ensures { λ r. ⌜ Laid (now (out .entry)) at (holdersText (now (book .entry))) (now (out .exit)) r × (r ≤ 51500) ⌝ }
 {
-    let a = line::put_holders(out, at, book, KEY_UGROUP);
-    let b = line::put_holders(out, a, book, KEY_OGROUP);
-    let c = line::put_holders(out, b, book, KEY_USER);
-    line::put_holders(out, c, book, KEY_OBJECT)
+    let a = spelling::line::put_holders(out, at, book, KEY_UGROUP);
+    let b = spelling::line::put_holders(out, a, book, KEY_OGROUP);
+    let c = spelling::line::put_holders(out, b, book, KEY_USER);
+    spelling::line::put_holders(out, c, book, KEY_OBJECT)
 }
 
 // The lines of ties, key by key.
@@ -69,7 +66,7 @@ fn put_text(out: &mut [u8], book: &[u64; BOOK_WORDS], rules: &[u8; RULE_BYTES]) 
     let b = put_declared(out, a, book);
     let c = put_holders(out, b, book);
     let d = put_ties(out, c, book);
-    rule::put_rules(out, d, book, rules)
+    spelling::rule::put_rules(out, d, book, rules)
 }
 
 // "A call gives the exact byte length that the writer of E1 would put out, …, also when it exceeds 32,768, writing nothing": the text is laid over no bytes.

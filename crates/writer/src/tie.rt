@@ -7,10 +7,11 @@ ghost use Rattle.model.specs.Limits.{groupLimit};
 ghost use Rattle.output.specs.Laid.{far, Laid};
 ghost use Rattle.book.specs.Sections.{bookWords};
 ghost use Rattle.writer.specs.GroupSets.{AddsGroup, AddsGroups};
-ghost use Rattle.writer.specs.Texts.{upLineText, upAmong, upsText, keyOfUps, holderUpsText, keyUpsText, valueLineText, valuesText, holderCount};
+ghost use Rattle.writer.specs.Texts.{memberText, upLineText, upsText, keyOfUps, holderUpsText, keyUpsText, valueLineText, valuesText};
+ghost use Rattle.spelling.specs.LineTexts.{holderCount};
 use book::HOLDER_COUNT;
 use book::OWN_AT;
-use book::SEATS_AT;
+use book::SLOT_OF_AT;
 use book::SLOTS_AT;
 use book::UPS_AT;
 use book::find::HOLDERS;
@@ -49,10 +50,10 @@ fn put_up_line(out: &mut [u8], at: usize, book: &[u64], key: u8, h: usize, g: us
     requires { ⌜ (at + 64 ≤ far) × (h < 256) × (g < 256) ⌝ }
     ensures { λ r. ⌜ Laid (now (out .entry)) at (upLineText (now (book .entry)) key h g) (now (out .exit)) r × (r ≤ at + 64) ⌝ }
 {
-    let a = crate::field::put_key(out, at, key);
-    let b = crate::line::put_holder(out, a, book, h);
+    let a = spelling::field::put_key(out, at, key);
+    let b = spelling::line::put_holder(out, a, book, h);
     let c = output::put_byte(out, b, b',');
-    let d = crate::line::put_holder(out, c, book, g);
+    let d = spelling::line::put_holder(out, c, book, g);
     output::put_byte(out, d, b'\n')
 }
 
@@ -67,7 +68,7 @@ fn put_groups(
     groups: &[u64],
 ) -> usize
     requires { ⌜ (at + 16384 ≤ far) × (h < 256) × (n ≤ 256) × (length (now groups) ≡ 4) ⌝ }
-    ensures { λ r. ⌜ Laid (now (out .entry)) at (each (upAmong (now (groups .entry)) (now (book .entry)) key h) (below n)) (now (out .exit)) r × (r ≤ at + 16384) ⌝ }
+    ensures { λ r. ⌜ Laid (now (out .entry)) at (each (memberText (now (groups .entry)) (upLineText (now (book .entry)) key h)) (below n)) (now (out .exit)) r × (r ≤ at + 16384) ⌝ }
 {
     let mut m = at;
     let mut g = bits::first_from(groups, 0);
@@ -84,7 +85,7 @@ fn put_ups(out: &mut [u8], at: usize, book: &[u64], key: u8, h: usize, n: usize)
     ensures { λ r. ⌜ Laid (now (out .entry)) at (upsText (now (book .entry)) n key h) (now (out .exit)) r × (r ≤ at + 16384) ⌝ }
 {
     let mut groups: [u64; 4] = [0; 4];
-    let mask = crate::field::word(book, UPS_AT + h);
+    let mask = spelling::field::word(book, UPS_AT + h);
     add_groups(&mut groups, &book[SLOTS_AT..UPS_AT], mask);
     put_groups(out, at, book, key, h, n, &groups)
 }
@@ -94,7 +95,7 @@ fn key_of_ups(book: &[u64], h: usize) -> u8
     requires { ⌜ h < 256 ⌝ }
     ensures { λ r. ⌜ r ≡ keyOfUps (now (book .entry)) h ⌝ }
 {
-    if crate::field::word(book, SEATS_AT + h) == 0 {
+    if spelling::field::word(book, SLOT_OF_AT + h) == 0 {
         return KEY_MEMBER;
     }
     KEY_PARENT
@@ -116,7 +117,7 @@ pub fn put_key_ups(out: &mut [u8], at: usize, book: &[u64], key: u8) -> usize
     requires { ⌜ (at + 4194304 ≤ far) × (length (now book) ≡ bookWords) ⌝ }
     ensures { λ r. ⌜ Laid (now (out .entry)) at (keyUpsText (now (book .entry)) key) (now (out .exit)) r × (r ≤ at + 4194304) ⌝ }
 {
-    let count = crate::line::count(book, HOLDER_COUNT, HOLDERS);
+    let count = spelling::line::count(book, HOLDER_COUNT, HOLDERS);
     let mut n = at;
     for h in 0..count {
         n = put_holder_ups(out, n, book, key, h, count);
@@ -128,13 +129,13 @@ fn put_value_line(out: &mut [u8], at: usize, book: &[u64], h: usize, p: usize) -
     requires { ⌜ (at + 96 ≤ far) × (h < 256) × (p < 256) ⌝ }
     ensures { λ r. ⌜ Laid (now (out .entry)) at (valueLineText (now (book .entry)) h p) (now (out .exit)) r × (r ≤ at + 96) ⌝ }
 {
-    let row = crate::line::row_of_pair(book, p);
-    let a = crate::field::put_key(out, at, KEY_VALUE);
-    let b = crate::line::put_holder(out, a, book, h);
+    let row = spelling::line::row_of_pair(book, p);
+    let a = spelling::field::put_key(out, at, KEY_VALUE);
+    let b = spelling::line::put_holder(out, a, book, h);
     let c = output::put_byte(out, b, b',');
-    let d = crate::field::put_name(out, c, book, row + 2);
+    let d = spelling::field::put_name(out, c, book, row + 2);
     let e = output::put_byte(out, d, b',');
-    let f = crate::line::put_pair_atom(out, e, book, p);
+    let f = spelling::line::put_pair_atom(out, e, book, p);
     output::put_byte(out, f, b'\n')
 }
 
@@ -158,7 +159,7 @@ pub fn put_values(out: &mut [u8], at: usize, book: &[u64]) -> usize
     requires { ⌜ (at + 6291456 ≤ far) × (length (now book) ≡ bookWords) ⌝ }
     ensures { λ r. ⌜ Laid (now (out .entry)) at (each (valuesText (now (book .entry))) (below (holderCount (now (book .entry))))) (now (out .exit)) r × (r ≤ at + 6291456) ⌝ }
 {
-    let count = crate::line::count(book, HOLDER_COUNT, HOLDERS);
+    let count = spelling::line::count(book, HOLDER_COUNT, HOLDERS);
     let mut n = at;
     for h in 0..count {
         n = put_values_of(out, n, book, h);

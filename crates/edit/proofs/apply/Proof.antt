@@ -1,5 +1,5 @@
 -- `edit::apply` meets its contract. Assumes nothing.
-use Rattle.tielines.specs.TieSteps.{tieBy}
+use Rattle.tielines.specs.TieReading.{tieBy}
 use Rattle.edit.proofs.EditTables.{edited-lower, applied}
 use borrow.Author.Needs.{needs}
 use Rattle.edit.proofs.apply.Statement.{statement}
@@ -11,8 +11,8 @@ returns c =
     let t = start .args .t in
     let changed = c .before .before .before .before .before .before .before .change in
     let kept = c .before .before .refresh in
-    applied (start .args .plus) (tieBy (t .kind) (t .lower) (t .upper)) (start .args .words .now) (changed .last .0) (start .args .table .now) (kept .last .0)
-    (t .lower) (kept .result) (edited-lower (t .kind) (t .lower) (t .upper)) (changed .ensures) (kept .ensures)
+    applied (start .args .plus) (tieBy (t .key) (t .lower) (t .upper)) (start .args .book .now) (changed .last .0) (start .args .table .now) (kept .last .0)
+    (t .lower) (kept .result) (edited-lower (t .key) (t .lower) (t .upper)) (changed .ensures) (kept .ensures)
 
 pub apply-spec : {M : Type 1} → statement M
 apply-spec =

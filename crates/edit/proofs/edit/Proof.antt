@@ -3,8 +3,8 @@ use mathlib.Core.Path.{refl, sym, _∙_}
 use lib.Dec.{eqb}
 use native.Mathlib.Omega.{arith}
 use Rattle.model.specs.Numbers as refusal
-use Rattle.tielines.specs.TieSteps.{tieBy}
-use Rattle.edit.proofs.EditRefusals.{unsigned, lineOf, signed-line, line-refused, tie-fitting, tie-refusal}
+use Rattle.tielines.specs.TieReading.{tieBy}
+use Rattle.edit.proofs.EditRefusals.{unsigned, lineOf, signed-line, edit-refused, tie-refusal}
 use Rattle.edit.proofs.EditCalls.{answer-as, without-table, refused-call, accepted-call}
 use borrow.Author.Needs.{needs}
 use Rattle.edit.proofs.edit.Statement.{statement}
@@ -44,10 +44,10 @@ returns-3 c =
     let there = c .before .before .before .before .before .before .before .if2 .left in
     let signed = signed-line line (sign .result) (sign .ensures) there in
     let told = c .before .before .before .tie-of-line in
-    let t = tieBy (told .result .kind) (told .result .lower) (told .result .upper) in
+    let t = tieBy (told .result .key) (told .result .lower) (told .result .upper) in
     let some-number = c .before .if3 .taken in
     answer-as (c .refused3 .ensures) (refused-call line book table (told .result .number) long some-number
-    (λ S code standing held. line-refused S line plus (lineOf line) signed (told .result .number) t (told .ensures S code standing held) some-number))
+    (λ S code standing held. edit-refused S line plus (lineOf line) signed (told .result .number) t (told .ensures S code standing held) some-number))
 
 returns-4 : tie.Need-returns-4
 returns-4 c =
@@ -61,13 +61,13 @@ returns-4 c =
     let there = c .before .before .before .before .before .before .before .before .before .if2 .left in
     let signed = signed-line line (sign .result) (sign .ensures) there in
     let told = c .before .before .before .before .before .tie-of-line in
-    let t = tieBy (told .result .kind) (told .result .lower) (told .result .upper) in
-    let found = c .before .before .judged in
+    let t = tieBy (told .result .key) (told .result .lower) (told .result .upper) in
+    let found = c .before .before .refusal in
     let zero = c .before .before .before .if3 .left in
     answer-as (c .refused4 .ensures) (refused-call line book table (found .result) long (c .before .if4 .taken)
     (λ S code standing held.
     let read = told .ensures S code standing held in
-    let fits = tie-fitting S line plus (lineOf line) signed (told .result .number) t read zero in
+    let fits = read .fits zero in
     tie-refusal S line plus (lineOf line) signed (told .result .number) t read zero ∙ sym (found .ensures S code standing held fits)))
 
 returns-5 : tie.Need-returns-5
@@ -82,8 +82,8 @@ returns-5 c =
     let there = c .before .before .before .before .before .before .before .before .before .before .before .before .before .if2 .left in
     let signed = signed-line line (sign .result) (sign .ensures) there in
     let told = c .before .before .before .before .before .before .before .before .before .tie-of-line in
-    let t = tieBy (told .result .kind) (told .result .lower) (told .result .upper) in
-    let found = c .before .before .before .before .before .before .judged in
+    let t = tieBy (told .result .key) (told .result .lower) (told .result .upper) in
+    let found = c .before .before .before .before .before .before .refusal in
     let done = c .before .before .apply in
     let zero = c .before .before .before .before .before .before .before .if3 .left in
     let none-found = c .before .before .before .before .before .if4 .left in

@@ -1,4 +1,4 @@
--- `load::load` meets its contract: one law for each way out. Assumes nothing.
+-- `engine::load` meets its contract: one law for each way out. Assumes nothing.
 use native.Mathlib.Omega.{arith}
 use borrow.Author.Needs.{needs}
 use Rattle.engine.proofs.LoadCalls.{without-table, refused-file, accepted-file}

@@ -1,4 +1,4 @@
--- `load::refuse` meets its contract. Assumes nothing.
+-- `engine::refuse` meets its contract. Assumes nothing.
 use mathlib.Core.Path.{refl}
 use borrow.Author.Needs.{needs}
 use Rattle.engine.proofs.refuse.Statement.{statement}

@@ -39,12 +39,12 @@ returns-3 c =
 
 returns-4 : tie.Need-returns-4
 returns-4 c =
-    let f = c .before .before .before .before .before .before .before .before .before .before .before .before .before .before .args .f .now in
-    let d = c .before .before .before .before .before .before .before .before .before .before .before .before .index-of in
-    let e = c .before .before .before .before .before .before .before .before .before .index-of2 in
+    let f = c .before .before .before .before .before .before .before .before .before .before .before .before .before .before .before .args .f .now in
+    let d = c .before .before .before .before .before .before .before .before .before .before .before .before .before .index-of in
+    let e = c .before .before .before .before .before .before .before .before .before .before .index-of2 in
     let rest = take (length f - (d .result + 1)) (drop (d .result + 1) f) in
-    attr-given f (cut-there 44 f (d .result) (d .ensures) (c .before .before .before .before .before .before .before .before .before .before .before .if1 .left)) (cut-there 44 rest (e .result) (e .ensures) (c .before .before .before .before .before .before .before .before .if2 .left))
-    (c .before .before .before .before .before .before .source-of .ensures) (c .before .before .before .before .name-field .ensures) (c .before .before .type-of .ensures) (sym (c .before .all .ensures) ∙ not-false _ (c .if3 .left))
+    attr-given f (cut-there 44 f (d .result) (d .ensures) (c .before .before .before .before .before .before .before .before .before .before .before .before .if1 .left)) (cut-there 44 rest (e .result) (e .ensures) (c .before .before .before .before .before .before .before .before .before .if2 .left))
+    (c .before .before .before .before .before .before .before .source-of .ensures) (c .before .before .before .before .before .name-field .ensures) (c .before .before .before .type-of .ensures) (sym (c .before .before .all .ensures) ∙ not-false _ (c .before .if3 .left))
 
 pub attr-fields-spec : {M : Type 1} → statement M
 attr-fields-spec =

@@ -21,7 +21,7 @@ pack-requires c κs = omega (arith, name-length _ (sym (c .before .is-name .ensu
 returns-2 : tie.Need-returns-2
 returns-2 c =
     let e : isName (c .before .before .before .before .args .f .now) ≡ true = sym (c .before .before .is-name .ensures) ∙ not-false _ (c .before .if1 .left) in
-    rw e (ap (λ (p : Packed). record { ok = true; low = p .low; high = p .high }) (c .pack .ensures))
+    rw e (ap (λ (p : Packed). record { ok = true; name = p }) (c .pack .ensures))
 
 pub name-field-spec : {M : Type 1} → statement M
 name-field-spec = tie.close (tie.spec (λ c κs. search needs) returns pack-requires returns-2)

@@ -21,8 +21,8 @@ returns-2 c =
 
 returns-3 : tie.Need-returns-3
 returns-3 c =
-    let d = c .before .before .before .before .before .index-of in
-    rule-given (c .before .before .before .before .before .before .before .args .f .now) (d .result) (d .ensures .found (c .before .before .before .before .if1 .left)) (c .before .before .name-field .ensures) (omega arith) (not-false _ (c .if2 .left))
+    let d = c .before .before .before .before .before .before .index-of in
+    rule-given (c .before .before .before .before .before .before .before .before .args .f .now) (d .result) (d .ensures .found (c .before .before .before .before .before .if1 .left)) (c .before .before .before .name-field .ensures) (omega arith) (not-false _ (c .before .if2 .left))
 
 pub rule-fields-spec : {M : Type 1} → statement M
 rule-fields-spec =

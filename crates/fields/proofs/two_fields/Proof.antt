@@ -33,12 +33,11 @@ returns-4 c =
     let f = c .before .before .before .before .before .before .before .before .before .before .before .before .before .args .f .now in
     let d = c .before .before .before .before .before .before .before .before .before .before .before .index-of in
     two-given f (cut-there 44 f (d .result) (d .ensures) (c .before .before .before .before .before .before .before .before .before .before .if1 .left)) (c .before .before .before .before .before .before .before .before .name-field .ensures) (c .before .before .before .before .name-field2 .ensures)
-    (not-false _ (c .before .before .before .before .before .before .if2 .left)) (not-false _ (c .before .before .if3 .left)) (c .before .packed .ensures) (c .packed2 .ensures)
+    (not-false _ (c .before .before .before .before .before .before .if2 .left)) (not-false _ (c .before .before .if3 .left))
 
 pub two-fields-spec : {M : Type 1} → statement M
 two-fields-spec =
     tie.close
     (tie.spec
     (λ c κs. search needs) (λ c κs. search needs) returns (λ c. search needs) slice-aggregate-name-field (λ c κs. search needs) (λ c κs. search needs)
-    returns-2 (λ c. search needs) (λ c. search needs) (λ c. search needs) (λ c κs. search needs) (λ c κs. search needs) returns-3 (λ c κs. search needs)
-    (λ c κs. search needs) returns-4)
+    returns-2 (λ c. search needs) (λ c. search needs) (λ c. search needs) (λ c κs. search needs) (λ c κs. search needs) returns-3 returns-4)

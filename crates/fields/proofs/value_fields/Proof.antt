@@ -39,13 +39,12 @@ returns-3 c =
 
 returns-4 : tie.Need-returns-4
 returns-4 c =
-    let f = c .before .before .before .before .before .before .before .before .before .before .before .before .before .before .before .before .before .before .args .f .now in
-    let d = c .before .before .before .before .before .before .before .before .before .before .before .before .before .before .before .before .index-of in
-    let e = c .before .before .before .before .before .before .before .before .before .before .before .before .before .index-of2 in
+    let f = c .before .before .before .before .before .before .before .before .before .before .before .before .before .before .before .before .before .args .f .now in
+    let d = c .before .before .before .before .before .before .before .before .before .before .before .before .before .before .before .index-of in
+    let e = c .before .before .before .before .before .before .before .before .before .before .before .before .index-of2 in
     let rest = take (length f - (d .result + 1)) (drop (d .result + 1) f) in
-    value-given f (cut-there 44 f (d .result) (d .ensures) (c .before .before .before .before .before .before .before .before .before .before .before .before .before .before .before .if1 .left)) (cut-there 44 rest (e .result) (e .ensures) (c .before .before .before .before .before .before .before .before .before .before .before .before .if2 .left))
-    (c .before .before .before .before .before .before .before .before .before .before .name-field .ensures) (c .before .before .before .before .before .before .before .before .name-field2 .ensures) (c .before .before .before .before .before .before .atom-of .ensures) (sym (c .before .before .before .before .all .ensures) ∙ not-false _ (c .before .before .before .if3 .left))
-    (c .before .packed .ensures) (c .packed2 .ensures)
+    value-given f (cut-there 44 f (d .result) (d .ensures) (c .before .before .before .before .before .before .before .before .before .before .before .before .before .before .if1 .left)) (cut-there 44 rest (e .result) (e .ensures) (c .before .before .before .before .before .before .before .before .before .before .before .if2 .left))
+    (c .before .before .before .before .before .before .before .before .before .name-field .ensures) (c .before .before .before .before .before .before .before .name-field2 .ensures) (c .before .before .before .before .before .atom-of .ensures) (sym (c .before .before .before .all .ensures) ∙ not-false _ (c .before .before .if3 .left))
 
 pub value-fields-spec : {M : Type 1} → statement M
 value-fields-spec =
@@ -54,4 +53,4 @@ value-fields-spec =
     (λ c κs. search needs) (λ c κs. search needs) returns (λ c. search needs) (λ c. search needs) (λ c. search needs) (λ c. search needs)
     (λ c κs. search needs) (λ c κs. search needs) returns-2 (λ c. search needs) slice-aggregate-name-field (λ c κs. search needs) slice-aggregate-name-field-2
     (λ c κs. search needs) (λ c. search needs) (λ c. search needs) (λ c. search needs) (λ c κs. search needs) (λ c κs. search needs) (λ c κs. search needs)
-    returns-3 (λ c κs. search needs) (λ c κs. search needs) returns-4)
+    returns-3 returns-4)

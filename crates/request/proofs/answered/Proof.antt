@@ -1,4 +1,4 @@
--- `engine::answered` meets its contract. Assumes nothing.
+-- `request::answered` meets its contract. Assumes nothing.
 use mathlib.Core.Path.{refl}
 use native.Mathlib.Omega.{arith}
 use borrow.Author.Needs.{needs}
@@ -12,16 +12,16 @@ cast-mask c = omega (arith, c .four .ensures, value-small (c .before .before .be
 
 returns : tie.Need-returns
 returns c = λ S b of.
-    not-held of (c .before .before .before .before .before .before .before .before .before .before .wide .result) (c .before .before .before .before .before .before .before .before .wide2 .result) (c .before .before .before .before .before .before .before .four .result)
-    (c .before .before .before .before .before .before .before .before .before .before .wide .ensures .0) (c .before .before .before .before .before .before .before .before .wide2 .ensures .0) (c .before .before .before .before .before .before .before .four .ensures)
+    not-held of (c .before .before .before .before .before .before .before .before .before .before .byte-to-index .result) (c .before .before .before .before .before .before .before .before .byte-to-index2 .result) (c .before .before .before .before .before .before .before .four .result)
+    (c .before .before .before .before .before .before .before .before .before .before .byte-to-index .ensures .0) (c .before .before .before .before .before .before .before .before .byte-to-index2 .ensures .0) (c .before .before .before .before .before .before .before .four .ensures)
     (c .before .before .before .before .before .in-room .result) (c .before .before .before .before .before .in-room .ensures .1)
     (c .before .before .before .«open» .last .1 .1 .1 .1 .1 .1 .0) (c .before .before .before .«open» .ensures) (c .before .unheld .result) (c .before .unheld .ensures)
     (c .if1 .taken)
 
 returns-2 : tie.Need-returns-2
 returns-2 c = λ S b of.
-    by-rules of (c .before .before .before .before .before .before .before .before .before .before .before .before .before .before .before .wide .result) (c .before .before .before .before .before .before .before .before .before .before .before .before .before .wide2 .result) (c .before .before .before .before .before .before .before .before .before .before .before .before .four .result)
-    (c .before .before .before .before .before .before .before .before .before .before .before .before .before .before .before .wide .ensures .0) (c .before .before .before .before .before .before .before .before .before .before .before .before .before .wide2 .ensures .0) (c .before .before .before .before .before .before .before .before .before .before .before .before .four .ensures)
+    by-rules of (c .before .before .before .before .before .before .before .before .before .before .before .before .before .before .before .byte-to-index .result) (c .before .before .before .before .before .before .before .before .before .before .before .before .before .byte-to-index2 .result) (c .before .before .before .before .before .before .before .before .before .before .before .before .four .result)
+    (c .before .before .before .before .before .before .before .before .before .before .before .before .before .before .before .byte-to-index .ensures .0) (c .before .before .before .before .before .before .before .before .before .before .before .before .before .byte-to-index2 .ensures .0) (c .before .before .before .before .before .before .before .before .before .before .before .before .four .ensures)
     (c .before .before .before .before .before .before .before .before .before .before .in-room .result) (c .before .before .before .before .before .before .before .before .before .before .in-room .ensures .1)
     (c .before .before .before .before .before .before .before .before .«open» .last .1 .1 .1 .1 .1 .1 .0) (c .before .before .before .before .before .before .before .before .«open» .ensures) (c .before .before .before .before .before .before .unheld .result) (c .before .before .before .before .before .before .unheld .ensures)
     (c .before .before .before .before .before .if1 .left) (c .before .before .before .in-room2 .result) (c .before .before .before .in-room2 .ensures .1) _ refl (c .decided .result) (c .decided .ensures)

@@ -1,4 +1,4 @@
--- `engine::decided` meets its contract. Assumes nothing.
+-- `request::decided` meets its contract. Assumes nothing.
 use borrow.Author.Needs.{needs}
 use Prim.Native.Nat.{_-_, _≤_}
 use native.Mathlib.Omega.{arith}
@@ -13,11 +13,11 @@ use Rattle.request.proofs.decided.Statement.{statement}
 use Rattle.request.proofs.decided.Tie as tie
 
 abbrev Inv-loop : tie.InvT-loop
-Inv-loop operations code attributes pairs session entries operation count undefined₀ k₀ undefined k = (k ≤ count)
-    × ((S : State) (b : Block) → RulesOf S b operations code attributes pairs session entries operation → length (S .declared .rules) ≡ count → NoneTrue S b k undefined)
+Inv-loop targets code attributes pairs session entries operation count undefined₀ k₀ undefined k = (k ≤ count)
+    × ((S : State) (b : Block) → RulesOf S b targets code attributes pairs session entries operation → length (S .declared .rules) ≡ count → NoneTrue S b k undefined)
 
 abbrev μ-loop : tie.MeasureT-loop
-μ-loop operations code attributes pairs session entries operation count undefined₀ k₀ undefined k = count - k
+μ-loop targets code attributes pairs session entries operation count undefined₀ k₀ undefined k = count - k
 
 loop-holds : tie.Need-loop-holds Inv-loop μ-loop
 loop-holds c = (omega arith, λ S b of w. none-yet S b)

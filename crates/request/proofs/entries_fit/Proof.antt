@@ -1,4 +1,4 @@
--- `engine::entries_fit` meets its contract. Assumes nothing.
+-- `request::entries_fit` meets its contract. Assumes nothing.
 use borrow.Author.Tests.{not-true, not-false}
 use Prim.Native.Nat.{ℕ, _-_, _/_, _≤_, _<_}
 use native.Mathlib.Omega.{arith}

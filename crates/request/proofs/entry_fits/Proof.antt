@@ -1,4 +1,4 @@
--- `engine::entry_fits` meets its contract. Assumes nothing.
+-- `request::entry_fits` meets its contract. Assumes nothing.
 use native.Mathlib.Omega.{arith}
 use Rattle.request.proofs.EntryTests.{no-number, not-from-block, no-bool, a-bool}
 use borrow.Author.Needs.{needs}

@@ -1,4 +1,4 @@
--- `engine::is_block` meets its contract. Assumes nothing.
+-- `request::is_block` meets its contract. Assumes nothing.
 use native.Mathlib.Omega.{arith}
 use Rattle.request.proofs.Blocks.{block-short, block-edition, block-many, block-nine, block-long}
 use borrow.Author.Needs.{needs}
@@ -18,7 +18,7 @@ returns-4 : tie.Need-returns-4
 returns-4 c = block-nine (c .before .before .before .before .before .before .before .before .args .block .now) (c .before .before .before .before .if2 .left) (omega arith) (c .if4 .taken)
 
 returns-5 : tie.Need-returns-5
-returns-5 c = block-long (c .before .before .before .before .before .before .before .before .before .before .args .block .now) (c .before .before .before .before .before .before .if2 .left) (omega arith) (c .before .before .if4 .left) (c .wide .result) (c .wide .ensures .0)
+returns-5 c = block-long (c .before .before .before .before .before .before .before .before .before .before .args .block .now) (c .before .before .before .before .before .before .if2 .left) (omega arith) (c .before .before .if4 .left) (c .byte-to-index .result) (c .byte-to-index .ensures .0)
 
 pub is-block-spec : {M : Type 1} → statement M
 is-block-spec =

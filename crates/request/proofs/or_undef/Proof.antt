@@ -1,4 +1,4 @@
--- `engine::or_undef` meets its contract. Assumes nothing.
+-- `request::or_undef` meets its contract. Assumes nothing.
 use mathlib.Core.Path.{ap}
 use Rattle.model.specs.Decision.{isUndef}
 use Rattle.truth.specs.declared.Truth.{Truth}

@@ -1,4 +1,4 @@
--- `engine::rule_value` meets its contract. Assumes nothing.
+-- `request::rule_value` meets its contract. Assumes nothing.
 use Rattle.request.proofs.RuleValues.{other-operation, its-operation}
 use borrow.Author.Needs.{needs}
 use Rattle.request.proofs.rule_value.Statement.{statement}

@@ -54,7 +54,7 @@ returns-4 c =
     let s = c .before .before .before .before .before .before .before .before .before .before .args .s .now in
     let i : readInt s ≡ none = no-int s (sym (c .before .before .before .before .before .before .before .before .int-of .ensures) ∙ c .before .before .before .before .before .before .enum-told .given .1) in
     let (t, n, e) = read-bool s i (c .before .before .before .before .before .is-str .ensures .other (c .before .before .before .before .if1 .left)) (c .before .before .before .bool-of .result) (c .before .before .before .bool-of .ensures) (c .before .before .if2 .left) in
-    c .single3 .ensures ∙ ap (λ (w : ℕ). value 3 (words w 0 0)) (c .before .wide .ensures ∙ bit t n) ∙ sym e
+    c .single3 .ensures ∙ ap (λ (w : ℕ). value 3 (words w 0 0)) (c .before .byte-to-word .ensures .0 ∙ bit t n) ∙ sym e
 
 pub atom-of-spec : {M : Type 1} → statement M
 atom-of-spec =

@@ -20,11 +20,11 @@ loop-holds c = (omega arith, omega arith, refl)
 mul-v : tie.Need-mul-v Inv-loop μ-loop
 mul-v c = omega arith
 
-shared-slice-read-wide : tie.Need-shared-slice-read-wide Inv-loop μ-loop
-shared-slice-read-wide c = omega arith
+shared-slice-read-byte-to-word : tie.Need-shared-slice-read-byte-to-word Inv-loop μ-loop
+shared-slice-read-byte-to-word c = omega arith
 
-wide-requires : tie.Need-wide-requires Inv-loop μ-loop
-wide-requires c κs = tt
+byte-to-word-requires : tie.Need-byte-to-word-requires Inv-loop μ-loop
+byte-to-word-requires c κs = tt
 
 -- the digit at place i
 digit-at : (c : tie.In-loop Inv-loop μ-loop) →
@@ -33,14 +33,14 @@ digit-at : (c : tie.In-loop Inv-loop μ-loop) →
 digit-at c = decimal-at (c .before .before .before .args .s .now) (c .before .before .before .pre) (c .before .loop .i) (omega arith)
 
 -- the number of all, with the digit at place i read
-step : (c : tie.After-wide Inv-loop μ-loop) →
+step : (c : tie.After-byte-to-word Inv-loop μ-loop) →
     let h = c .before .before .before in
     let s = h .before .before .args .s .now in
-    numberFrom 0 s ≡ numberFrom (h .loop .v * 10 + c .wide .result - 48) (drop (h .loop .i + 1) s)
+    numberFrom 0 s ≡ numberFrom (h .loop .v * 10 + c .byte-to-word .result - 48) (drop (h .loop .i + 1) s)
 step c =
     let h = c .before .before .before in
     let s = h .before .before .args .s .now in
-    let e : h .loop .v * 10 + (getD s (h .loop .i) 0 - 48) ≡ h .loop .v * 10 + c .wide .result - 48 = omega (arith, digit-at (c .before .before)) in
+    let e : h .loop .v * 10 + (getD s (h .loop .i) 0 - 48) ≡ h .loop .v * 10 + c .byte-to-word .result - 48 = omega (arith, digit-at (c .before .before)) in
     h .loop .inv .2 ∙ number-on s (h .loop .i) (h .loop .v) (omega arith) ∙ ap (λ (n : ℕ). numberFrom n (drop (h .loop .i + 1) s)) e
 
 add-v : tie.Need-add-v Inv-loop μ-loop
@@ -53,7 +53,7 @@ returns : tie.Need-returns Inv-loop μ-loop
 returns c =
     let h = c .before .before .before .before in
     let s = h .before .before .args .s .now in
-    let v = h .loop .v * 10 + c .before .wide .result - 48 in
+    let v = h .loop .v * 10 + c .before .byte-to-word .result - 48 in
     sym (limited-large s (omega (arith, step (c .before), number-grows v (drop (h .loop .i + 1) s))))
 
 add-i : tie.Need-add-i Inv-loop μ-loop
@@ -78,4 +78,4 @@ pub number-of-spec : {M : Type 1} → statement M
 number-of-spec =
     tie.close
     (tie.spec
-    Inv-loop μ-loop loop-holds mul-v shared-slice-read-wide wide-requires add-v sub-v returns add-i loop-less loop-again cast-t11 returns-2)
+    Inv-loop μ-loop loop-holds mul-v shared-slice-read-byte-to-word byte-to-word-requires add-v sub-v returns add-i loop-less loop-again cast-t11 returns-2)

@@ -37,11 +37,11 @@ step c =
 mul-w : tie.Need-mul-w Inv-loop μ-loop
 mul-w c = omega (arith, step c .0, step c .1)
 
-shared-slice-read-wide : tie.Need-shared-slice-read-wide Inv-loop μ-loop
-shared-slice-read-wide c = omega arith
+shared-slice-read-byte-to-word : tie.Need-shared-slice-read-byte-to-word Inv-loop μ-loop
+shared-slice-read-byte-to-word c = omega arith
 
-wide-requires : tie.Need-wide-requires Inv-loop μ-loop
-wide-requires c κs = tt
+byte-to-word-requires : tie.Need-byte-to-word-requires Inv-loop μ-loop
+byte-to-word-requires c κs = tt
 
 add-w : tie.Need-add-w Inv-loop μ-loop
 add-w c = omega (arith, step (c .before .before) .0, step (c .before .before) .1)
@@ -63,4 +63,4 @@ pub word-of-spec : {M : Type 1} → statement M
 word-of-spec =
     tie.close
     (tie.spec
-    Inv-loop μ-loop loop-holds sub-i mul-w shared-slice-read-wide wide-requires add-w loop-less loop-again returns)
+    Inv-loop μ-loop loop-holds sub-i mul-w shared-slice-read-byte-to-word byte-to-word-requires add-w loop-less loop-again returns)

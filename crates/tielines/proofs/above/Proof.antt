@@ -1,4 +1,4 @@
--- `tie::above` meets its contract, sort by sort. Assumes nothing.
+-- `tielines::above` meets its contract, sort by sort. Assumes nothing.
 use mathlib.Core.Path.{refl, sym, ap, _∙_}
 use Rattle.codes.specs.Codes.{coded}
 use Rattle.book.specs.Held.{sortCode}

@@ -1,6 +1,5 @@
--- `tie::closes` meets its contract: the sections of ties are lent. Assumes nothing.
+-- `tielines::closes` meets its contract: the sections of ties are lent. Assumes nothing.
 use mathlib.Core.Path.{sym, ap, _∙_}
-use lib.ListN.{length}
 use native.Mathlib.Omega.{arith}
 use Rattle.model.specs.Declarations.{holderNumbersOf}
 use Rattle.model.specs.Refusals.{tieCloses}
@@ -17,7 +16,7 @@ use Rattle.tielines.proofs.closes.Tie as tie
 returns : tie.Need-returns
 returns c S code standing held =
     let t = c .before .before .before .args .t in
-    no-circle (t .kind) (t .lower) (t .upper) (c .if1 .taken) (holderNumbersOf (S .declared)) (S .ties)
+    no-circle (t .key) (t .lower) (t .upper) (c .if1 .taken) (holderNumbersOf (S .declared)) (S .ties)
 
 returns-2 : tie.Need-returns-2
 unfolding ClosesCircle
@@ -27,7 +26,7 @@ returns-2 c S code standing held =
     let size = part-size section.ups (start .args .book .now) (start .pre) (omega arith) in
     c .closes-circle .ensures (S .declared) (S .ties) (sectionWords section.own (start .args .book .now)) standing (held .ties)
     (λ k h. omega (arith, size, holder-in-book standing held k h))
-    ∙ ap (tieCloses (holderNumbersOf (S .declared)) (S .ties)) (sym (parent-tie (t .kind) (t .lower) (t .upper) (c .before .before .before .if1 .left)))
+    ∙ ap (tieCloses (holderNumbersOf (S .declared)) (S .ties)) (sym (parent-tie (t .key) (t .lower) (t .upper) (c .before .before .before .if1 .left)))
 
 pub closes-spec : {M : Type 1} → statement M
 closes-spec =

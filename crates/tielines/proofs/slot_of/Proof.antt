@@ -1,4 +1,4 @@
--- `tie::slot_of` meets its contract: the slot is told by the seat. Assumes nothing.
+-- `tielines::slot_of` meets its contract: the slot is told by the group's word. Assumes nothing.
 use Prim.Native.Nat.{ℕ, _<_}
 use mathlib.Core.Path.{_≡_, sym, subst, _∙_}
 use mathlib.Core.Bool.{true}
@@ -8,7 +8,7 @@ use Rattle.model.specs.Limits.{groupLimit}
 use Rattle.ties.specs.TieArrays.{inUse}
 use Rattle.book.specs.Sections as section
 use Rattle.book.specs.Sections.{sectionWords, bookHolders}
-use Rattle.tielines.proofs.TieFitting.{seat-slot}
+use Rattle.tielines.proofs.TieFitting.{group-slot}
 use Rattle.book.proofs.HeldNumbers.{sorted-in-book}
 use Rattle.tielines.proofs.TieEditing.{word-at}
 use borrow.Author.Needs.{needs}
@@ -22,9 +22,9 @@ returns-2 : tie.Need-returns-2
 returns-2 c S code standing held s e i =
     let start = c .before .before .before .before in
     let book = start .args .book .now in
-    let q = seat-slot standing held (start .args .g) s e i in
+    let q = group-slot standing held (start .args .g) s e i in
     let same : q .0 ≡ c .slot .result =
-    sym (c .slot .ensures (q .0) (sym (word-at section.seats book (start .args .g) (sorted-in-book standing held (start .args .g) e)) ∙ q .1) (q .2)) in
+    sym (c .slot .ensures (q .0) (sym (word-at section.slotOf book (start .args .g) (sorted-in-book standing held (start .args .g) e)) ∙ q .1) (q .2)) in
     subst (λ (r : ℕ). (r < groupLimit) × (inUse bookHolders (sectionWords section.slots book) r ≡ true) × (getD (sectionWords section.slots book) r 0 ≡ start .args .g)) same
     (q .2, q .3, q .4)
 

@@ -1,4 +1,4 @@
--- `tie::source_for` meets its contract, sort by sort. Assumes nothing.
+-- `tielines::source_for` meets its contract, sort by sort. Assumes nothing.
 use mathlib.Core.Path.{refl, sym, _∙_}
 use native.Mathlib.Omega.{arith}
 use Rattle.tielines.proofs.TieSorts.{source-code}

@@ -1,4 +1,4 @@
--- `tie::stands_up` meets its contract: the bit of the group's slot in the holder's word. Assumes nothing.
+-- `tielines::stands_up` meets its contract: the bit of the group's slot in the holder's word. Assumes nothing.
 use native.Mathlib.Omega.{arith}
 use Rattle.tielines.proofs.TieFitting.{up-fits}
 use Rattle.tielines.proofs.TieEditing.{up-stands, in-use-here}

@@ -1,4 +1,4 @@
--- `tie::stands_value` meets its contract: the pair's bit in the holder's own words. Assumes nothing.
+-- `tielines::stands_value` meets its contract: the pair's bit in the holder's own words. Assumes nothing.
 use native.Mathlib.Omega.{arith}
 use Rattle.tielines.proofs.TieFitting.{value-fits}
 use Rattle.tielines.proofs.TieEditing.{value-stands}

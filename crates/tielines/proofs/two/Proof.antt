@@ -1,7 +1,7 @@
--- `tie::two` meets its contract. Assumes nothing.
+-- `tielines::two` meets its contract. Assumes nothing.
 use mathlib.Core.Path.{sym, _∙_}
 use native.Mathlib.Omega.{arith}
-use Rattle.tielines.specs.TieSteps.{tieBy, aboveFor}
+use Rattle.tielines.specs.TieReading.{tieBy, aboveFor}
 use Rattle.tielines.proofs.TieNaming.{two-named, holder-there, holder-absent, holder-sort, sort-word, lower-gone, upper-gone, sorts-wrong, sorts-right}
 use borrow.Author.Needs.{needs}
 use Rattle.tielines.proofs.two.Statement.{statement}
@@ -12,12 +12,12 @@ returns c =
     let start = c .before .before .before .before .before in
     let key = start .args .key in
     let lower = c .before .before .holder-number in
-    let r = c .refused .result in
-    let t = tieBy (r .kind) (r .lower) (r .upper) in
+    let r = c .no-tie .result in
+    let t = tieBy (r .key) (r .lower) (r .upper) in
     two-named (start .args .book .now) key (start .args .lower) (start .args .upper) (r .number) t (λ a b na nb pa pb S code standing held.
     lower-gone (S .declared) (aboveFor key) (tieBy key) a b (r .number) t
     (holder-absent standing held a na (start .args .lower) pa (lower .result) (lower .ensures .1) (omega (arith, c .before .if1 .taken)))
-    (c .refused .ensures))
+    (c .no-tie .ensures))
 
 returns-2 : tie.Need-returns-2
 returns-2 c =
@@ -25,14 +25,14 @@ returns-2 c =
     let key = start .args .key in
     let lower = c .before .before .before .before .before .holder-number in
     let upper = c .before .before .holder-number2 in
-    let r = c .refused2 .result in
-    let t = tieBy (r .kind) (r .lower) (r .upper) in
+    let r = c .no-tie2 .result in
+    let t = tieBy (r .key) (r .lower) (r .upper) in
     two-named (start .args .book .now) key (start .args .lower) (start .args .upper) (r .number) t (λ a b na nb pa pb S code standing held.
     upper-gone (S .declared) (aboveFor key) (tieBy key) a b (lower .result)
     (holder-there standing held a na (start .args .lower) pa (lower .result) (lower .ensures .1) (omega (arith, c .before .before .before .before .if1 .left)))
     (r .number) t
     (holder-absent standing held b nb (start .args .upper) pb (upper .result) (upper .ensures .1) (omega (arith, c .before .if2 .taken)))
-    (c .refused2 .ensures))
+    (c .no-tie2 .ensures))
 
 returns-3 : tie.Need-returns-3
 returns-3 c =
@@ -42,8 +42,8 @@ returns-3 c =
     let upper = c .before .before .before .before .before .before .holder-number2 in
     let few = c .before .before .before .before .before .before .before .before .if1 .left in
     let low = c .before .before .before .before .before .if2 .left in
-    let r = c .refused3 .result in
-    let t = tieBy (r .kind) (r .lower) (r .upper) in
+    let r = c .no-tie3 .result in
+    let t = tieBy (r .key) (r .lower) (r .upper) in
     two-named (start .args .book .now) key (start .args .lower) (start .args .upper) (r .number) t (λ a b na nb pa pb S code standing held.
     let D = S .declared in
     let is-a = holder-there standing held a na (start .args .lower) pa (lower .result) (lower .ensures .1) (omega arith) in
@@ -52,7 +52,7 @@ returns-3 c =
     let of-b = holder-sort (standing .declarations) b (upper .result) is-b in
     let wanted = c .before .before .before .above .ensures (of-a .0) (sort-word standing held (lower .result) (of-a .0) (of-a .1)) in
     sorts-wrong D (aboveFor key) (tieBy key) a b (lower .result) is-a (upper .result) is-b (of-a .0) (of-b .0) (of-a .1) (of-b .1) (r .number) t
-    (λ e. c .before .if3 .taken (sort-word standing held (upper .result) (of-b .0) (of-b .1) ∙ e ∙ sym wanted)) (c .refused3 .ensures))
+    (λ e. c .before .if3 .taken (sort-word standing held (upper .result) (of-b .0) (of-b .1) ∙ e ∙ sym wanted)) (c .no-tie3 .ensures))
 
 returns-4 : tie.Need-returns-4
 returns-4 c =

@@ -1,48 +1,40 @@
 -- `values::among_entries` meets its contract. Assumes nothing.
+use mathlib.Core.Path.{refl, sym, ap, _∙_}
 use lib.ListN.{length}
 use borrow.Author.Tests.{not-true, not-false}
 use borrow.Author.Needs.{needs}
+use Rattle.model.specs.Truth.{truth}
 use Rattle.values.specs.Operands.{entriesFrom}
-use Rattle.values.proofs.ValueWalks.{fewer, Searching, searching-start, searching-end, searching-met, searching-on}
+use Rattle.values.specs.Compared.{amongOf}
+use Rattle.values.proofs.ValueWalks.{fewer, Searching, seeking-end, seeking-met, seeking-on}
 use Rattle.values.proofs.among_entries.Statement.{statement}
 use Rattle.values.proofs.among_entries.Tie as tie
 
 abbrev Inv-loop : tie.InvT-loop
-Inv-loop entries kind wanted k some₀ i₀ some i = Searching (entriesFrom entries kind k) wanted 0 some i
+Inv-loop entries ty wanted k some₀ i₀ some i = Searching (entriesFrom entries ty k) wanted 0 some i
 
 abbrev μ-loop : tie.MeasureT-loop
-μ-loop entries kind wanted k some₀ i₀ some i = length (entriesFrom entries kind k i)
+μ-loop entries ty wanted k some₀ i₀ some i = length (entriesFrom entries ty k i)
 
 loop-holds : tie.Need-loop-holds Inv-loop μ-loop
-loop-holds c = let a = c .before .args in searching-start (entriesFrom (a .entries .now) (a .kind) (a .k)) (a .wanted) 0
+unfolding amongOf
+loop-holds c = record { comes-to = refl }
 
 returns : tie.Need-returns Inv-loop μ-loop
-returns c =
-    let a = c .before .before .before .before .before .before .args in
-    let here = c .before .before .before .before .loop in
-    let found = c .before .before .before .entry-from in
-    searching-end (entriesFrom (a .entries .now) (a .kind) (a .k)) (here .i) (found .result) (found .ensures) (a .wanted) 0 (here .some) (here .inv) (not-true _ (c .before .if1 .taken)) _ (c .at-end .ensures)
+returns c = seeking-end (c .before .before .before .entry-from .ensures) (c .before .before .before .before .loop .inv) (not-true _ (c .before .if1 .taken)) (c .at-end .ensures)
 
 returns-2 : tie.Need-returns-2 Inv-loop μ-loop
 returns-2 c =
-    let a = c .before .before .before .before .before .before .before .before .args in
-    let here = c .before .before .before .before .before .before .loop in
-    let found = c .before .before .before .before .before .entry-from in
-    searching-met (entriesFrom (a .entries .now) (a .kind) (a .k)) (here .i) (found .result) (found .ensures) (a .wanted) 0 (here .some) (here .inv) (not-false _ (c .before .before .before .if1 .left)) _ (c .before .same .ensures) (c .if2 .taken)
+    let here = not-false _ (c .before .before .before .if1 .left) in
+    seeking-met (c .before .before .before .before .before .entry-from .ensures) (c .before .before .before .before .before .before .loop .inv) here (ap truth (sym (c .if2 .taken) ∙ c .before .same .ensures)) refl
 
 loop-less : tie.Need-loop-less Inv-loop μ-loop
-loop-less c =
-    let a = c .before .before .before .before .before .before .before .before .args in
-    let here = c .before .before .before .before .before .before .loop in
-    let found = c .before .before .before .before .before .entry-from in
-    fewer (entriesFrom (a .entries .now) (a .kind) (a .k)) (here .i) (found .result) (found .ensures) (not-false _ (c .before .before .before .if1 .left))
+loop-less c = fewer (c .before .before .before .before .before .entry-from .ensures) (not-false _ (c .before .before .before .if1 .left))
 
 loop-again : tie.Need-loop-again Inv-loop μ-loop
 loop-again c =
-    let a = c .before .before .before .before .before .before .before .before .args in
-    let here = c .before .before .before .before .before .before .loop in
-    let found = c .before .before .before .before .before .entry-from in
-    searching-on (entriesFrom (a .entries .now) (a .kind) (a .k)) (here .i) (found .result) (found .ensures) (a .wanted) 0 (here .some) (here .inv) (not-false _ (c .before .before .before .if1 .left)) _ (c .before .same .ensures) (c .if2 .left)
+    let here = not-false _ (c .before .before .before .if1 .left) in
+    seeking-on (c .before .before .before .before .before .entry-from .ensures) (c .before .before .before .before .before .before .loop .inv) here (ap truth (sym (c .if2 .left) ∙ c .before .same .ensures)) refl
 
 pub among-entries-spec : {M : Type 1} → statement M
 among-entries-spec =

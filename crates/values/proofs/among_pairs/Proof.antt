@@ -1,9 +1,12 @@
 -- `values::among_pairs` meets its contract. Assumes nothing.
+use mathlib.Core.Path.{refl, sym, ap, _∙_}
 use lib.ListN.{length}
 use borrow.Author.Tests.{not-true, not-false}
 use borrow.Author.Needs.{needs}
+use Rattle.model.specs.Truth.{truth}
 use Rattle.values.specs.Operands.{wordsFrom}
-use Rattle.values.proofs.ValueWalks.{fewer, Searching, searching-start, searching-end, searching-met, searching-on}
+use Rattle.values.specs.Compared.{amongOf}
+use Rattle.values.proofs.ValueWalks.{fewer, Searching, seeking-end, seeking-met, seeking-on}
 use Rattle.values.proofs.among_pairs.Statement.{statement}
 use Rattle.values.proofs.among_pairs.Tie as tie
 
@@ -14,35 +17,24 @@ abbrev μ-loop : tie.MeasureT-loop
 μ-loop pairs session wanted k some₀ i₀ some i = length (wordsFrom pairs session k i)
 
 loop-holds : tie.Need-loop-holds Inv-loop μ-loop
-loop-holds c = let a = c .before .args in searching-start (wordsFrom (a .pairs .now) (a .session .now) (a .k)) (a .wanted) 0
+unfolding amongOf
+loop-holds c = record { comes-to = refl }
 
 returns : tie.Need-returns Inv-loop μ-loop
-returns c =
-    let a = c .before .before .before .before .before .before .args in
-    let here = c .before .before .before .before .loop in
-    let found = c .before .before .before .pair-from in
-    searching-end (wordsFrom (a .pairs .now) (a .session .now) (a .k)) (here .i) (found .result) (found .ensures) (a .wanted) 0 (here .some) (here .inv) (not-true _ (c .before .if1 .taken)) _ (c .at-end .ensures)
+returns c = seeking-end (c .before .before .before .pair-from .ensures) (c .before .before .before .before .loop .inv) (not-true _ (c .before .if1 .taken)) (c .at-end .ensures)
 
 returns-2 : tie.Need-returns-2 Inv-loop μ-loop
 returns-2 c =
-    let a = c .before .before .before .before .before .before .before .before .args in
-    let here = c .before .before .before .before .before .before .loop in
-    let found = c .before .before .before .before .before .pair-from in
-    searching-met (wordsFrom (a .pairs .now) (a .session .now) (a .k)) (here .i) (found .result) (found .ensures) (a .wanted) 0 (here .some) (here .inv) (not-false _ (c .before .before .before .if1 .left)) _ (c .before .same .ensures) (c .if2 .taken)
+    let here = not-false _ (c .before .before .before .if1 .left) in
+    seeking-met (c .before .before .before .before .before .pair-from .ensures) (c .before .before .before .before .before .before .loop .inv) here (ap truth (sym (c .if2 .taken) ∙ c .before .same .ensures)) refl
 
 loop-less : tie.Need-loop-less Inv-loop μ-loop
-loop-less c =
-    let a = c .before .before .before .before .before .before .before .before .args in
-    let here = c .before .before .before .before .before .before .loop in
-    let found = c .before .before .before .before .before .pair-from in
-    fewer (wordsFrom (a .pairs .now) (a .session .now) (a .k)) (here .i) (found .result) (found .ensures) (not-false _ (c .before .before .before .if1 .left))
+loop-less c = fewer (c .before .before .before .before .before .pair-from .ensures) (not-false _ (c .before .before .before .if1 .left))
 
 loop-again : tie.Need-loop-again Inv-loop μ-loop
 loop-again c =
-    let a = c .before .before .before .before .before .before .before .before .args in
-    let here = c .before .before .before .before .before .before .loop in
-    let found = c .before .before .before .before .before .pair-from in
-    searching-on (wordsFrom (a .pairs .now) (a .session .now) (a .k)) (here .i) (found .result) (found .ensures) (a .wanted) 0 (here .some) (here .inv) (not-false _ (c .before .before .before .if1 .left)) _ (c .before .same .ensures) (c .if2 .left)
+    let here = not-false _ (c .before .before .before .if1 .left) in
+    seeking-on (c .before .before .before .before .before .pair-from .ensures) (c .before .before .before .before .before .before .loop .inv) here (ap truth (sym (c .if2 .left) ∙ c .before .same .ensures)) refl
 
 pub among-pairs-spec : {M : Type 1} → statement M
 among-pairs-spec =

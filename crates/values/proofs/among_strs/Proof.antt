@@ -1,10 +1,13 @@
 -- `values::among_strs` meets its contract. Assumes nothing.
+use mathlib.Core.Path.{refl, sym, ap, _∙_}
 use lib.ListN.{length}
 use borrow.Author.Tests.{not-true, not-false}
 use borrow.Author.Needs.{needs}
+use Rattle.model.specs.Truth.{truth}
 use Rattle.values.specs.Operands.{constantsFrom}
+use Rattle.values.specs.Compared.{amongOf}
 use Rattle.values.proofs.Constants.{strs-find}
-use Rattle.values.proofs.ValueWalks.{fewer, Searching, searching-start, searching-end, searching-met, searching-on}
+use Rattle.values.proofs.ValueWalks.{fewer, Searching, seeking-end, seeking-met, seeking-on}
 use Rattle.values.proofs.among_strs.Statement.{statement}
 use Rattle.values.proofs.among_strs.Tie as tie
 
@@ -15,35 +18,24 @@ abbrev μ-loop : tie.MeasureT-loop
 μ-loop code wanted start end some₀ i₀ some i = length (constantsFrom 2 code end i)
 
 loop-holds : tie.Need-loop-holds Inv-loop μ-loop
-loop-holds c = let a = c .before .args in searching-start (constantsFrom 2 (a .code .now) (a .end)) (a .wanted) (a .start)
+unfolding amongOf
+loop-holds c = record { comes-to = refl }
 
 returns : tie.Need-returns Inv-loop μ-loop
-returns c =
-    let a = c .before .before .before .before .before .before .args in
-    let here = c .before .before .before .before .loop in
-    let found = c .before .before .before .str-at in
-    searching-end (constantsFrom 2 (a .code .now) (a .end)) (here .i) (found .result) (strs-find (a .code .now) (a .end) (here .i) (found .result) (found .ensures)) (a .wanted) (a .start) (here .some) (here .inv) (not-true _ (c .before .if1 .taken)) _ (c .at-end .ensures)
+returns c = seeking-end (strs-find (c .before .before .before .before .before .before .args .code .now) (c .before .before .before .before .before .before .args .end) (c .before .before .before .str-at .ensures)) (c .before .before .before .before .loop .inv) (not-true _ (c .before .if1 .taken)) (c .at-end .ensures)
 
 returns-2 : tie.Need-returns-2 Inv-loop μ-loop
 returns-2 c =
-    let a = c .before .before .before .before .before .before .before .before .args in
-    let here = c .before .before .before .before .before .before .loop in
-    let found = c .before .before .before .before .before .str-at in
-    searching-met (constantsFrom 2 (a .code .now) (a .end)) (here .i) (found .result) (strs-find (a .code .now) (a .end) (here .i) (found .result) (found .ensures)) (a .wanted) (a .start) (here .some) (here .inv) (not-false _ (c .before .before .before .if1 .left)) _ (c .before .same .ensures) (c .if2 .taken)
+    let here = not-false _ (c .before .before .before .if1 .left) in
+    seeking-met (strs-find (c .before .before .before .before .before .before .before .before .args .code .now) (c .before .before .before .before .before .before .before .before .args .end) (c .before .before .before .before .before .str-at .ensures)) (c .before .before .before .before .before .before .loop .inv) here (ap truth (sym (c .if2 .taken) ∙ c .before .same .ensures)) refl
 
 loop-less : tie.Need-loop-less Inv-loop μ-loop
-loop-less c =
-    let a = c .before .before .before .before .before .before .before .before .args in
-    let here = c .before .before .before .before .before .before .loop in
-    let found = c .before .before .before .before .before .str-at in
-    fewer (constantsFrom 2 (a .code .now) (a .end)) (here .i) (found .result) (strs-find (a .code .now) (a .end) (here .i) (found .result) (found .ensures)) (not-false _ (c .before .before .before .if1 .left))
+loop-less c = fewer (strs-find (c .before .before .before .before .before .before .before .before .args .code .now) (c .before .before .before .before .before .before .before .before .args .end) (c .before .before .before .before .before .str-at .ensures)) (not-false _ (c .before .before .before .if1 .left))
 
 loop-again : tie.Need-loop-again Inv-loop μ-loop
 loop-again c =
-    let a = c .before .before .before .before .before .before .before .before .args in
-    let here = c .before .before .before .before .before .before .loop in
-    let found = c .before .before .before .before .before .str-at in
-    searching-on (constantsFrom 2 (a .code .now) (a .end)) (here .i) (found .result) (strs-find (a .code .now) (a .end) (here .i) (found .result) (found .ensures)) (a .wanted) (a .start) (here .some) (here .inv) (not-false _ (c .before .before .before .if1 .left)) _ (c .before .same .ensures) (c .if2 .left)
+    let here = not-false _ (c .before .before .before .if1 .left) in
+    seeking-on (strs-find (c .before .before .before .before .before .before .before .before .args .code .now) (c .before .before .before .before .before .before .before .before .args .end) (c .before .before .before .before .before .str-at .ensures)) (c .before .before .before .before .before .before .loop .inv) here (ap truth (sym (c .if2 .left) ∙ c .before .same .ensures)) refl
 
 pub among-strs-spec : {M : Type 1} → statement M
 among-strs-spec =

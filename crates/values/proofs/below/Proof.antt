@@ -14,7 +14,7 @@ returns : tie.Need-returns
 returns c =
     let a = c .before .before .before .before .before .args in
     let lend = lent (a .code .now) (a .pairs .now) (a .session .now) (a .entries .now) in
-    not-ints (a .low .kind) (a .equal) (operandValues lend (a .low)) (operandValues lend (a .high)) (c .if1 .taken)
+    not-ints (a .low .ty) (a .equal) (operandValues lend (a .low)) (operandValues lend (a .high)) (c .if1 .taken)
 
 extreme-requires : tie.Need-extreme-requires
 extreme-requires c κs = (search needs, c .if1 .left)
@@ -25,7 +25,7 @@ returns-2 c =
     let lend = lent (a .code .now) (a .pairs .now) (a .session .now) (a .entries .now) in
     let low = operandValues lend (a .low) in
     let high = operandValues lend (a .high) in
-    let said = orderOf (a .low .kind) (a .equal) low high in
+    let said = orderOf (a .low .ty) (a .equal) low high in
     let least = c .before .before .extreme in
     without-left low high said (least .result .here) (least .ensures .there) (not-true _ (c .if2 .taken))
 
@@ -38,7 +38,7 @@ returns-3 c =
     let lend = lent (a .code .now) (a .pairs .now) (a .session .now) (a .entries .now) in
     let low = operandValues lend (a .low) in
     let high = operandValues lend (a .high) in
-    let said = orderOf (a .low .kind) (a .equal) low high in
+    let said = orderOf (a .low .ty) (a .equal) low high in
     let least = c .before .before .before .before .before .extreme in
     let greatest = c .before .before .extreme2 in
     without-right low high said (least .result .here) (least .ensures .there) (not-false _ (c .before .before .before .if2 .left))
@@ -50,11 +50,11 @@ returns-4 c =
     let lend = lent (a .code .now) (a .pairs .now) (a .session .now) (a .entries .now) in
     let low = operandValues lend (a .low) in
     let high = operandValues lend (a .high) in
-    let said = orderOf (a .low .kind) (a .equal) low high in
+    let said = orderOf (a .low .ty) (a .equal) low high in
     let least = c .before .before .before .before .before .before .before .before .before .extreme in
     let greatest = c .before .before .before .before .before .before .extreme2 in
     c .tested .ensures ∙ ap truth (ap₂ leb (least .ensures .number-is) (greatest .ensures .number-is))
-    ∙ at-most (a .low .kind) (a .equal) low high (c .before .before .before .before .before .before .before .before .before .before .if1 .left) (c .before .before .before .if4 .taken)
+    ∙ at-most (a .low .ty) (a .equal) low high (c .before .before .before .before .before .before .before .before .before .before .if1 .left) (c .before .before .before .if4 .taken)
     ∙ with-both low high said (least .result .here) (least .ensures .there) (not-false _ (c .before .before .before .before .before .before .before .if2 .left))
     (greatest .result .here) (greatest .ensures .there) (not-false _ (c .before .before .before .before .if3 .left))
 
@@ -64,11 +64,11 @@ returns-5 c =
     let lend = lent (a .code .now) (a .pairs .now) (a .session .now) (a .entries .now) in
     let low = operandValues lend (a .low) in
     let high = operandValues lend (a .high) in
-    let said = orderOf (a .low .kind) (a .equal) low high in
+    let said = orderOf (a .low .ty) (a .equal) low high in
     let least = c .before .before .before .before .before .before .before .before .before .extreme in
     let greatest = c .before .before .before .before .before .before .extreme2 in
     c .tested2 .ensures ∙ ap truth (ap₂ ltb (least .ensures .number-is) (greatest .ensures .number-is))
-    ∙ strictly (a .low .kind) (a .equal) low high (c .before .before .before .before .before .before .before .before .before .before .if1 .left) (c .before .before .before .if4 .left)
+    ∙ strictly (a .low .ty) (a .equal) low high (c .before .before .before .before .before .before .before .before .before .before .if1 .left) (c .before .before .before .if4 .left)
     ∙ with-both low high said (least .result .here) (least .ensures .there) (not-false _ (c .before .before .before .before .before .before .before .if2 .left))
     (greatest .result .here) (greatest .ensures .there) (not-false _ (c .before .before .before .before .if3 .left))
 

@@ -10,12 +10,12 @@ use Rattle.values.proofs.entry_from.Tie as tie
 returns : tie.Need-returns
 returns c =
     let a = c .before .before .before .before .args in
-    entry-end (a .entries .now) (a .kind) (a .k) (a .i) (c .before .before .entry-number .result) (c .before .before .entry-number .ensures) (c .nothing .result) (c .nothing .ensures) (c .before .if1 .taken)
+    entry-end (a .entries .now) (a .ty) (a .k) (a .i) (c .before .before .entry-number .result) (c .before .before .entry-number .ensures) (c .nothing .result) (c .nothing .ensures) (c .before .if1 .taken)
 
 returns-2 : tie.Need-returns-2
 returns-2 c =
     let a = c .before .before .before .before .before .args in
-    entry-next (a .entries .now) (a .kind) (a .k) (a .i) (c .before .before .before .entry-number .result) (c .before .before .before .entry-number .ensures) (c .entry-words .result) (c .entry-words .ensures ∙ ap (entryWords (a .kind)) (c .before .four .ensures)) (omega arith)
+    entry-next (a .entries .now) (a .ty) (a .k) (a .i) (c .before .before .before .entry-number .result) (c .before .before .before .entry-number .ensures) (c .entry-words .result) (c .entry-words .ensures ∙ ap (entryWords (a .ty)) (c .before .four .ensures)) (omega arith)
 
 pub entry-from-spec : {M : Type 1} → statement M
 entry-from-spec =

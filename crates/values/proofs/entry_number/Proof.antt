@@ -22,14 +22,14 @@ abbrev μ-loop : tie.MeasureT-loop
 loop-holds : tie.Need-loop-holds Inv-loop μ-loop
 loop-holds c = (λ j a b. absurd (omega arith), search needs)
 
-mul-wide : tie.Need-mul-wide Inv-loop μ-loop
-mul-wide c = omega arith
+mul-byte-to-word : tie.Need-mul-byte-to-word Inv-loop μ-loop
+mul-byte-to-word c = omega arith
 
-shared-slice-read-wide : tie.Need-shared-slice-read-wide Inv-loop μ-loop
-shared-slice-read-wide c = omega arith
+shared-slice-read-byte-to-word : tie.Need-shared-slice-read-byte-to-word Inv-loop μ-loop
+shared-slice-read-byte-to-word c = omega arith
 
 returns : tie.Need-returns Inv-loop μ-loop
-returns c = record { lower = λ m a b l. c .before .before .before .before .loop .inv .0 m a b; held = λ l. (c .before .before .before .before .loop .inv .1, eq-eqb _ _ (sym (c .before .wide .ensures .0) ∙ c .if1 .taken)) }
+returns c = record { lower = λ m a b l. c .before .before .before .before .loop .inv .0 m a b; held = λ l. (c .before .before .before .before .loop .inv .1, eq-eqb _ _ (sym (c .before .byte-to-word .ensures .0) ∙ c .if1 .taken)) }
 
 add-j : tie.Need-add-j Inv-loop μ-loop
 add-j c = omega arith
@@ -40,7 +40,7 @@ loop-less c = omega arith
 loop-again : tie.Need-loop-again Inv-loop μ-loop
 loop-again c =
     let a = c .before .before .before .before .before .before .args in
-    (none-further (λ m. eqb (byteAt (a .entries .now) (5 * m)) (a .k)) (a .i) (c .before .before .before .before .loop .j) (c .before .before .before .before .loop .inv .0) (ne-eqb _ _ (λ e. c .if1 .left (c .before .wide .ensures .0 ∙ e))), omega arith)
+    (none-further (λ m. eqb (byteAt (a .entries .now) (5 * m)) (a .k)) (a .i) (c .before .before .before .before .loop .j) (c .before .before .before .before .loop .inv .0) (ne-eqb _ _ (λ e. c .if1 .left (c .before .byte-to-word .ensures .0 ∙ e))), omega arith)
 
 returns-2 : tie.Need-returns-2 Inv-loop μ-loop
 returns-2 c = record { lower = λ m a b l. c .before .loop .inv .0 m a (omega arith); held = λ l. absurd (omega arith) }
@@ -49,4 +49,4 @@ pub entry-number-spec : {M : Type 1} → statement M
 entry-number-spec =
     tie.close
     (tie.spec
-    Inv-loop μ-loop loop-holds mul-wide shared-slice-read-wide (λ c κs. search needs) returns add-j loop-less loop-again returns-2)
+    Inv-loop μ-loop loop-holds mul-byte-to-word shared-slice-read-byte-to-word (λ c κs. search needs) returns add-j loop-less loop-again returns-2)

@@ -15,28 +15,16 @@ abbrev μ-loop : tie.MeasureT-loop
 μ-loop code start end greatest some₀ best₀ i₀ some best i = length (constantsFrom 1 code end i)
 
 loop-holds : tie.Need-loop-holds Inv-loop μ-loop
-loop-holds c = let a = c .before .before .args in nearing-start (constantsFrom 1 (a .code .now) (a .end)) (a .greatest) (a .start) (c .start-of .result) (c .start-of .ensures)
+loop-holds c = nearing-start (c .start-of .ensures)
 
 returns : tie.Need-returns Inv-loop μ-loop
-returns c =
-    let a = c .before .before .before .before .before .before .args in
-    let here = c .before .before .before .loop in
-    let found = c .before .before .int-at in
-    nearing-end (constantsFrom 1 (a .code .now) (a .end)) (here .i) (found .result) (ints-find (a .code .now) (a .end) (here .i) (found .result) (found .ensures)) (a .greatest) (a .start) (here .some) (here .best) (here .inv) (not-true _ (c .if1 .taken))
+returns c = nearing-end (ints-find (c .before .before .before .before .before .before .args .code .now) (c .before .before .before .before .before .before .args .end) (c .before .before .int-at .ensures)) (c .before .before .before .loop .inv) (not-true _ (c .if1 .taken))
 
 loop-less : tie.Need-loop-less Inv-loop μ-loop
-loop-less c =
-    let a = c .before .before .before .before .before .before .before .before .args in
-    let here = c .before .before .before .before .before .loop in
-    let found = c .before .before .before .before .int-at in
-    fewer (constantsFrom 1 (a .code .now) (a .end)) (here .i) (found .result) (ints-find (a .code .now) (a .end) (here .i) (found .result) (found .ensures)) (not-false _ (c .before .before .if1 .left))
+loop-less c = fewer (ints-find (c .before .before .before .before .before .before .before .before .args .code .now) (c .before .before .before .before .before .before .before .before .args .end) (c .before .before .before .before .int-at .ensures)) (not-false _ (c .before .before .if1 .left))
 
 loop-again : tie.Need-loop-again Inv-loop μ-loop
-loop-again c =
-    let a = c .before .before .before .before .before .before .before .before .args in
-    let here = c .before .before .before .before .before .loop in
-    let found = c .before .before .before .before .int-at in
-    nearing-on (constantsFrom 1 (a .code .now) (a .end)) (here .i) (found .result) (ints-find (a .code .now) (a .end) (here .i) (found .result) (found .ensures)) (a .greatest) (a .start) (here .some) (here .best) (here .inv) (not-false _ (c .before .before .if1 .left)) (c .further .result) (c .further .ensures)
+loop-again c = nearing-on (ints-find (c .before .before .before .before .before .before .before .before .args .code .now) (c .before .before .before .before .before .before .before .before .args .end) (c .before .before .before .before .int-at .ensures)) (c .before .before .before .before .before .loop .inv) (not-false _ (c .before .before .if1 .left)) (c .further .ensures)
 
 pub extreme-ints-spec : {M : Type 1} → statement M
 extreme-ints-spec =

@@ -12,7 +12,7 @@ returns c =
     let zeros = c .before .before .before .before .before .before .zero .ensures in
     let written = c .before .before .put-holder .ensures in
     let long = zeros .0 ∙ c .before .before .before .before .before .before .before .before .before .pre in
-    (holder-same-length _ _ _ _ _ long (omega arith) _ written ∙ zeros .0, emptied _ long (zeros .1) _ written)
+    (holder-same-length _ _ _ _ long (omega arith) _ written ∙ zeros .0, emptied _ long (zeros .1) _ written)
 
 pub clear-spec : {M : Type 1} → statement M
 clear-spec = tie.close (tie.spec (λ c κs. search needs) (λ c κs. search needs) (λ c. search needs) returns)

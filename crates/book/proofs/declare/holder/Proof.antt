@@ -9,12 +9,12 @@ use Rattle.book.proofs.declare.holder.Statement.{statement}
 use Rattle.book.proofs.declare.holder.Tie as tie
 
 returns : tie.Need-returns
-returns c = (left, holder-repeated _ _ _ _ _ (c .before .holder-number .ensures .1) (c .if1 .taken))
+returns c = (left, holder-repeated _ _ _ _ (c .before .holder-number .ensures .1) (c .if1 .taken))
 
 returns-2 : tie.Need-returns-2
 returns-2 c =
     let new = c .before .before .before in
-    (left, holder-full _ _ _ _ _ (new .before .holder-number .ensures .1) (new .if1 .left) _ (c .before .wide .ensures) (omega arith))
+    (left, holder-full _ _ _ _ (new .before .holder-number .ensures .1) (new .if1 .left) _ (c .before .word-to-index .ensures) (omega arith))
 
 returns-3 : tie.Need-returns-3
 returns-3 c =
@@ -24,8 +24,8 @@ returns-3 c =
     let start = new .before .before .before .before .before in
     let few = room .if2 .left in
     let put = c .before .before .put-holder .ensures in (
-      written (holder-same-length _ _ _ _ _ (start .pre) (omega arith) _ put),
-      holder-step _ _ _ _ _ (new .before .holder-number .ensures .1) (new .if1 .left) _ (room .before .wide .ensures) (omega arith)
+      written (holder-same-length _ _ _ _ (start .pre) (omega arith) _ put),
+      holder-step _ _ _ _ (new .before .holder-number .ensures .1) (new .if1 .left) _ (room .before .word-to-index .ensures) (omega arith)
           (omega (arith, sort .if3 .taken)) _ put,
     )
 
@@ -36,8 +36,8 @@ returns-4 c =
     let new = room .before .before .before in
     let few = room .if2 .left in (
       left,
-      group-full _ _ _ _ _ (new .before .holder-number .ensures .1) (new .if1 .left) _ (room .before .wide .ensures) (omega arith)
-          (omega (arith, sort .if3 .left)) _ (c .before .wide2 .ensures) (omega arith),
+      group-full _ _ _ _ (new .before .holder-number .ensures .1) (new .if1 .left) _ (room .before .word-to-index .ensures) (omega arith)
+          (omega (arith, sort .if3 .left)) _ (c .before .word-to-index2 .ensures) (omega arith),
     )
 
 returns-5 : tie.Need-returns-5
@@ -51,10 +51,10 @@ returns-5 c =
     let few-groups = slot .if4 .left in
     let first = c .before .before .before .before .before .before .put-holder2 .ensures in
     let second = c .before .before .put-group .ensures in
-    let long = holder-same-length _ _ _ _ _ (start .pre) (omega arith) _ first in (
+    let long = holder-same-length _ _ _ _ (start .pre) (omega arith) _ first in (
       written (group-same-length _ _ _ (long ∙ start .pre) (omega arith) (omega arith) _ second ∙ long),
-      group-step _ _ _ _ _ (new .before .holder-number .ensures .1) (new .if1 .left) _ (room .before .wide .ensures) (omega arith)
-          (omega (arith, sort .if3 .left)) _ (slot .before .wide2 .ensures) (omega arith) _ _ first second,
+      group-step _ _ _ _ (new .before .holder-number .ensures .1) (new .if1 .left) _ (room .before .word-to-index .ensures) (omega arith)
+          (omega (arith, sort .if3 .left)) _ (slot .before .word-to-index2 .ensures) (omega arith) _ _ first second,
     )
 
 pub holder-spec : {M : Type 1} → statement M

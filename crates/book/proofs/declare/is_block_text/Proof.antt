@@ -8,10 +8,10 @@ use Rattle.book.proofs.declare.is_block_text.Statement.{statement}
 use Rattle.book.proofs.declare.is_block_text.Tie as tie
 
 returns : tie.Need-returns
-returns c = sym (ap (λ (t : Bool). t && eqb (c .before .args .kind) 2) (lt-leb 4 (c .before .args .source) (omega arith)))
+returns c = sym (ap (λ (t : Bool). t && eqb (c .before .args .ty) 2) (lt-leb 4 (c .before .args .source) (omega arith)))
 
 returns-2 : tie.Need-returns-2
-returns-2 c = sym (ap (λ (t : Bool). t && eqb (c .before .args .kind) 2) (le-leb 4 (c .before .args .source) (omega arith)))
+returns-2 c = sym (ap (λ (t : Bool). t && eqb (c .before .args .ty) 2) (le-leb 4 (c .before .args .source) (omega arith)))
 
 pub is-block-text-spec : {M : Type 1} → statement M
 is-block-text-spec = tie.close (tie.spec returns returns-2)

@@ -7,12 +7,12 @@ use Rattle.book.proofs.declare.operation.Statement.{statement}
 use Rattle.book.proofs.declare.operation.Tie as tie
 
 returns : tie.Need-returns
-returns c = (left, operation-repeated _ _ _ _ (c .before .operation-number .ensures .1) (c .if1 .taken))
+returns c = (left, operation-repeated _ _ _ (c .before .operation-number .ensures .1) (c .if1 .taken))
 
 returns-2 : tie.Need-returns-2
 returns-2 c =
     let test = c .before .before .before in
-    (left, operation-full _ _ _ _ (test .before .operation-number .ensures .1) (test .if1 .left) _ (c .before .wide .ensures) (omega arith))
+    (left, operation-full _ _ _ (test .before .operation-number .ensures .1) (test .if1 .left) _ (c .before .word-to-index .ensures) (omega arith))
 
 returns-3 : tie.Need-returns-3
 returns-3 c =
@@ -20,8 +20,8 @@ returns-3 c =
     let test = room .before .before .before in
     let few = room .if2 .left in
     let put = c .before .before .put-operation .ensures in (
-      written (operation-same-length _ _ _ _ (omega arith) _ put),
-      operation-step _ _ _ _ (test .before .operation-number .ensures .1) (test .if1 .left) _ (room .before .wide .ensures) (omega arith) _ put,
+      written (operation-same-length _ _ _ (omega arith) _ put),
+      operation-step _ _ _ (test .before .operation-number .ensures .1) (test .if1 .left) _ (room .before .word-to-index .ensures) (omega arith) _ put,
     )
 
 pub operation-spec : {M : Type 1} → statement M

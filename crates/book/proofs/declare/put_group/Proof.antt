@@ -12,7 +12,7 @@ slice-write-book-2 c =
     let start = c .before .before .before .before .before in
     let a = start .args in
     let slots = c .before .before .give-slot .ensures .words in
-    omega (arith, wrote-slots-long (a .book .now) (a .n) (a .g) (start .pre .0) (start .pre .1) (start .pre .2) _ slots (section.seats .start + a .n) (a .g + 1))
+    omega (arith, wrote-slots-long (a .book .now) (a .n) (a .g) (start .pre .0) (start .pre .1) (start .pre .2) _ slots (section.slotOf .start + a .n) (a .g + 1))
 
 returns : tie.Need-returns
 returns c =

@@ -12,14 +12,14 @@ slice-write-book-2 c =
     let start = c .before .before .before .before .before in
     let a = start .args in
     let row = c .before .before .add .ensures in
-    omega (arith, wrote-long (a .book .now) (a .n) (a .sort) (a .low) (a .high) (start .pre .0) (start .pre .1) _ row (section.sorts .start + a .n) (a .sort))
+    omega (arith, wrote-long (a .book .now) (a .n) (a .sort) (a .name) (start .pre .0) (start .pre .1) _ row (section.sorts .start + a .n) (a .sort))
 
 returns : tie.Need-returns
 returns c =
     let start = c .before .before .before .before .before in
     let a = start .args in
     let row = c .before .before .add .ensures in
-    wrote-holder (a .book .now) (a .n) (a .sort) (a .low) (a .high) (start .pre .0) (start .pre .1) _ row
+    wrote-holder (a .book .now) (a .n) (a .sort) (a .name) (start .pre .0) (start .pre .1) _ row
 
 pub put-holder-spec : {M : Type 1} → statement M
 put-holder-spec =

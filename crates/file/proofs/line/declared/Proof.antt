@@ -1,4 +1,4 @@
--- `line::declared` meets its contract: each key by its step. Assumes nothing.
+-- `file::line::declared` meets its contract: each key by its step. Assumes nothing.
 use Rattle.model.specs.Keys.{Key}
 use Rattle.file.proofs.FileLines.{at-key, holder-keys}
 use borrow.Author.Needs.{needs}

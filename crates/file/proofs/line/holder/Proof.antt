@@ -1,4 +1,4 @@
--- `line::holder` meets its contract: a line of a holder, by its key. Assumes nothing.
+-- `file::line::holder` meets its contract: a line of a holder, by its key. Assumes nothing.
 use borrow.Author.Tests.{not-true, not-false}
 use Rattle.file.proofs.LineReading.{holder-unread, holder-read}
 use borrow.Author.Needs.{needs}
@@ -13,10 +13,10 @@ returns c =
 
 returns-2 : tie.Need-returns-2
 returns-2 c =
-    let start = c .before .before .before .before .before .before .before .before .before in
-    let read = c .before .before .before .before .before .before in
+    let start = c .before .before .before .before .before .before .before .before .before .before in
+    let read = c .before .before .before .before .before .before .before in
     holder-read (start .args .book .now) (c .before .before .holder .last .0) (c .before .before .holder .result) (start .args .key)
-    (start .args .f .now) (read .name-field .result) (read .name-field .ensures) (not-false _ (c .before .before .before .before .if1 .left)) (c .before .before .holder .ensures .1)
+    (start .args .f .now) (read .name-field .result) (read .name-field .ensures) (not-false _ (c .before .before .before .before .before .if1 .left)) (c .before .before .holder .ensures .1)
 
 pub holder-spec : {M : Type 1} → statement M
 holder-spec =

@@ -1,4 +1,4 @@
--- `line::operation` meets its contract: an op line. Assumes nothing.
+-- `file::line::operation` meets its contract: an op line. Assumes nothing.
 use borrow.Author.Tests.{not-true, not-false}
 use Rattle.file.proofs.LineReading.{op-unread, op-read}
 use borrow.Author.Needs.{needs}
@@ -12,10 +12,10 @@ returns c code =
 
 returns-2 : tie.Need-returns-2
 returns-2 c =
-    let start = c .before .before .before .before .before .before .before .before .before in
-    let read = c .before .before .before .before .before .before in
+    let start = c .before .before .before .before .before .before .before .before .before .before in
+    let read = c .before .before .before .before .before .before .before in
     op-read (start .args .book .now) (c .before .before .operation .last .0) (c .before .before .operation .result)
-    (start .args .f .now) (read .name-field .result) (read .name-field .ensures) (not-false _ (c .before .before .before .before .if1 .left)) (c .before .before .operation .ensures .1)
+    (start .args .f .now) (read .name-field .result) (read .name-field .ensures) (not-false _ (c .before .before .before .before .before .if1 .left)) (c .before .before .operation .ensures .1)
 
 pub operation-spec : {M : Type 1} → statement M
 operation-spec =

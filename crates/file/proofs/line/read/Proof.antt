@@ -1,4 +1,4 @@
--- `line::read` meets its contract: 4, 5 and the step of the key, in their order. Assumes nothing.
+-- `file::line::read` meets its contract: 4, 5 and the step of the key, in their order. Assumes nothing.
 use Rattle.file.proofs.FileLines.{line-unframed, line-early, line-fields, line-stepped}
 use borrow.Author.Needs.{needs}
 use Rattle.file.proofs.line.read.Statement.{statement}

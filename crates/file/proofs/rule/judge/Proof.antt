@@ -1,4 +1,4 @@
--- `rule::judge` meets its contract: the bytes of rule k are lent to the judge. Assumes nothing.
+-- `file::rule::judge` meets its contract: the bytes of rule k are lent to the judge. Assumes nothing.
 use native.Mathlib.Omega.{arith}
 use Rattle.file.proofs.RuleLines.{judged-into, judged-beyond}
 use borrow.Author.Needs.{needs}

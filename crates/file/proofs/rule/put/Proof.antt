@@ -1,4 +1,4 @@
--- `rule::put` meets its contract. Assumes nothing.
+-- `file::rule::put` meets its contract. Assumes nothing.
 use mathlib.Core.Path.{refl}
 use Rattle.file.specs.LineSteps.{rulePut}
 use borrow.Author.Needs.{needs}

@@ -1,4 +1,4 @@
--- `rule::refusal` meets its contract, each way by its law. Assumes nothing.
+-- `file::rule::refusal` meets its contract, each way by its law. Assumes nothing.
 use native.Mathlib.Omega.{arith}
 use Rattle.file.proofs.RuleLines.{refused-policy, refused-large, refused-operation, refused-name, refused-full, not-refused}
 use Rattle.file.proofs.rule.refusal.Statement.{statement}

@@ -1,4 +1,4 @@
--- `rule::rule` meets its contract. Assumes nothing.
+-- `file::rule::rule` meets its contract. Assumes nothing.
 use borrow.Author.Tests.{not-true, not-false}
 use mathlib.Core.Path.{ap, sym, _∙_}
 use native.Mathlib.Omega.{arith}
@@ -20,12 +20,12 @@ returns-2 c =
     let fields = c .before .before .before .before .before .before .before .before .before .before .before .before .before .before .before .before in
     let judged = c .before .before .before .before .before .before .before in
     rule-refused (start .args .f .now) (fields .rule-fields .result) (fields .rule-fields .ensures) (not-false _ (c .before .before .before .before .before .before .before .before .before .before .before .before .before .before .if1 .left)) (start .args .book .now) (start .args .code .now) (judged .judge .last .1 .1 .0)
-    (c .before .before .before .before .before .before .before .before .before .before .before .before .wide .result) (judged .judge .result) (c .before .before .operation-number .result) (c .before .before .before .before .before .before .before .before .before .before .before .before .wide .ensures) (judged .judge .ensures) (c .before .before .operation-number .ensures .1)
+    (c .before .before .before .before .before .before .before .before .before .before .before .before .word-to-index .result) (judged .judge .result) (c .before .before .operation-number .result) (c .before .before .before .before .before .before .before .before .before .before .before .before .word-to-index .ensures) (judged .judge .ensures) (c .before .before .operation-number .ensures .1)
     (c .before .refusal .result) (c .before .refusal .ensures) (c .if2 .taken)
 
 put-requires : tie.Need-put-requires
 put-requires c κs =
-    (c .before .before .before .before .before .before .before .before .before .before .before .before .before .before .before .before .before .before .before .before .before .pre .0, rule-room (c .before .before .before .before .before .before .before .before .judge .result) (c .before .before .before .operation-number .result) (c .before .before .before .before .before .before .before .before .before .before .before .before .before .wide .result) (sym (c .before .before .refusal .ensures) ∙ c .before .if2 .left))
+    (c .before .before .before .before .before .before .before .before .before .before .before .before .before .before .before .before .before .before .before .before .before .pre .0, rule-room (c .before .before .before .before .before .before .before .before .judge .result) (c .before .before .before .operation-number .result) (c .before .before .before .before .before .before .before .before .before .before .before .before .before .word-to-index .result) (sym (c .before .before .refusal .ensures) ∙ c .before .if2 .left))
 
 returns-3 : tie.Need-returns-3
 returns-3 c =
@@ -34,7 +34,7 @@ returns-3 c =
     let judged = c .before .before .before .before .before .before .before .before .before .before .before in
     let room = c .before .before .before .before .before .before in
     rule-accepted (start .args .f .now) (fields .rule-fields .result) (fields .rule-fields .ensures) (not-false _ (c .before .before .before .before .before .before .before .before .before .before .before .before .before .before .before .before .before .before .if1 .left)) (start .args .book .now) (start .args .code .now) (judged .judge .last .1 .1 .0)
-    (c .before .before .before .before .before .before .before .before .before .before .before .before .before .before .before .before .wide .result) (judged .judge .result) (room .operation-number .result) (c .before .before .before .before .before .before .before .before .before .before .before .before .before .before .before .before .wide .ensures) (judged .judge .ensures) (room .operation-number .ensures .1)
+    (c .before .before .before .before .before .before .before .before .before .before .before .before .before .before .before .before .word-to-index .result) (judged .judge .result) (room .operation-number .result) (c .before .before .before .before .before .before .before .before .before .before .before .before .before .before .before .before .word-to-index .ensures) (judged .judge .ensures) (room .operation-number .ensures .1)
     (sym (c .before .before .before .before .before .refusal .ensures) ∙ c .before .before .before .before .if2 .left) (omega (arith, judged .judge .kept, start .pre .1)) (c .before .before .put .last .0) (c .before .before .put .ensures)
 
 pub rule-spec : {M : Type 1} → statement M

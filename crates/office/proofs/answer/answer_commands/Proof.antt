@@ -1,4 +1,4 @@
--- `answer::answer_commands` meets its contract: the commands passed are answered.
+-- `office::answer::answer_commands` meets its contract: the commands passed are answered.
 use Prim.Native.Nat.{_+_, _-_, _≤_, _<_}
 use mathlib.Core.Path.{_≡_, refl, ap, _∙_}
 use native.Mathlib.Omega.{arith}

@@ -1,4 +1,4 @@
--- `answer::answer_edit` meets its contract.
+-- `office::answer::answer_edit` meets its contract.
 use Rattle.edit.specs.EditSteps.{editedOf}
 use borrow.Author.Needs.{needs}
 use Rattle.office.proofs.answer.answer_edit.Statement.{statement}

@@ -1,4 +1,4 @@
--- `answer::answer_first` meets its contract, by the kind of command.
+-- `office::answer::answer_first` meets its contract, by the kind of command.
 use mathlib.Core.Path.{sym}
 use native.Mathlib.Omega.{arith}
 use lib.Seq.{length-take-le}

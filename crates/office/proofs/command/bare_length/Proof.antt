@@ -1,4 +1,4 @@
--- `command::bare_length` meets its contract.
+-- `office::command::bare_length` meets its contract.
 use native.Mathlib.Omega.{arith}
 use Rattle.office.proofs.Commands.{bare-none, bare-inside, bare-last}
 use borrow.Author.Needs.{needs}

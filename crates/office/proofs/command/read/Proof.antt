@@ -1,4 +1,4 @@
--- `command::read` meets its contract.
+-- `office::command::read` meets its contract.
 use mathlib.Core.Path.{sym, _∙_}
 use native.Mathlib.Omega.{arith}
 use borrow.Author.Needs.{needs}

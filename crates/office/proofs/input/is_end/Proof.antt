@@ -1,4 +1,4 @@
--- `input::is_end` meets its contract.
+-- `office::input::is_end` meets its contract.
 use mathlib.Core.Path.{sym, _∙_}
 use Rattle.office.proofs.InputLines.{end-line, end-alone}
 use borrow.Author.Needs.{needs}

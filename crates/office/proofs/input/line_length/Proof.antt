@@ -1,4 +1,4 @@
--- `input::line_length` meets its contract.
+-- `office::input::line_length` meets its contract.
 use Rattle.office.proofs.InputLines.{line-ends, line-runs-out}
 use borrow.Author.Needs.{needs}
 use Rattle.office.proofs.input.line_length.Statement.{statement}

@@ -1,4 +1,4 @@
--- `input::split` meets its contract: all lines passed are file.
+-- `office::input::split` meets its contract: all lines passed are file.
 use Prim.Native.Nat.{ℕ, _+_, _-_, _≤_, _<_}
 use borrow.Author.Needs.{needs}
 use mathlib.Core.Path.{_≡_, sym, ap, subst, _∙_}

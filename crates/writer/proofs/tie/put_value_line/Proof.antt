@@ -1,7 +1,8 @@
 -- `put_value_line` meets its contract.
 use Rattle.output.specs.Laid.{far}
 use Prim.Native.Nat.{ℕ, _+_, _<_}
-use Rattle.writer.specs.Texts.{nameText, valueLineText}
+use Rattle.writer.specs.Texts.{valueLineText}
+use Rattle.spelling.specs.LineTexts.{nameText}
 use Rattle.output.proofs.Laying.{laid-on, laid-as}
 use mathlib.Core.Path.{ap}
 use native.Mathlib.Omega.{arith}
