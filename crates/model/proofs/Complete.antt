@@ -43,7 +43,7 @@ reads-var (a-set {ts} {l} i e) rest = record {
 reads-var (an-attribute s n) rest = record { no-not = refl; read = refl }
 
 -- a comparison is read
-reads-comparison : {ts us : List Token} {v w : Var} (o : Operator) → IsVar ts v → IsVar us w → (rest : List Token)
+pub reads-comparison : {ts us : List Token} {v w : Var} (o : Operator) → IsVar ts v → IsVar us w → (rest : List Token)
     → readComparison ((ts ++ Token.operator o ∷ us) ++ rest) ≡ some (compare o v w, rest)
 unfolding readComparison
 reads-comparison {ts} {us} o v w rest =

@@ -1,0 +1,5 @@
+pub mod Marks
+pub mod Levels
+pub mod RowValues
+pub mod Runs
+pub mod Walked

@@ -1,0 +1,62 @@
+-- A rule's program: its code and the rows of its terms. What a run over it comes to.
+use Prim.Native.Nat.{ℕ, _+_, _≤_, _<_, max}
+use mathlib.Core.Path.{_≡_}
+use mathlib.Core.Bool.{true, false}
+use mathlib.Core.List.{List, []}
+use mathlib.Core.Option.{some}
+use lib.ListN.{length, getD}
+use Rattle.model.specs.Limits.{depthLimit}
+use Rattle.model.specs.Bytes.{Bytes}
+use Rattle.model.specs.Attributes.{Source}
+use Rattle.model.specs.Declarations.{Declarations, attributeNumber}
+use Rattle.model.specs.Truth as model
+use Rattle.model.specs.Tokens.{Token}
+use Rattle.model.specs.Meaning.{Values, meaningOf}
+use Rattle.model.specs.Notation.{if_then_else_}
+use Rattle.codes.specs.Codes.{endCode}
+use Rattle.rows.specs.Rows.{AttributeRows}
+use Rattle.values.specs.Operands.{Lent, lent, Stands, attributeOperand}
+use Rattle.truth.specs.declared.Truth.{Truth}
+use Rattle.truth.specs.Truths.{truthOf}
+use Rattle.program.specs.declared.Walk as code
+use Rattle.program.specs.Walks.{Walk, walk, fresh, valueOf, termed, passed, isPassed, WalkIs}
+use Rattle.program.specs.TermRows.{rowBytes, rowNext, RowValue}
+
+-- from w on, with the code from byte `at` and the rows from byte `row` on, a run comes to t
+pub data Runs (L : Lent) (rows : Bytes) : Walk → ℕ → ℕ → model.Truth → Type 0 where
+  done : {w : Walk} {row at : ℕ} → at < length (L .code) → getD (L .code) at 0 ≡ endCode → Runs L rows w row at (valueOf (w .inner))
+  past : {w : Walk} {row at : ℕ} {t : model.Truth} → at < length (L .code) → isPassed (getD (L .code) at 0) ≡ true
+      → length (passed (getD (L .code) at 0) w .outer) ≤ depthLimit → Runs L rows (passed (getD (L .code) at 0) w) row (at + 1) t → Runs L rows w row at t
+  term : {w : Walk} {row at : ℕ} {u t : model.Truth} → at < length (L .code) → (getD (L .code) at 0 ≡ endCode → ⊥) → isPassed (getD (L .code) at 0) ≡ false
+      → row + rowBytes ≤ length rows → RowValue L rows row u → at < rowNext rows row
+      → Runs L rows (termed u w) (row + rowBytes) (rowNext rows row) t → Runs L rows w row at t
+
+-- the operand of each declared attribute stands for the values that `read` gives it
+abbrev pub Reads : Lent → List ℕ → Declarations → Values → Type 0
+Reads L attributes D read =
+    (s : Source) (n : Bytes) (k : ℕ) → attributeNumber D s n ≡ some k → Stands L (attributeOperand attributes k) (read s n)
+
+-- code and rows are a program of the tokens ts: whatever is lent with them and whatever values are read, a run comes to the value of ts
+abbrev pub Programmed : Declarations → Bytes → Bytes → List Token → Type 0
+Programmed D code rows ts =
+    (attributes : List ℕ) → AttributeRows attributes D → (pairs session : List ℕ) (entries : Bytes) (read : Values) → Reads (lent code pairs session entries) attributes D read
+    → Runs (lent code pairs session entries) rows (walk fresh []) 0 0 (meaningOf read ts)
+
+-- r is where the code goes on behind a token, by its kind: ahead, whatever a row says
+pub record NextAt (rows : Bytes) (kind row at r : ℕ) : Type 0 where
+  pub mark : isPassed kind ≡ true → r ≡ at + 1
+  pub row-next : isPassed kind ≡ false → row + rowBytes ≤ length rows → r ≡ max (at + 1) (rowNext rows row)
+  pub ahead : at < r
+
+-- where the rows go on
+abbrev pub nextRow : ℕ → ℕ → ℕ
+nextRow kind row = if isPassed kind then row else row + rowBytes
+
+-- from c to r: a mark passed, or the term of a row, by the kind
+pub record Stepped (L : Lent) (rows : Bytes) (kind row : ℕ) (c r : code.Walk) : Type 0 where
+  pub mark : isPassed kind ≡ true → (w : Walk) → WalkIs c w → length (passed kind w .outer) ≤ depthLimit → WalkIs r (passed kind w)
+  pub row-value : isPassed kind ≡ false → row + rowBytes ≤ length rows → (u : model.Truth) → RowValue L rows row u → (w : Walk) → WalkIs c w → WalkIs r (termed u w)
+
+-- r is what a run over code and rows comes to
+abbrev pub Ran : Lent → Bytes → Truth → Type 0
+Ran L rows r = (t : model.Truth) → Runs L rows (walk fresh []) 0 0 t → truthOf r ≡ t
