@@ -1,14 +1,14 @@
 -- Constants, sets and attributes in rule code.
-use Prim.Native.Nat.{ℕ, _+_, _≤_, _<_, min}
+use Prim.Native.Nat.{ℕ, _+_, _*_, _≤_, _<_, min}
 use mathlib.Core.Path.{_≡_, refl, sym, ap, ap₂, subst, _∙_}
 use mathlib.Core.Bool.{Bool, true, false}
 use mathlib.Core.List.{List, [], _∷_, _++_}
 use mathlib.Core.Option.{Option, none, some, Option·some-injective}
 use native.Mathlib.Omega.{arith}
-use lib.Dec.{eqb}
+use lib.Dec.{eqb, leb, ltb}
 use lib.ListN.{length, getD}
 use borrow.Author.Tests.{eq-eqb, ne-eqb}
-use Rattle.model.specs.Notation.{_>>=_, onlyIf, allOf, isNone}
+use Rattle.model.specs.Notation.{_>>=_, onlyIf, allOf, isNone, if_then_else_}
 use Rattle.model.specs.Bytes.{Bytes}
 use Rattle.model.specs.Attributes.{AtomType, sameType}
 use Rattle.model.specs.Atoms.{Atom, isAtom, typeOf}
@@ -25,7 +25,7 @@ use Rattle.rows.specs.Rows.{numberOr}
 use Rattle.tokens.specs.RuleCode.{encodeToken, ruleCode, Coded, size, unknownNumber}
 use Rattle.tokens.proofs.RuleCode.{size-carried, code-cons, coded-within, name-here, name-number, str-length}
 use Rattle.values.specs.declared.Operand.{Operand}
-use Rattle.values.specs.Operands.{operand, constantsFrom, Stands, valuesFrom, firstOf, attributeOperand}
+use Rattle.values.specs.Operands.{operand, noValues, rowType, constantsFrom, Stands, valuesFrom, firstOf, attributeOperand}
 use Rattle.values.proofs.RuleConstants.{step, none-behind}
 use Rattle.policy.specs.declared.Var.{Var}
 use Rattle.policy.specs.declared.Constants.{Constants}
@@ -340,11 +340,25 @@ module _ (code : Bytes) (at k : ℕ) (e : k ≡ getD code at 0) where
                 behind = i .behind;
                 atom-count = i .atom-count;
                 some-atoms = i .some-atoms;
+                near = let w = R .further z in rw p (omega (arith, w .0, w .1), omega (arith, w .1));
                 stands = λ v read g. subst (λ (j : Operand). Stands (lentWith code L) j (y .0)) (sym p) (record { coded = i .coded v; typed = i .of-kind; written = i .written v });
               },
             )
 
 -- ---- a var
+
+-- the numbers of an attribute's operand are no larger than its own
+operand-near : (rows : List ℕ) (k : ℕ) → (attributeOperand rows k .start ≤ k) × (attributeOperand rows k .end ≤ k)
+unfolding attributeOperand
+operand-near rows k = go (ltb k 32) (eqb (getD rows (8 * k) 0) 0) (leb (getD rows (8 * k) 0) 3)
+  where
+    go : (a b c : Bool)
+        → ((if a then (if b then noValues else (if c then operand (rowType rows k) 0 k 0 else operand (rowType rows k) 1 k 0)) else noValues) .start ≤ k)
+        × ((if a then (if b then noValues else (if c then operand (rowType rows k) 0 k 0 else operand (rowType rows k) 1 k 0)) else noValues) .end ≤ k)
+    go true true c = (omega arith, omega arith)
+    go true false true = (omega arith, omega arith)
+    go true false false = (omega arith, omega arith)
+    go false b c = (omega arith, omega arith)
 
 constant-read : (code : Bytes) (L : Lending) (A : Asked) (v : Var) → v .ok ≡ true → (t : Token) (a : Atom) (rest : List Token) → asConstant t ≡ some a
     → VarReads code L A v (constants (a ∷ [])) rest → VarAnswers code L A v (readVar (t ∷ rest))
@@ -366,6 +380,7 @@ module _ (code : Bytes) (rows : List ℕ) (at k : ℕ) (e : k ≡ getD code at 0
   unfolding valuesFrom firstOf
   var-constant lo hi end E o p = record {
     further = let w = E .further in omega arith;
+    passes = λ _. E .further;
     answers = λ L q A ts f.
         let c = constant-on code k at end e E lo hi A ts f in
         let s : k ≡ typeCode (typeOf (c .atom)) = c .kind-is ∙ kind-of (c .atom) (c .token) (c .is) in
@@ -374,6 +389,7 @@ module _ (code : Bytes) (rows : List ℕ) (at k : ℕ) (e : k ≡ getD code at 0
           behind = c .behind;
           atom-count = refl;
           some-atoms = omega arith;
+          near = let w : at + size (c .token) < length code = told (c .from) .within in rw p (omega arith, omega (arith, c .ends));
           stands = λ v read g. subst (λ (j : Operand). Stands (lentWith code L) j (c .atom ∷ [])) (sym p) (record {
             coded =
                 let w : at + size (c .token) < length code = told (c .from) .within in
@@ -384,10 +400,11 @@ module _ (code : Bytes) (rows : List ℕ) (at k : ℕ) (e : k ≡ getD code at 0
         }));
   }
 
-  pub var-name : k ≡ 4 → (n : ℕ) → n ≡ getD code (at + 1) 0 → (o : Operand) → o ≡ attributeOperand rows n
+  pub var-name : k ≡ 4 → (n : ℕ) → n ≡ getD code (at + 1) 0 → n < 256 → (o : Operand) → o ≡ attributeOperand rows n
       → Vars code rows at (record { ok = true; operand = o; atoms = 0; next = at + 2 })
-  var-name z n m o p = record {
+  var-name z n m few o p = record {
     further = omega arith;
+    passes = λ _. omega arith;
     answers = λ L q A ts f.
         let (s, x, us, g, c) = name-here (f .coded) (sym e ∙ z) in
         let h : From code A at (name s x ∷ us) = subst (From code A at) g f in
@@ -397,6 +414,7 @@ module _ (code : Bytes) (rows : List ℕ) (at k : ℕ) (e : k ≡ getD code at 0
             behind = told h .behind;
             atom-count = refl;
             some-atoms = tt;
+            near = let w = operand-near rows n in rw p (omega (arith, w .0), omega (arith, w .1));
             stands = λ v read r.
                 let (i, j) = declared (attributeNumber (A .declared) s x) (told h .known v) in
                 let d : n ≡ i = m ∙ name-number (h .coded) ∙ ap (numberOr unknownNumber) j in
@@ -412,13 +430,14 @@ module _ (code : Bytes) (rows : List ℕ) (at k : ℕ) (e : k ≡ getD code at 0
   pub var-set : (v : Var) → k ≡ 7 → SetVars code (at + 1) v → Vars code rows at v
   var-set v z S = record {
     further = let w = S .further in omega arith;
+    passes = λ _. let w = S .further in omega arith;
     answers = λ L q A ts f.
         let b = mark-on Mark.lbrace code A at ts f (sym e ∙ z) in
         subst (λ us. VarAnswers code L A v (readVar us)) (sym (b .split)) (S .answers L A (b .rest) (b .behind));
   }
 
   pub var-none : (v : Var) → (v .ok ≡ false) × (v .next ≡ at) → (1 ≤ k → k ≤ 2 → ⊥) → (k ≡ 4 → ⊥) → (k ≡ 7 → ⊥) → Vars code rows at v
-  var-none v x a b d = record { further = omega (arith, x .1); answers = λ L q A ts f. go L A ts f }
+  var-none v x a b d = record { further = omega (arith, x .1); passes = λ ok. false-is-true (sym (x .0) ∙ ok); answers = λ L q A ts f. go L A ts f }
     where
       go : (L : Lending) (A : Asked) (ts : List Token) → From code A at ts → VarAnswers code L A v (readVar ts)
       go L A [] f = x .0

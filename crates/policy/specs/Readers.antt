@@ -143,6 +143,7 @@ pub record VarReads (code : Bytes) (L : Lending) (A : Asked) (v : Var) (w : gram
   pub behind : From code A (v .next) rest
   pub atom-count : v .atoms ≡ min 9 (atomsIn w)
   pub some-atoms : SomeAtoms w
+  pub near : (v .operand .start ≤ length code + 255) × (v .operand .end ≤ length code + 255)
   pub stands : A .valued ≡ true → (read : Values) → ReadsAs code L (A .declared) read → Stands (lentWith code L) (v .operand) (valuesOf read w)
 
 abbrev pub VarAnswers : Bytes → Lending → Asked → Var → Option (grammar.Var × List Token) → Type 0
@@ -151,6 +152,7 @@ VarAnswers code L A v (some y) = (v .ok ≡ true) × VarReads code L A v (y .0) 
 
 pub record Vars (code : Bytes) (rows : List ℕ) (at : ℕ) (v : Var) : Type 0 where
   pub further : at ≤ v .next
+  pub passes : v .ok ≡ true → at < v .next
   pub answers : (L : Lending) → L .attributes ≡ rows → (A : Asked) (ts : List Token) → From code A at ts → VarAnswers code L A v (readVar ts)
 
 -- a set, behind its first brace

@@ -57,11 +57,11 @@ enum Head {
 
 // A constant, a set or an attribute, if there is one: what it stands for, its atoms as written (9 for more than 8, 0 of an attribute), and
 // where it ends.
-struct Var {
-    ok: bool,
-    atoms: u8,
-    operand: Operand,
-    next: usize,
+pub struct Var {
+    pub ok: bool,
+    pub atoms: u8,
+    pub operand: Operand,
+    pub next: usize,
 }
 
 // The constants of a set, if they are well formed: how many (9 for more than 8), and where the brace is that ends them.
@@ -196,7 +196,7 @@ fn join(both: bool, x: Part, r: Reading) -> Reading
 }
 
 // The byte at a place of the code, the kind of a token where one begins there; END behind the last byte.
-fn kind_at(code: &[u8], at: usize) -> u8
+pub fn kind_at(code: &[u8], at: usize) -> u8
     ensures { λ r. ⌜ r ≡ getD (now (code .entry)) at 0 ⌝ }
 {
     if code.len() <= at {
@@ -336,7 +336,7 @@ fn set_var(code: &[u8], at: usize) -> Var
 }
 
 // A constant, a set or an attribute, by the kind of its first token.
-fn var_at(code: &[u8], attributes: &[u64], kind: u8, at: usize) -> Var
+pub fn var_at(code: &[u8], attributes: &[u64], kind: u8, at: usize) -> Var
     requires { ⌜ (length (now attributes) ≡ 256) × (kind ≡ getD (now code) at 0) ⌝ }
     ensures { λ r. ⌜ Vars (now (code .entry)) (now (attributes .entry)) at r ⌝ }
 {
@@ -401,7 +401,7 @@ fn signed_head(negated: bool, h: Head) -> Head
 }
 
 // The var behind the operator of a comparison, if there is an operator; no comparison stands after NOT.
-fn second_var(code: &[u8], attributes: &[u64], negated: bool, at: usize) -> Var
+pub fn second_var(code: &[u8], attributes: &[u64], negated: bool, at: usize) -> Var
     requires { ⌜ length (now attributes) ≡ 256 ⌝ }
     ensures { λ w. ⌜ SecondVars (now (code .entry)) (now (attributes .entry)) negated at w ⌝ }
 {

@@ -37,10 +37,14 @@ Reads L attributes D read =
     (s : Source) (n : Bytes) (k : ℕ) → attributeNumber D s n ≡ some k → Stands L (attributeOperand attributes k) (read s n)
 
 -- code and rows are a program of the tokens ts: whatever is lent with them and whatever values are read, a run comes to the value of ts
-abbrev pub Programmed : Declarations → Bytes → Bytes → List Token → Type 0
-Programmed D code rows ts =
-    (attributes : List ℕ) → AttributeRows attributes D → (pairs session : List ℕ) (entries : Bytes) (read : Values) → Reads (lent code pairs session entries) attributes D read
+abbrev pub ProgrammedBy : List ℕ → Declarations → Bytes → Bytes → List Token → Type 0
+ProgrammedBy attributes D code rows ts =
+    (pairs session : List ℕ) (entries : Bytes) (read : Values) → Reads (lent code pairs session entries) attributes D read
     → Runs (lent code pairs session entries) rows (walk fresh []) 0 0 (meaningOf read ts)
+
+-- by any rows of the attributes of D
+abbrev pub Programmed : Declarations → Bytes → Bytes → List Token → Type 0
+Programmed D code rows ts = (attributes : List ℕ) → AttributeRows attributes D → ProgrammedBy attributes D code rows ts
 
 -- r is where the code goes on behind a token, by its kind: ahead, whatever a row says
 pub record NextAt (rows : Bytes) (kind row at r : ℕ) : Type 0 where

@@ -188,7 +188,7 @@ fn passed(w: Walk, kind: u8) -> Walk
 }
 
 // Whether a kind is that of a mark that is passed; with others a term begins, or the code ends.
-fn is_passed(kind: u8) -> bool
+pub fn is_passed(kind: u8) -> bool
     ensures { λ r. ⌜ r ≡ isPassed kind ⌝ }
 {
     if kind < LPAREN {
@@ -299,7 +299,7 @@ fn next_at(rows: &[u8], kind: u8, row: usize, at: usize) -> usize
     next
 }
 
-fn next_row(kind: u8, row: usize) -> usize
+pub fn next_row(kind: u8, row: usize) -> usize
     requires { ⌜ row ≤ 1048576 ⌝ }
     ensures { λ r. ⌜ (r ≡ nextRow kind row) × (r ≤ row + rowBytes) ⌝ }
 {

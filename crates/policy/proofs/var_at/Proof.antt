@@ -37,7 +37,7 @@ returns c =
     let the-place = c .before .place in
     let the-attribute = c .attribute in
     var-name (a .code .now) (a .attributes .now) (a .at) (a .kind) (c .before .before .before .before .before .before .pre .1)
-    (c .before .before .before .match .keys1) (the-place .result) (the-place .ensures .0 ∙ c .before .before .kind-at .ensures)
+    (c .before .before .before .match .keys1) (the-place .result) (the-place .ensures .0 ∙ c .before .before .kind-at .ensures) (the-place .ensures .1)
     (the-attribute .result) (the-attribute .ensures)
 
 returns-2 : tie.Need-returns-2
