@@ -1,15 +1,15 @@
 /* Times one evaluation of a rule: the valley's rules 0 and 1, and a rule of 16 terms, on the valley file's data with the valley request; and what
-   comes once for a request (the session) and once for a load (a rule's code). Prints nanoseconds, the best of several rounds. */
+   comes once for a request (the session) and once for a load (a rule's program). Prints nanoseconds, the best of several rounds. */
 #include <stdbool.h>
 #include <stdint.h>
 #include <stdio.h>
 #include <string.h>
 #include <time.h>
 
-extern uint8_t zhul_time_judge(const uint8_t *policy, size_t policy_length, const uint64_t *attributes, uint8_t *code);
+extern uint8_t zhul_time_load(const uint8_t *policy, size_t policy_length, const uint64_t *attributes, uint8_t *code, uint8_t *rows);
 extern bool zhul_time_open(const uint64_t *attributes, const uint64_t *table, size_t user, size_t object, uint32_t mask, size_t count, uint64_t *session);
-extern uint8_t zhul_time_evaluate(const uint8_t *code, const uint64_t *attributes, const uint64_t *pairs, const uint64_t *session,
-                                  const uint8_t *entries, size_t entries_length);
+extern uint8_t zhul_time_run(const uint8_t *code, const uint8_t *rows, const uint64_t *pairs, const uint64_t *session, const uint8_t *entries,
+                             size_t entries_length);
 
 enum { ROUNDS = 9, TURNS = 1000000 };
 enum { USER = 1, OBJECT = 2, ENV = 4 };
@@ -17,7 +17,7 @@ enum { INT = 1, STR = 2, BOOL = 3 };
 enum { UNDEF = 1, TRUE_ = 2 };
 
 static uint64_t attributes[256], pairs[1024], table[1024], session[128];
-static uint8_t code[768];
+static uint8_t code[768], rows[256];
 static const uint8_t entries[5] = {4, 10, 0, 0, 0};
 static const char *policy;
 
@@ -55,8 +55,8 @@ static void valley(void) {
 }
 
 static uint8_t open_session(void) { return zhul_time_open(attributes, table, 4, 5, 3, 5, session); }
-static uint8_t judge(void) { return zhul_time_judge((const uint8_t *)policy, strlen(policy), attributes, code); }
-static uint8_t evaluate(void) { return zhul_time_evaluate(code, attributes, pairs, session, entries, sizeof entries); }
+static uint8_t load(void) { return zhul_time_load((const uint8_t *)policy, strlen(policy), attributes, code, rows); }
+static uint8_t run(void) { return zhul_time_run(code, rows, pairs, session, entries, sizeof entries); }
 
 static double nanoseconds(void) {
     struct timespec t;
@@ -81,15 +81,15 @@ static int measure(const char *name, uint8_t (*call)(void), uint8_t wanted) {
 
 static int rule(const char *name, const char *text, uint8_t wanted) {
     policy = text;
-    if (judge() != 0) return printf("%s: refused\n", name), 1;
-    return measure(name, evaluate, wanted);
+    if (load() != 0) return printf("%s: refused\n", name), 1;
+    return measure(name, run, wanted);
 }
 
 int main(void) {
     valley();
     return measure("the session and refusal 17", open_session, false)
         | rule("valley rule 0", "user.zone = object.zone AND env.hour < 17", TRUE_)
-        | measure("its code, at load", judge, 0)
+        | measure("its program, at load", load, 0)
         | rule("valley rule 1", "user.staff", UNDEF)
         | rule("rule of 16 terms",
                "user.zone=object.zone AND env.hour<17 AND env.hour>=8 AND user.zone IN{1,2,3}AND(user.kind IN{\"day\",\"season\"}"

@@ -157,17 +157,33 @@ static void largest(int reversed) {
     expect("write after edits", ZHUL_NUMBER(written("write after edits")), 0, 0);
 }
 
-/* A policy is read to its end before its depth is judged: a line full of parentheses takes the most, though it is refused. The file stays the largest
-   up to its last rule. */
-static void deepest(void) {
+/* A rule line that is refused, full of one thing, behind the largest file up to its last rule. */
+static void full_line(const char *what, const char *front, const char *unit, const char *middle, const char *back, uint32_t number) {
     static const uint8_t block[10] = {1};
-    size_t last = length - 1;
-    while (input[last - 1] != '\n') last--;
-    length = last, lines--;
-    put("rule=p,%0248d\n", 0);
-    memset(input + last + 7, '(', 248);
-    expect("parentheses", measured(LOAD, input, length, block, 0), 6, (uint32_t)lines);
-    expect("pass with parentheses", measured(PASS, input, length, block, sizeof block), 6, 0);
+    char policy[249] = "";
+    size_t times = (248 - strlen(front) - strlen(middle)) / (strlen(unit) + strlen(back)), start = length;
+    strcat(policy, front);
+    for (size_t k = 0; k < times; k++) strcat(policy, unit);
+    strcat(policy, middle);
+    for (size_t k = 0; k < times; k++) strcat(policy, back);
+    put("rule=p,%s\n", policy);
+    expect(what, measured(LOAD, input, length, block, 0), number, (uint32_t)lines);
+    expect(what, measured(PASS, input, length, block, sizeof block), number, 0);
+    length = start, lines--;
+}
+
+/* A loop judges a policy before calls that nest read it: no such line takes more than the largest files that are accepted. */
+static void refused(void) {
+    do length--; while (input[length - 1] != '\n');
+    lines--;
+    full_line("parentheses", "", "(", "", "", 6);
+    full_line("parentheses that end", "", "(", "TRUE", ")", 7);
+    full_line("parentheses after NOT", "", "NOT(", "TRUE", ")", 7);
+    full_line("parentheses after terms", "", "1=1 AND(", "1=1", ")", 7);
+    full_line("terms joined by AND", "", "1=1 AND ", "1=1", "", 7);
+    full_line("terms joined by OR", "", "1=1 OR ", "1=1", "", 7);
+    full_line("constants", "1={", "1,", "1}", "", 7);
+    full_line("constants without an end", "1={", "1,", "1", "", 6);
 }
 
 /* Rules that no load leaves: every byte is 5, the code of a left parenthesis, so that each byte of a rule is one depth more. No bytes nest deeper. */
@@ -270,7 +286,7 @@ int main(int argc, char **argv) {
     largest(1);
     size_t accepted[CALLS];
     memcpy(accepted, most, sizeof most);
-    deepest();
+    refused();
     for (int i = 1; i < argc; i++) session(argv[i]);
     for (int call = 0; call < CALLS; call++) printf("%s %zu (the largest files that are accepted: %zu)\n", names[call], most[call], accepted[call]);
     stray();

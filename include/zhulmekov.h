@@ -17,14 +17,11 @@
    answers 3 with line 1, as for every file without its first line, and makes the table all 0. On the empty book, which every refused load leaves, each
    edit is refused, each request gets 15 or 16, and the file that zhul_write puts out is the first line alone, 9 bytes, which zhul_length tells.
 
-   Stack, as hosts/stack measures it on x86-64 (KB of 1000 bytes, rounded up; measured, not proved): zhul_pass 277 KB, zhul_load 210 KB, zhul_edit 16
-   KB, zhul_decide 18 KB, zhul_write and zhul_length 1 KB. The first two are for a refused file with a rule line full of parentheses, as a policy is
-   read to its end before its depth is judged, some 0.8 KB for each parenthesis; for the largest files that are accepted it is 94 KB and 28 KB. The
-   last three are for a book and rules that calls left: on other bytes, which must not be lent, zhul_decide takes up to 617 KB, the other two still 1
-   KB.
+   Stack, as hosts/stack measures it on x86-64 (KB of 1000 bytes, rounded up; measured, not proved): zhul_pass 92 KB, of which 75 KB are a book and rules
+   of its own, zhul_load 17 KB, zhul_edit 16 KB, zhul_decide 2 KB, zhul_write and zhul_length 1 KB: for any file, accepted or refused, and for the last
+   three on any book and rules, also on bytes that no call left, which must not be lent.
 
-   Of the C library the calls need memset and, for zhul_write and zhul_length, memcpy, and nothing else; a firmware without that library gives its
-   own. */
+   Of the C library the calls need memset and memcpy, and nothing else; a firmware without that library gives its own. */
 #ifndef ZHULMEKOV_H
 #define ZHULMEKOV_H
 
@@ -37,7 +34,7 @@ extern "C" {
 
 #define ZHUL_TABLE_WORDS 1024  /* words of 64 bits: holder k's set is the four words from word 4k, pair p bit p modulo 64 of word p / 64 of these */
 #define ZHUL_BOOK_WORDS 5240   /* words of 64 bits of a book */
-#define ZHUL_RULES_BYTES 24576 /* bytes of a book's rules */
+#define ZHUL_RULES_BYTES 32768 /* bytes of a book's rules */
 
 /* A pass block, of 10 + 5n bytes; numbers of more bytes have their low byte first:
      byte 0      1

@@ -7,9 +7,8 @@ use crate::full::{self, FullFile, Size};
 use crate::told::{Told, DENY, UNDEFINED};
 
 const LOAD_GOAL: f64 = 3.0;
-const USER_GOAL: f64 = 1.5;
-const TOP_GOAL: f64 = 1.0;
-const REQUEST_GOAL: f64 = 2.0;
+const USER_GOAL: f64 = 2.5;
+const REFUSED_REQUEST_GOAL: f64 = 1.5;
 const WRITE_GOAL: f64 = 3.0;
 
 /// How the rows of the full file's load, write and length begin: their times are held against each other.
@@ -57,19 +56,19 @@ fn edits_of_a_user(size: &Size, full: &FullFile) -> Vec<Case> {
 }
 
 fn edits_at_the_top(size: &Size, full: &FullFile) -> Vec<Case> {
-    let case = |name: &str, file: &[u8], tie: &str, count: usize| {
-        Case::new("edit at the top", name, file, Calls::pair('+', tie, count)).with_goal(TOP_GOAL)
+    let case = |name: &str, file: &[u8], tie: &str, count: usize, goal: f64| {
+        Case::new("edit at the top", name, file, Calls::pair('+', tie, count)).with_goal(goal)
     };
     let (value, parent) = ("value=g0,zone,2", "parent=g0,over");
     let of_full = format!("value=g0,a0,{}", full.of_nobody);
     let under = size.under_first_group();
     vec![
-        case("value tie, 200 members", &files::members(200), value, 201),
-        case("value tie, chain of 62 groups, 138 members", &files::chain(200), value, 201),
-        case("value tie, 8 rows of 7 groups, 144 members of three", &files::lattice(200), value, 201),
-        case("parent tie, 200 members", &files::members(200), parent, 201),
-        case("parent tie, chain of 62 groups, 138 members", &files::chain(200), parent, 201),
-        case(&format!("value tie, full file, {} below", under - 1), &full.bytes, &of_full, under),
+        case("value tie, 200 members", &files::members(200), value, 201, 2.0),
+        case("value tie, chain of 62 groups, 138 members", &files::chain(200), value, 201, 1.5),
+        case("value tie, 8 rows of 7 groups, 144 members of three", &files::lattice(200), value, 201, 2.0),
+        case("parent tie, 200 members", &files::members(200), parent, 201, 2.0),
+        case("parent tie, chain of 62 groups, 138 members", &files::chain(200), parent, 201, 1.5),
+        case(&format!("value tie, full file, {} below", under - 1), &full.bytes, &of_full, under, 2.0),
     ]
 }
 
@@ -103,26 +102,27 @@ fn large_block(size: &Size, file: &[u8]) -> Vec<u8> {
 }
 
 fn requests(size: &Size, full: &FullFile) -> Vec<Case> {
-    let case = |name: &str, file: &[u8], block: Vec<u8>, number: u32| {
+    let case = |name: &str, file: &[u8], block: Vec<u8>, number: u32, goal: f64| {
         let calls = Calls::Request(block, Told::new(number, 0));
-        Case::new("request", name, file, calls).with_goal(REQUEST_GOAL)
+        Case::new("request", name, file, calls).with_goal(goal)
     };
     vec![
-        case("valley, permit", &files::valley(), files::valley_block(), 0),
+        case("valley, permit", &files::valley(), files::valley_block(), 0, 2.3),
         case(
             "16 rules of 16 terms, valley values",
             &files::valley_large(16),
             files::valley_block(),
             UNDEFINED,
+            2.5,
         ),
-        case("16 rules of 16 terms, full file", &full.bytes, large_block(size, &full.bytes), DENY),
+        case("16 rules of 16 terms, full file", &full.bytes, large_block(size, &full.bytes), DENY, 3.0),
     ]
 }
 
 fn refused_requests(size: &Size, full: &FullFile) -> Vec<Case> {
     let case = |name: &str, file: &[u8], block: Vec<u8>, number: u32| {
         let calls = Calls::Request(block, Told::new(number, 0));
-        Case::new("refused request", format!("{number}: {name}"), file, calls).with_goal(REQUEST_GOAL)
+        Case::new("refused request", format!("{number}: {name}"), file, calls).with_goal(REFUSED_REQUEST_GOAL)
     };
     let mut wrong_byte = files::valley_block();
     wrong_byte[9] = 1;

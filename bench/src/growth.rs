@@ -6,6 +6,8 @@ use crate::full::{self, Size};
 use crate::policies;
 use crate::told::{Told, DENY, UNDEFINED};
 
+const NOBODY_BELOW_GOAL: f64 = 1.5;
+
 pub fn all() -> Vec<Case> {
     let mut cases = loads();
     cases.extend(by_bytes("write, by bytes", Calls::Write));
@@ -44,7 +46,12 @@ fn by_bytes(part: &'static str, calls: fn(usize) -> Calls) -> Vec<Case> {
 fn edits(part: &'static str, file: fn(usize) -> Vec<u8>) -> Vec<Case> {
     let case = |below: usize| {
         let calls = Calls::pair('+', "value=g0,zone,2", below + 1);
-        Case::new(part, format!("{below} below"), &file(below), calls)
+        let case = Case::new(part, format!("{below} below"), &file(below), calls);
+        if below == 0 {
+            case.with_goal(NOBODY_BELOW_GOAL)
+        } else {
+            case
+        }
     };
     [0, 50, 100, 150, 200].into_iter().map(case).collect()
 }

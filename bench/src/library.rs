@@ -3,7 +3,7 @@
 use reference::TABLE_WORDS;
 
 const BOOK_WORDS: usize = 5240;
-const RULES_BYTES: usize = 24_576;
+const RULES_BYTES: usize = 32_768;
 
 extern "C" {
     fn zhul_pass(

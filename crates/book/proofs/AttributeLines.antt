@@ -19,7 +19,7 @@ use Rattle.model.specs.Declarations.{Declarations, Attribute, Pair, sameSourceA
 use Rattle.model.specs.Lines.{attr}
 use Rattle.model.specs.State.{State, after, withAttribute}
 use Rattle.model.specs.Standing.{WellDeclared, Standing}
-use Rattle.model.proofs.Lists.{nth-lt}
+use Rattle.model.proofs.Lists.{nth-lt, nth-append}
 use Rattle.model.proofs.Growing.{nth-last, place-append}
 use Rattle.model.proofs.Declared.{pair-declared}
 use Rattle.codes.specs.Codes.{sourceCode, typeCode}
@@ -198,7 +198,7 @@ attribute-held book code S s n t k held well at few =
       ties = rw (beside section.ups refl refl, beside section.own refl refl, beside section.slots refl refl) (held .ties);
       rules =
           subst (λ (w : List ℕ). RuleRows w code E) (sym (beside section.rules refl refl))
-          (rules-kept D E (stay D a) (λ o j e. e) refl (λ i r f. well .rules .each i r f .names-declared) _ code (held .rules));
+          (rules-kept D E (stay D a) (λ i b e. nth-append (D .attributes) (a ∷ []) i e) (λ o j e. e) refl (λ i r f. well .rules .each i r f .names-declared) _ code (held .rules));
     }
 
 -- ---- the step

@@ -357,7 +357,7 @@ grown-held book next code D T h n held known free at few grown =
       ties = grown .tied;
       rules =
           subst (λ (w : List ℕ). RuleRows w code E) (sym (same section.rules refl refl refl refl refl))
-          (rules-kept D E (λ s m j e. e) (λ o j e. e) refl known _ code (held .rules));
+          (rules-kept D E (λ s m j e. e) (λ i a e. e) (λ o j e. e) refl known _ code (held .rules));
     }
 
 module _ (book : List ℕ) (code : Bytes) (D : Declarations) (T : Ties) (h : Holder) (n : ℕ) (held : Holds book code (record { declared = D; ties = T }))

@@ -10,7 +10,7 @@ use Rattle.model.specs.Notation.{anyOf, each, nth}
 use Rattle.model.specs.Bytes.{Bytes}
 use Rattle.model.specs.Attributes.{Source}
 use Rattle.model.specs.Tokens.{Token, name, int, str, truth, operator, mark}
-use Rattle.model.specs.Declarations.{Declarations, Rule, attributeNumber, operationNumber, sortOf, groups}
+use Rattle.model.specs.Declarations.{Declarations, Attribute, Rule, attributeNumber, operationNumber, sortOf, groups}
 use Rattle.model.specs.Refusals.{unknownName}
 use Rattle.model.specs.Standing.{Each}
 use Rattle.model.proofs.WordTables.{none-is-some}
@@ -20,7 +20,8 @@ use Rattle.model.proofs.Growing.{nth-last}
 use Rattle.codes.specs.Codes.{kindOf}
 use Rattle.rows.specs.Rows.{AttributeRows, isPairOf, numberOr}
 use Rattle.tokens.specs.RuleCode.{unknownNumber, carriedBytes, encodeToken}
-use Rattle.book.specs.Held.{SortRows, GroupSlots, RuleRows}
+use Rattle.program.proofs.Programs.{more-attributes}
+use Rattle.book.specs.Held.{SortRows, GroupSlots, codeOfRule, rowsOfRule, RuleRows}
 
 -- one more at the end: the others are as they were
 module _ {A : Type 0} (xs : List A) (x : A) where
@@ -44,6 +45,10 @@ module _ {A : Type 0} (xs : List A) (x : A) where
 -- what is found by SRC and NAME, or by an operation's name, stays found
 abbrev pub AttributesStay : Declarations → Declarations → Type 0
 AttributesStay D E = (s : Source) (n : Bytes) (k : ℕ) → attributeNumber D s n ≡ some k → attributeNumber E s n ≡ some k
+
+-- and so does what has a number
+abbrev pub RowsStay : Declarations → Declarations → Type 0
+RowsStay D E = (i : ℕ) (a : Attribute) → nth (D .attributes) i ≡ some a → nth (E .attributes) i ≡ some a
 
 abbrev pub OperationsStay : Declarations → Declarations → Type 0
 OperationsStay D E = (o : Bytes) (k : ℕ) → operationNumber D o ≡ some k → operationNumber E o ≡ some k
@@ -73,8 +78,8 @@ module _ (D E : Declarations) (stay : AttributesStay D E) where
       go true f g more = absurd (true≢false g)
       go false f g more = ap₂ (λ (b c : Bytes). (kindOf t ∷ b) ++ c) (carried-same t f) (more g)
 
-  pub rules-kept : OperationsStay D E → E .rules ≡ D .rules → NamesKnown D → (words : List ℕ) (code : Bytes) → RuleRows words code D → RuleRows words code E
-  rules-kept operations same known words code rows i r e =
+  pub rules-kept : RowsStay D E → OperationsStay D E → E .rules ≡ D .rules → NamesKnown D → (words : List ℕ) (code : Bytes) → RuleRows words code D → RuleRows words code E
+  rules-kept rows-stay operations same known words code rows i r e =
       let old = ap (λ (l : List Rule). nth l i) (sym same) ∙ e in
       let h = rows i r old in
       record {
@@ -85,6 +90,7 @@ module _ (D E : Declarations) (stay : AttributesStay D E) where
           rest = h .tokens .rest;
           from = h .tokens .from ∙ ap (λ (c : Bytes). c ++ (0 ∷ []) ++ h .tokens .rest) (sym (code-same (r .tokens) (known i r old)));
         };
+        program = more-attributes D E rows-stay stay (codeOfRule code i) (rowsOfRule code i) (r .tokens) (h .program);
       }
 
 -- sorts and slots, with the same holders

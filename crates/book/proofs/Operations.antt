@@ -158,7 +158,7 @@ operation-held book code S n k held known at few =
       ties = rw (beside section.ups refl refl, beside section.own refl refl, beside section.slots refl refl) (held .ties);
       rules =
           subst (λ (w : List ℕ). RuleRows w code E) (sym (beside section.rules refl refl))
-          (rules-kept D E (λ s m j e. e) (λ o j e. place-append (same o) (D .operations) (n ∷ []) e) refl known _ code (held .rules));
+          (rules-kept D E (λ s m j e. e) (λ i a e. e) (λ o j e. place-append (same o) (D .operations) (n ∷ []) e) refl known _ code (held .rules));
     }
 
 -- the three ways of the step; k is the number that was found, m the count

@@ -265,5 +265,5 @@ pair-held book next code D T q n k held known number at few low put =
       ties = rw (beside section.ups refl refl refl, beside section.own refl refl refl, beside section.slots refl refl refl) (held .ties);
       rules =
           subst (λ (w : List ℕ). RuleRows w code E) (sym (beside section.rules refl refl refl))
-          (rules-kept D E (λ s m j e. e) (λ o j e. e) refl known _ code (held .rules));
+          (rules-kept D E (λ s m j e. e) (λ i a e. e) (λ o j e. e) refl known _ code (held .rules));
     }

@@ -15,10 +15,11 @@ use Rattle.text.specs.Packing.{packedOf}
 use Rattle.text.specs.Values.{atomWords}
 use Rattle.rows.specs.Rows.{AttributeRows}
 use Rattle.tokens.specs.RuleCode.{Coded}
+use Rattle.program.specs.Runs.{Programmed}
 use Rattle.index.specs.Index.{Row, Indexed}
 use Rattle.ties.specs.TieArrays.{KeepsTies}
 use Rattle.book.specs.Sections as section
-use Rattle.book.specs.Sections.{sectionWords, bookWords, bookHolders, codeBytes, ruleBytes}
+use Rattle.book.specs.Sections.{sectionWords, bookWords, bookHolders, codeBytes, rowsStart, rowsBytes, ruleBytes}
 
 -- how many there are of each
 pub record CountsOf (words : List ℕ) (D : Declarations) : Type 0 where
@@ -65,12 +66,20 @@ pub record GroupSlots (slots slotOf : List ℕ) (D : Declarations) : Type 0 wher
   pub taken : (q : ℕ) → q < groups D → (s : Sort) × (sortOf D (getD slots q 0) ≡ some s) × (isGroup s ≡ true)
   pub free : (q : ℕ) → groups D ≤ q → q < groupLimit → getD slots q 0 ≡ 0
 
--- rule i: the number of its operation, and the code of its tokens
+-- the code of rule i, and the rows of its terms
+abbrev pub codeOfRule : Bytes → ℕ → Bytes
+codeOfRule code i = take codeBytes (drop (codeBytes * i) code)
+
+abbrev pub rowsOfRule : Bytes → ℕ → Bytes
+rowsOfRule code i = take rowsBytes (drop (rowsStart + rowsBytes * i) code)
+
+-- rule i: the number of its operation, the code of its tokens, and its program
 pub record RuleHeld (words : List ℕ) (code : Bytes) (D : Declarations) (i : ℕ) (r : Rule) : Type 0 where
   pub operation : ℕ
   pub operation-is : operationNumber D (r .operation) ≡ some operation
   pub word : getD words i 0 ≡ operation
-  pub tokens : Coded D (take codeBytes (drop (codeBytes * i) code)) 0 (r .tokens)
+  pub tokens : Coded D (codeOfRule code i) 0 (r .tokens)
+  pub program : Programmed D (codeOfRule code i) (rowsOfRule code i) (r .tokens)
 
 abbrev pub RuleRows : List ℕ → Bytes → Declarations → Type 0
 RuleRows words code D = (i : ℕ) (r : Rule) → nth (D .rules) i ≡ some r → RuleHeld words code D i r

@@ -1,5 +1,5 @@
 -- The sections of a book: its words lie one section after another.
-use Prim.Native.Nat.{ℕ, _*_}
+use Prim.Native.Nat.{ℕ, _+_, _*_}
 use mathlib.Core.List.{List}
 use lib.ListN.{take, drop}
 use Rattle.model.specs.Limits.{Edition, holderNumbers, ruleLimit}
@@ -63,5 +63,12 @@ bookWords = 5240
 abbrev pub codeBytes : ℕ
 codeBytes = 768
 
+-- the rows of its terms stand behind the code of all rules, from byte 24,576 + 256k on
+abbrev pub rowsStart : ℕ
+rowsStart = codeBytes * ruleLimit
+
+abbrev pub rowsBytes : ℕ
+rowsBytes = 256
+
 abbrev pub ruleBytes : ℕ
-ruleBytes = codeBytes * ruleLimit
+ruleBytes = rowsStart + rowsBytes * ruleLimit

@@ -5,12 +5,17 @@ pub mod find;
 // How many words a table has.
 pub const TABLE_WORDS: usize = 1024;
 
-// How many words a book has, how many bytes the code of all rules has, and that of one.
+// How many words a book has, and how many bytes its rules have: the code of each, then the rows of each.
 pub const BOOK_WORDS: usize = 5240;
 
-pub const RULE_BYTES: usize = 24576;
+pub const RULE_BYTES: usize = 32768;
 
+// How many bytes the code of one rule has, where the rows begin, and how many bytes those of one rule have.
 pub const CODE_BYTES: usize = 768;
+
+pub const ROWS_AT: usize = 24576;
+
+pub const ROWS_BYTES: usize = 256;
 
 // Where sections begin; each ends where the next begins, the last with the book.
 pub const ATTRIBUTES_AT: usize = 8;

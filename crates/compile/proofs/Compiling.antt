@@ -1,6 +1,7 @@
 -- The rows of a rule, as far as its code was passed.
 use Prim.Native.Nat.{ℕ, _+_, _*_, _≤_, _<_, max}
 use mathlib.Core.Path.{_≡_, refl, sym, ap, subst, _∙_}
+use mathlib.Core.Logic.{⊎-elim}
 use mathlib.Core.Bool.{Bool, true, false, _||_}
 use mathlib.Core.List.{List, [], _∷_, _++_}
 use mathlib.Core.Option.{none, some}
@@ -16,10 +17,10 @@ use Rattle.model.specs.Truth as model
 use Rattle.model.specs.Declarations.{Declarations}
 use Rattle.model.specs.Tokens.{Token, Mark, isToken}
 use Rattle.model.specs.Grammar as grammar
-use Rattle.model.specs.Grammar.{Policy, Obeys, terms, depth, largestSet, readPolicy, tooLarge}
+use Rattle.model.specs.Grammar.{Policy, Obeys, readComparison, terms, depth, largestSet, readPolicy, tooLarge}
 use Rattle.model.specs.Meaning.{Values, meaning, meaningOf}
 use Rattle.model.specs.Refusals.{unknownName}
-use Rattle.model.proofs.WordTables.{false-is-true}
+use Rattle.model.proofs.WordTables.{false-is-true, none-is-some}
 use Rattle.model.proofs.Lists.{or-none}
 use Rattle.model.proofs.Sound.{sound}
 use Rattle.codes.specs.Codes.{markCode}
@@ -36,7 +37,7 @@ use Rattle.program.proofs.Walked.{walks-over}
 use Rattle.policy.specs.Readers.{Asked, From}
 use Rattle.policy.proofs.CodeFronts.{told, ended}
 use Rattle.compile.specs.declared.Term.{Term}
-use Rattle.compile.specs.Compiled.{IsTerm, TermRead, rowOf, TokenDone, Compiled}
+use Rattle.compile.specs.Compiled.{IsRow, RowRead, rowOf, TokenDone, Compiled}
 use Rattle.compile.proofs.Leaves.{leaf-kind}
 use Rattle.compile.proofs.RowBytes.{row-front, row-before, row-next, row-value}
 
@@ -57,6 +58,12 @@ Compiling code attributes rows row at =
     (A : Asked) (ts : List Token) (p : Policy) → A .valued ≡ true → From code A 0 ts → Obeys grammar.policy ts p → depth p ≤ depthLimit → rowBytes * terms p ≤ length rows
     → (pairs session : List ℕ) (entries : Bytes) (read : Values) → Reads (lent code pairs session entries) attributes (A .declared) read
     → Here (lent code pairs session entries) rows row at A read (meaning read p)
+
+-- AND changes nothing
+and-passed : (read : Values) (w : Walk) (us : List Token) (n : ℕ) (t : model.Truth) → Ends read w (Token.mark Mark.AND ∷ us) n t → Ends read w us n t
+unfolding passed readLeaf readComparison
+and-passed read w us n t (walks.past q few e) = e
+and-passed read w us n t (walks.term x q e) = none-is-some q
 
 -- what the limits of a policy say of its terms and its parentheses
 limits : (p : Policy) → tooLarge p ≡ false → (terms p ≤ termLimit) × (depth p ≤ depthLimit)
@@ -132,8 +139,8 @@ module _ (code : Bytes) (attributes : List ℕ) where
         }
         go w us k t f (walks.term x q e) space on = false-is-true (sym (leaf-kind code A at us x f q .1) ∙ y)
 
-    -- a term
-    pub compile-puts : isPassed (getD code at 0) ≡ false → (getD code at 0 ≡ 0 → ⊥) → (t : Term) → TermRead code attributes at t → (next : ℕ) → next ≡ max (at + 1) (t .next)
+    -- a term, and an AND behind it
+    pub compile-puts : isPassed (getD code at 0) ≡ false → (getD code at 0 ≡ 0 → ⊥) → (t : Term) → RowRead code attributes at t → (next : ℕ) → next ≡ max (at + 1) (t .next)
         → length code ≤ 1024 → Compiling code attributes (sets rows row (rowOf t)) (row + rowBytes) next
     compile-puts y n v X next m short A ts p valued f o deep room pairs session entries read g =
         let H = C A ts p valued f o deep (omega (arith, length-sets rows row (rowOf v))) pairs session entries read g in
@@ -155,10 +162,11 @@ module _ (code : Bytes) (attributes : List ℕ) where
             let near : v .next < 65536 = omega (arith, coded-within (T .behind .coded)) in
             record {
               reached = termed (meaning read (x .0)) w;
-              left = x .1;
+              left = T .left-over;
               count = rest;
-              from = subst (λ (i : ℕ). From code A i (x .1)) (sym same-next) (T .behind);
-              ends = e;
+              from = subst (λ (i : ℕ). From code A i (T .left-over)) (sym same-next) (T .behind);
+              ends = ⊎-elim (λ q. subst (λ (us : List Token). Ends read (termed (meaning read (x .0)) w) us rest t) q e)
+                  (λ q. and-passed read (termed (meaning read (x .0)) w) (T .left-over) rest t (subst (λ (us : List Token). Ends read (termed (meaning read (x .0)) w) us rest t) q e)) (T .are);
               room = omega (arith, length-sets rows row (rowOf v));
               goes-on = λ other l a r.
                   let front = a ∙ row-front rows row v fits in

@@ -1,6 +1,7 @@
 -- A term without parentheses at the front of the tokens: what begins with a var, and what does not.
 use Prim.Native.Nat.{ℕ, _+_, _*_, _≤_, _<_}
 use mathlib.Core.Path.{_≡_, refl, sym, ap, ap₂, subst, _∙_}
+use mathlib.Core.Logic.{inl, inr}
 use mathlib.Core.Bool.{Bool, true, false}
 use mathlib.Core.List.{List, [], _∷_}
 use mathlib.Core.Option.{Option, none, some, Option·some-injective}
@@ -24,9 +25,10 @@ use Rattle.program.specs.TermRows as rows
 use Rattle.program.specs.Runs.{Reads}
 use Rattle.policy.specs.declared.Var.{Var}
 use Rattle.policy.specs.Readers.{Lending, lending, Asked, From, VarReads, VarAnswers, Vars, SecondVars}
-use Rattle.policy.proofs.CodeFronts.{told, operator-on, operator-off}
+use Rattle.policy.proofs.CodeFronts.{told, mark-on, operator-on, operator-off}
+use Rattle.policy.proofs.Heads.{behindOperator, behindVar}
 use Rattle.compile.specs.declared.Term.{Term}
-use Rattle.compile.specs.Compiled.{IsTerm, TermRead}
+use Rattle.compile.specs.Compiled.{IsTerm, TermRead, IsRow, RowRead}
 
 -- ---- by its first token
 
@@ -52,13 +54,6 @@ leaf-kind code A at (Token.mark Mark.rbrace ∷ ts) x f e = none-is-some e
 leaf-kind code A at (Token.mark Mark.comma ∷ ts) x f e = none-is-some e
 
 -- ---- what is read, by the vars
-
--- what follows the first var, and what follows the operator
-abbrev behindOperator : grammar.Var → Operator → Option (grammar.Var × List Token) → grammar.Reading
-behindOperator v o r = r >>= λ (w, rest). some (compare o v w, rest)
-
-abbrev behindVar : grammar.Var → Option (Operator × List Token) → grammar.Reading
-behindVar v r = r >>= λ (o, rest). behindOperator v o (readVar rest)
 
 module _ (us : List Token) where
   -- no var, no comparison
@@ -194,3 +189,33 @@ compared-term code attributes at few v X there w S ok k h A us x valued f e =
           rows.compare o (h ∙ c) (var-stands code attributes at few v X A us valued f (y .var, y .rest) (y .is-read) pairs session entries read r)
           (var-stands code attributes (v .next + 1) few w W A left valued g (z .var, z .rest) (z .is-read) pairs session entries read r);
     })
+
+-- ---- an AND behind a term
+
+module _ (code : Bytes) (attributes : List ℕ) (at : ℕ) (t : Term) (R : TermRead code attributes at t) where
+  pub row-alone : RowRead code attributes at t
+  row-alone A us x valued f e =
+      let T = R A us x valued f e in
+      record {
+        left-over = x .1;
+        behind = T .behind;
+        are = inl refl;
+        ahead = T .ahead;
+        left-near = T .left-near;
+        right-near = T .right-near;
+        value = T .value;
+      }
+
+  pub row-with-and : getD code (t .next) 0 ≡ 10 → RowRead code attributes at (record { kind = t .kind; left = t .left; right = t .right; next = t .next + 1 })
+  row-with-and z A us x valued f e =
+      let T = R A us x valued f e in
+      let m = mark-on Mark.AND code A (t .next) (x .1) (T .behind) z in
+      record {
+        left-over = m .rest;
+        behind = m .behind;
+        are = inr (m .split);
+        ahead = omega (arith, T .ahead);
+        left-near = T .left-near;
+        right-near = T .right-near;
+        value = T .value;
+      }

@@ -1,6 +1,7 @@
 -- The rows of a rule's terms, made of its code.
 use Prim.Native.Nat.{ℕ, _+_, _*_, _/_, _%_, _≤_, _<_, max}
 use mathlib.Core.Path.{_≡_}
+use mathlib.Core.Logic.{_⊎_}
 use mathlib.Core.Bool.{true, false}
 use mathlib.Core.List.{List, [], _∷_}
 use mathlib.Core.Option.{some}
@@ -10,7 +11,7 @@ use Rattle.model.specs.Notation.{anyOf, allOf}
 use Rattle.model.specs.Limits.{termLimit}
 use Rattle.model.specs.Bytes.{Bytes}
 use Rattle.model.specs.Declarations.{Declarations}
-use Rattle.model.specs.Tokens.{Token, isToken}
+use Rattle.model.specs.Tokens.{Token, Mark, isToken}
 use Rattle.model.specs.Grammar.{Policy, readPolicy, tooLarge}
 use Rattle.model.specs.Meaning.{Values, meaning}
 use Rattle.model.specs.Refusals.{unknownName}
@@ -41,6 +42,21 @@ abbrev pub TermRead : Bytes → List ℕ → ℕ → Term → Type 0
 TermRead code attributes at r =
     (A : Asked) (us : List Token) (x : Policy × List Token) → A .valued ≡ true → From code A at us → readLeaf us ≡ some x → IsTerm code attributes A at r x
 
+-- the same where an AND behind the term is passed with it, since AND changes nothing
+pub record IsRow (code : Bytes) (attributes : List ℕ) (A : Asked) (at : ℕ) (r : Term) (x : Policy × List Token) : Type 0 where
+  pub left-over : List Token
+  pub behind : From code A (r .next) left-over
+  pub are : (x .1 ≡ left-over) ⊎ (x .1 ≡ Token.mark Mark.AND ∷ left-over)
+  pub ahead : at < r .next
+  pub left-near : Near (r .left)
+  pub right-near : Near (r .right)
+  pub value : (pairs session : List ℕ) (entries : Bytes) (read : Values) → Reads (lent code pairs session entries) attributes (A .declared) read
+      → TermValue (lent code pairs session entries) (r .kind) (r .left) (r .right) (meaning read (x .0))
+
+abbrev pub RowRead : Bytes → List ℕ → ℕ → Term → Type 0
+RowRead code attributes at r =
+    (A : Asked) (us : List Token) (x : Policy × List Token) → A .valued ≡ true → From code A at us → readLeaf us ≡ some x → IsRow code attributes A at r x
+
 -- a number in two bytes, low byte first
 abbrev pub low : ℕ → ℕ
 low n = n % 256
@@ -59,7 +75,7 @@ rowOf t =
 -- a token passed, or the row of a term written, by the kind: r is where the code goes on
 pub record TokenDone (code : Bytes) (attributes : List ℕ) (kind at row : ℕ) (rows rows′ : Bytes) (r : ℕ) : Type 0 where
   pub mark : isPassed kind ≡ true → (rows′ ≡ rows) × (r ≡ at + 1)
-  pub a-term : isPassed kind ≡ false → (t : Term) × TermRead code attributes at t × (rows′ ≡ sets rows row (rowOf t)) × (r ≡ max (at + 1) (t .next))
+  pub a-term : isPassed kind ≡ false → (t : Term) × RowRead code attributes at t × (rows′ ≡ sets rows row (rowOf t)) × (r ≡ max (at + 1) (t .next))
   pub ahead : at < r
   pub long : length rows′ ≡ length rows
 

@@ -4,7 +4,8 @@ ghost use Prim.Native.Nat.{_+_, _*_, _≤_, _<_, max};
 ghost use lib.ListN.{length, getD};
 ghost use lib.Seq.{sets};
 ghost use Rattle.values.specs.Operands.{noValues};
-ghost use Rattle.compile.specs.Compiled.{TermRead, low, high, rowOf, TokenDone, Compiled};
+ghost use Rattle.compile.specs.Compiled.{TermRead, RowRead, low, high, rowOf, TokenDone, Compiled};
+use codes::AND;
 use codes::END;
 use codes::NAME;
 use values::Operand;
@@ -50,6 +51,25 @@ fn term_at(code: &[u8], attributes: &[u64], kind: u8, at: usize) -> Term
         left,
         right,
         next: w.next,
+    }
+}
+
+// The same, with an AND behind it: AND changes nothing, so a run need not stop there.
+fn row_at(code: &[u8], attributes: &[u64], kind: u8, at: usize) -> Term
+    requires { ⌜ (length (now attributes) ≡ 256) × (kind ≡ getD (now code) at 0) × (at < length (now code)) × (length (now code) ≤ 1024) ⌝ }
+    ensures { λ r. ⌜ RowRead (now (code .entry)) (now (attributes .entry)) at r ⌝ }
+{
+    let t = term_at(code, attributes, kind, at);
+    if policy::kind_at(code, t.next) != AND {
+        return t;
+    }
+    let left = t.left;
+    let right = t.right;
+    Term {
+        kind: t.kind,
+        left,
+        right,
+        next: t.next + 1,
     }
 }
 
@@ -105,21 +125,14 @@ fn behind(at: usize, next: usize) -> usize
 }
 
 // One token passed, or the row of a term written; answers where the code goes on.
-fn token(
-    code: &[u8],
-    attributes: &[u64],
-    rows: &mut [u8],
-    kind: u8,
-    at: usize,
-    row: usize,
-) -> usize
+fn token(code: &[u8], attributes: &[u64], rows: &mut [u8], kind: u8, at: usize, row: usize) -> usize
     requires { ⌜ (length (now attributes) ≡ 256) × (kind ≡ getD (now code) at 0) × (at < length (now code)) × (length (now code) ≤ 1024) × (row ≤ 65536) ⌝ }
     ensures { λ r. ⌜ TokenDone (now (code .entry)) (now (attributes .entry)) kind at row (now (rows .entry)) (now (rows .exit)) r ⌝ }
 {
     if program::is_passed(kind) {
         return at + 1;
     }
-    let t = term_at(code, attributes, kind, at);
+    let t = row_at(code, attributes, kind, at);
     put_row(rows, row, t);
     behind(at, t.next)
 }

@@ -1,28 +1,38 @@
 -- A tie more or less, and the table refreshed: the book holds the changed state, and the table is that state's. Assumes nothing.
-use Prim.Native.Nat.{ℕ}
+use Prim.Native.Nat.{ℕ, _*_, _^_, _≤_, _<_}
 use mathlib.Core.Path.{_≡_, refl, sym, ap, subst, _∙_}
 use mathlib.Core.Bool.{Bool, true, false, _&&_, _||_, not}
 use mathlib.Core.List.{List}
 use mathlib.Core.Option.{some}
 use native.Mathlib.Omega.{arith}
 use lib.Dec.{eqb}
+use lib.ListN.{length, getD, take}
+use lib.Seq.{length-take-le}
 use Rattle.model.specs.Notation.{if_then_else_}
-use Rattle.model.specs.Limits.{holderNumbers}
+use Rattle.model.specs.Limits.{Edition, holderNumbers, tableWords}
+use Rattle.model.specs.Bytes.{Bytes}
+use Rattle.model.specs.Declarations.{Declarations}
 use Rattle.model.specs.Ties.{Tie, Ties, editedHolder}
+use Rattle.model.specs.Table.{table}
 use Rattle.model.specs.State.{State}
-use Rattle.model.specs.Edits.{editedTies}
+use Rattle.model.specs.Edits.{editedTies, changes}
 use Rattle.model.specs.Standing.{Standing, TieFits, DifferAt}
 use Rattle.model.proofs.Tests.{NoneHolds, none-holds}
 use Rattle.model.proofs.Ties.{other-tie}
 use Rattle.model.proofs.Standing.{added-standing, removed-standing}
+use Rattle.ties.specs.TieArrays.{TellsGroups, Room}
+use Rattle.sets.specs.Filled.{KeepsSets}
 use Rattle.sets.specs.Refreshed.{EditedAt}
+use Rattle.sets.proofs.Tables.{sets-table, table-sets}
 use Rattle.book.specs.Sections as section
 use Rattle.book.specs.Sections.{sectionWords}
+use Rattle.book.specs.Held.{Holds}
 use Rattle.tielines.specs.TieReading.{tieBy}
 use Rattle.tielines.specs.TieSteps.{signTests, TieChanged}
 use Rattle.tielines.proofs.TieRefusals.{stood}
 use Rattle.book.proofs.Sections.{part-size}
-use Rattle.edit.specs.EditSteps.{TableKept, Applied}
+use Rattle.edit.specs.EditSteps.{holdersIn, groupsIn, TableKept, Applied}
+use Rattle.edit.proofs.LentTies.{first-sets, all-sets, first-ties, counted-room, counted-past, counted-slots, counted-tells}
 
 -- the edited holder is the lower one
 pub edited-lower : (key h u : ℕ) → editedHolder (tieBy key h u) ≡ h
@@ -46,18 +56,48 @@ module _ (S : State) (t : Tie) where
   edited-standing standing false fits h = removed-standing standing t
 
 module _ (plus : Bool) (t : Tie) (book book′ words words′ : List ℕ) (e count : ℕ) (holder : editedHolder t ≡ e)
-    (changed : TieChanged t plus book book′) (kept : TableKept book′ e words words′ count) where
+    (changed : TieChanged t plus book book′) (kept : TableKept book′ e words words′ count) (long : length words′ ≡ tableWords Edition.first) (fit : (j : ℕ) → getD words′ j 0 < 2 ^ 64) where
+  -- the first holders' sets go from one state's to the other's, and there is no other holder
+  module _ (code : Bytes) (D : Declarations) (T U : Ties) (before : Standing (record { declared = D; ties = T })) (after : Standing (record { declared = D; ties = U }))
+      (held : Holds book′ code (record { declared = D; ties = U })) (differ : DifferAt e T U) (was : words ≡ table D T) where
+    ups : List ℕ
+    ups = take (holdersIn book′) (sectionWords section.ups book′)
+
+    ups-long : length ups ≡ holdersIn book′
+    unfolding ups
+    ups-long = length-take-le (holdersIn book′) (sectionWords section.ups book′) (omega (arith, part-size section.ups book′ (held .long) (omega arith)))
+
+    edited-at : EditedAt ups (take (4 * holdersIn book′) (sectionWords section.own book′)) (take (groupsIn book′) (sectionWords section.slots book′)) (sectionWords section.slotOf book′) e D T U
+    unfolding ups
+    edited-at = record {
+      before = before;
+      after = after;
+      differ = differ;
+      kept = first-ties (holdersIn book′) (groupsIn book′) (held .ties) (omega (arith, part-size section.ups book′ (held .long) (omega arith))) (counted-slots after held);
+      tells = subst (λ (n : ℕ). TellsGroups n (take (groupsIn book′) (sectionWords section.slots book′)) (sectionWords section.slotOf book′)) (sym ups-long) (counted-tells after held);
+    }
+
+    edition : tableWords (D .edition) ≡ tableWords Edition.first
+    edition = ap tableWords (held .edition)
+
+    refreshed : (words′ ≡ table D U) × (count ≡ changes D T U)
+    unfolding ups
+    refreshed =
+        let n = holdersIn book′ in
+        let sets = table-sets D T before words was in
+        let few : n ≤ holderNumbers (D .edition) = omega (arith, edition) in
+        let first = subst (λ (m : ℕ). KeepsSets m (take (4 * n) words) D T) (sym ups-long) (first-sets n (holderNumbers (D .edition)) words D T few sets) in
+        let now = kept .refreshed .pairs D T U edited-at (subst (Room D) (sym ups-long) (counted-room after held)) first in
+        let right = subst (λ (m : ℕ). KeepsSets m (take (4 * n) words′) D U) ups-long (now .0) in (
+          sets-table D U after words′ (long ∙ sym edition) fit (all-sets n (holderNumbers (D .edition)) words words′ D T U before after (counted-past after held) (kept .behind) sets right),
+          now .1,
+        )
+
   pub applied : Applied plus t book book′ words words′ count
   applied S code standing held was fits passed =
       let none-refused = none-holds (signTests S t plus) refl (sym passed) in
       let held′ = changed .holds S code standing held fits (stood S t plus passed) in
       let U = editedTies plus (some t) (S .ties) in
-      let edit : EditedAt (sectionWords section.ups book′) (sectionWords section.own book′) (sectionWords section.slots book′) e (S .declared) (S .ties) U =
-      record {
-        before = standing;
-        after = edited-standing S t standing plus fits none-refused;
-        differ = subst (λ (x : ℕ). DifferAt x (S .ties) U) holder (edited-differs plus t (S .ties));
-        kept = held′ .ties;
-      } in
-      let r = kept .whole (S .declared) (S .ties) U edit (part-size section.ups book′ (changed .long) (omega arith) ∙ ap holderNumbers (sym (held .edition))) was in
+      let r = refreshed code (S .declared) (S .ties) U standing (edited-standing S t standing plus fits none-refused) held′
+      (subst (λ (x : ℕ). DifferAt x (S .ties) U) holder (edited-differs plus t (S .ties))) was in
       record { holds = held′; table-is = r .0; counted = r .1 }

@@ -1,5 +1,6 @@
 -- Laws about edits.
 pub mod EditLines
+pub mod LentTies
 pub mod EditTables
 pub mod EditRefusals
 pub mod EditedSets

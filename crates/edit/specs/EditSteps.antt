@@ -1,13 +1,13 @@
 -- The steps of an edit: the tie of its line, and what the tie more or less makes of book and table.
 -- Assumes nothing: these are definitions.
-use Prim.Native.Nat.{ℕ, _<_}
+use Prim.Native.Nat.{ℕ, _*_, _≤_, _<_, min}
 use mathlib.Core.Path.{_≡_}
 use mathlib.Core.Bool.{Bool}
 use mathlib.Core.List.{List, [], _∷_}
 use mathlib.Core.Option.{some}
-use lib.ListN.{length}
+use lib.ListN.{length, getD, take}
 use Rattle.model.specs.Notation.{_is_}
-use Rattle.model.specs.Limits.{Edition, tableWords, holderNumbers}
+use Rattle.model.specs.Limits.{Edition, tableWords, holderNumbers, groupLimit}
 use Rattle.model.specs.Numbers as refusal
 use Rattle.model.specs.Bytes.{Bytes}
 use Rattle.model.specs.Lines.{readLine}
@@ -20,7 +20,7 @@ use Rattle.model.specs.Ledger.{Answer, edited}
 use Rattle.model.specs.Standing.{Standing, TieFits}
 use Rattle.sets.specs.Refreshed.{Refreshed}
 use Rattle.book.specs.Sections as section
-use Rattle.book.specs.Sections.{sectionWords}
+use Rattle.book.specs.Sections.{sectionWords, bookHolders}
 use Rattle.book.specs.Held.{Holds}
 use Rattle.tielines.specs.TieReading.{BookTie}
 use Rattle.tielines.specs.TieSteps.{signTests}
@@ -40,9 +40,20 @@ behindSignTests line S =
 abbrev pub LineTie : List ℕ → Bytes → ℕ → Tie → Type 0
 LineTie book line number t = BookTie book (behindSignTests line) (readLine line) number t
 
--- the table after an edit of holder e, by the sections of the book
-abbrev pub TableKept : List ℕ → ℕ → List ℕ → List ℕ → ℕ → Type 0
-TableKept book e words words′ r = Refreshed (sectionWords section.ups book) (sectionWords section.own book) (sectionWords section.slots book) e words words′ r
+-- how many holders and groups an edit goes through: as many as the book counts, and no more than there is room for, whatever its words are
+abbrev pub holdersIn : List ℕ → ℕ
+holdersIn book = min bookHolders (getD book 3 0)
+
+abbrev pub groupsIn : List ℕ → ℕ
+groupsIn book = min groupLimit (getD book 4 0)
+
+-- the table after an edit of holder e, by the sections of the book: the sets of so many holders are refreshed, and the words behind them stay
+pub record TableKept (book : List ℕ) (e : ℕ) (words words′ : List ℕ) (r : ℕ) : Type 0 where
+  pub refreshed :
+      Refreshed (take (holdersIn book) (sectionWords section.ups book)) (take (4 * holdersIn book) (sectionWords section.own book))
+      (take (groupsIn book) (sectionWords section.slots book)) (sectionWords section.slotOf book)
+      e (take (4 * holdersIn book) words) (take (4 * holdersIn book) words′) r
+  pub behind : (j : ℕ) → 4 * holdersIn book ≤ j → getD words′ j 0 ≡ getD words j 0
 
 -- a tie of which nothing is refused, on the table of the state: the book then holds the state with the change, and the table is that state's
 pub record Changed (S : State) (code : Bytes) (plus : Bool) (t : Tie) (book′ words′ : List ℕ) (count : ℕ) : Type 0 where

@@ -1,5 +1,6 @@
 // Edits: one tie more or one less in the book, and the table kept.
 ghost use mathlib.Core.Path.{_≡_};
+ghost use Prim.Native.Nat.{min};
 ghost use lib.ListN.{length};
 ghost use Rattle.model.specs.Limits.{Edition, tableWords};
 ghost use Rattle.book.specs.Sections.{bookWords};
@@ -7,11 +8,14 @@ ghost use Rattle.book.specs.Calls.{refusedEdit};
 ghost use Rattle.tielines.specs.TieReading.{tieBy};
 ghost use Rattle.edit.specs.EditSteps.{LineTie, TableKept, Applied, editedOf, EditCall};
 use book::BOOK_WORDS;
+use book::GROUP_COUNT;
+use book::HOLDER_COUNT;
 use book::OWN_AT;
-use book::RULES_AT;
+use book::SLOT_OF_AT;
 use book::SLOTS_AT;
 use book::TABLE_WORDS;
 use book::UPS_AT;
+use book::find::HOLDERS;
 use codes::KEY_PARENT;
 use codes::KEY_RULE;
 use codes::OTHER_KEY;
@@ -21,6 +25,9 @@ use tielines::Tie;
 
 // The sign of an edit that adds.
 const PLUS: u8 = 1;
+
+// How many groups a book has room for.
+const GROUPS: usize = 64;
 
 // "The answer is 0 and the number of holders whose stored set changed": 0 holders where the number is a refusal.
 pub struct Edited {
@@ -55,16 +62,35 @@ fn tie_of_line(line: &[u8], book: &[u64]) -> Tie
     tielines::of_fields(book, key, &line[start..end])
 }
 
-// The table refreshed after an edit of holder `edited`, by the book's sections of ties; answers how many sets changed.
+// A count of the book, and no more than there is room for: on words that no load left it may be any number.
+fn at_most(room: usize, count: u64) -> usize
+    ensures { λ r. ⌜ r ≡ min room count ⌝ }
+{
+    let n = codes::word_to_index(count);
+    if n > room {
+        return room;
+    }
+    n
+}
+
+// The table refreshed after an edit of holder `edited`, by the book's sections of ties; answers how many sets changed. Only as many words are lent as
+// there are holders and groups, so that no walk goes further.
 fn refresh(table: &mut [u64], book: &[u64], edited: usize) -> u32
     requires { ⌜ (length (now book) ≡ bookWords) × (length (now table) ≡ tableWords Edition.first) ⌝ }
     ensures { λ r. ⌜ TableKept (now (book .entry)) edited (now (table .entry)) (now (table .exit)) r ⌝ }
 {
+    let holders = at_most(HOLDERS, book[HOLDER_COUNT]);
+    let groups = at_most(GROUPS, book[GROUP_COUNT]);
+    let words = 4 * holders;
+    let own = OWN_AT + words;
+    let ups = UPS_AT + holders;
+    let slots = SLOTS_AT + groups;
     let changed = sets::refresh(
-        table,
-        &book[OWN_AT..RULES_AT],
-        &book[UPS_AT..OWN_AT],
-        &book[SLOTS_AT..UPS_AT],
+        &mut table[0..words],
+        &book[OWN_AT..own],
+        &book[UPS_AT..ups],
+        &book[SLOTS_AT..slots],
+        &book[SLOT_OF_AT..SLOTS_AT],
         edited,
     );
     changed as u32

@@ -3,12 +3,12 @@ use Prim.Native.Nat.{ℕ, _+_, _-_, _*_, _≤_, _<_}
 use mathlib.Core.Path.{_≡_, refl, sym, ap, ap₂, subst, _∙_}
 use mathlib.Core.Logic.{⊎-elim}
 use mathlib.Core.Bool.{Bool, true, false, _&&_, _||_, not, true≢false}
-use mathlib.Core.List.{List, [], _∷_, _++_}
+use mathlib.Core.List.{List, [], _∷_, _++_, append-assoc}
 use mathlib.Core.Option.{Option, none, some, Option·some-injective}
 use native.Mathlib.Omega.{arith}
 use lib.Dec.{eqb, leb}
 use lib.ListN.{length, getD, take, drop, set, length-set}
-use lib.Seq.{getD-set-same, getD-set-other}
+use lib.Seq.{getD-set-same, getD-set-other, sets, sets-eq, length-sets, drop-drop}
 use borrow.Author.Tests.{leb-false, lt-leb, le-leb, eq-eqb, ne-eqb}
 use borrow.Rule.Slice.PartMut.{putMid}
 use Rattle.model.specs.Notation.{_>>=_, _is_, isNone, anyOf, allOf, each, nth}
@@ -29,11 +29,16 @@ use Rattle.model.specs.Standing.{WellDeclared, Standing}
 use Rattle.model.proofs.Options.{parts, bind-some}
 use Rattle.model.proofs.Lists.{nth-lt}
 use Rattle.model.proofs.Lines.{fields-said}
+use Rattle.model.proofs.Tests.{none-holds}
+use Rattle.model.proofs.Declared.{rule-of-line}
 use Rattle.model.proofs.Growing.{nth-last}
 use Rattle.rows.specs.Rows.{AttributeRows, isPairOf, numberOr}
 use Rattle.tokens.specs.RuleCode.{encodeToken, Coded}
 use Rattle.index.specs.Index.{Indexed}
 use Rattle.policy.specs.Judgements.{Judges, policyNumber}
+use Rattle.program.specs.Runs.{Programmed}
+use Rattle.program.proofs.Programs.{by-any-rows, more-attributes}
+use Rattle.compile.specs.Compiled.{Compiled}
 use Rattle.fields.specs.declared.RuleFields.{RuleFields}
 use Rattle.fields.specs.Forms.{noRule, ruleNumbers, ruleOf, RuleTold}
 use Rattle.fields.specs.Told.{numbersOr}
@@ -41,10 +46,11 @@ use Rattle.text.specs.Packing.{packedOf}
 use Rattle.text.proofs.LoopPlaces.{tail-part}
 use Rattle.book.specs.Sections as section
 use Rattle.book.specs.Sections.{Section, sectionWords, ruleBytes}
-use Rattle.book.specs.Held.{CountsOf, OperationRows, SortRows, RuleHeld, RuleRows, Holds, pairRow, holderRow}
+use Rattle.book.specs.Held.{CountsOf, OperationRows, SortRows, codeOfRule, rowsOfRule, RuleHeld, RuleRows, Holds, pairRow, holderRow}
+use Rattle.book.specs.Steps.{laterTests}
 use Rattle.book.specs.Finding.{OperationFound}
-use Rattle.file.specs.LineSteps.{fieldsRefusal, FieldsRead, codeOfRule, RuleJudged, ruleTests, rulePut}
-use Rattle.book.proofs.Sections.{mid-inside, mid-before}
+use Rattle.file.specs.LineSteps.{fieldsRefusal, FieldsRead, RuleJudged, RuleCompiled, ruleTests, rulePut}
+use Rattle.book.proofs.Sections.{mid-inside, mid-before, mid-behind}
 use Rattle.book.proofs.Writes.{apart, word-beside, word-inside, section-long, section-word, word-at}
 use Rattle.book.proofs.Kept.{length-more, sorts-kept, groups-kept, attributes-kept}
 use Rattle.book.proofs.DeclarationTests.{number-is, place-few}
@@ -60,6 +66,7 @@ judged-into s rows k n code ys long few j size =
     subst (λ (m : ℕ). RuleJudged s rows k code (putMid (768 * k) m code ys) n) (sym d) (record {
       number = j .number;
       before = λ i l. mid-before (768 * k) 768 code ys (omega arith) (768 * i) 768 (omega arith);
+      rows-stay = λ i l. mid-behind (768 * k) 768 code ys (omega arith) (24576 + 256 * i) 256 size (omega arith);
       here = λ l D well r ts e. record {
         rest = _;
         from = mid-inside (768 * k) 768 code ys (omega arith) size ∙ j .code D well r ts e;
@@ -68,7 +75,28 @@ judged-into s rows k n code ys long few j size =
 
 -- bytes that nobody keeps
 pub judged-beyond : (s : Bytes) (rows : List ℕ) (k n : ℕ) (code before after : Bytes) → ruleLimit ≤ k → Judges s rows before after n → RuleJudged s rows k code code n
-judged-beyond s rows k n code before after over j = record { number = j .number; before = λ i l. refl; here = λ l. absurd (omega arith) }
+judged-beyond s rows k n code before after over j = record { number = j .number; before = λ i l. refl; rows-stay = λ i l. refl; here = λ l. absurd (omega arith) }
+
+-- rows laid over the bytes of all rules are in the place of those that were there
+rows-put : (code : Bytes) (at : ℕ) (rows : Bytes) → at + length rows ≤ length code → sets code at rows ≡ putMid at (length rows) code rows
+rows-put code at rows fits =
+    sets-eq rows code at fits ∙ append-assoc (take at code) rows (drop (at + length rows) code)
+    ∙ ap (λ (l : Bytes). take at code ++ (rows ++ l)) (sym (drop-drop (length rows) at code))
+
+pub compiled-into : (attributes : List ℕ) (k : ℕ) (code rows : Bytes) → length code ≡ ruleBytes → k < ruleLimit → length rows ≡ 256
+    → Compiled (take (768 * k + 768 - 768 * k) (drop (768 * k) code)) attributes rows → (code′ : Bytes) → code′ ≡ sets code (24576 + 256 * k) rows → RuleCompiled attributes k code code′
+compiled-into attributes k code rows long few size c code′ e =
+    let at : ℕ = 24576 + 256 * k in
+    let d : 768 * k + 768 - 768 * k ≡ 768 = omega arith in
+    let mid : code′ ≡ putMid at 256 code rows = e ∙ rows-put code at rows (omega arith) ∙ ap (λ (n : ℕ). putMid at n code rows) size in
+    let inside : rowsOfRule code′ k ≡ rows = ap (λ (l : Bytes). rowsOfRule l k) mid ∙ mid-inside at 256 code rows (omega arith) size in
+    record {
+      codes-stay = λ i l. ap (λ (x : Bytes). codeOfRule x i) mid ∙ mid-before at 256 code rows (omega arith) (768 * i) 768 (omega arith);
+      before = λ i l. ap (λ (x : Bytes). rowsOfRule x i) mid ∙ mid-before at 256 code rows (omega arith) (24576 + 256 * i) 256 (omega arith);
+      here = subst (Compiled (codeOfRule code k) attributes) (sym inside) (subst (λ (n : ℕ). Compiled (take n (drop (768 * k) code)) attributes rows) d c);
+      rows-long = ap length inside ∙ size;
+      long = ap length e ∙ length-sets code at rows;
+    }
 
 -- ---- what a rule is refused for
 
@@ -196,13 +224,17 @@ counts-more D r k words long at c = record {
 }
 
 rows-more : (D : Declarations) (r : Rule) (k operation : ℕ) (words : List ℕ) (code code′ : Bytes) → length words ≡ section.rules .size → k ≡ length (D .rules) → k < ruleLimit
-    → operationNumber D (r .operation) ≡ some operation → ((i : ℕ) → i < k → codeOfRule code′ i ≡ codeOfRule code i) → Coded D (codeOfRule code′ k) 0 (r .tokens)
+    → operationNumber D (r .operation) ≡ some operation → ((i : ℕ) → i < k → codeOfRule code′ i ≡ codeOfRule code i) → ((i : ℕ) → i < k → rowsOfRule code′ i ≡ rowsOfRule code i)
+    → Coded D (codeOfRule code′ k) 0 (r .tokens) → Programmed D (codeOfRule code′ k) (rowsOfRule code′ k) (r .tokens)
     → RuleRows words code D → RuleRows (set words k operation) code′ (withRule r D)
 unfolding attributeNumber operationNumber
-rows-more D r k operation words code code′ long at few known kept here rows i q e = ⊎-elim old new (nth-last (D .rules) r i e)
+rows-more D r k operation words code code′ long at few known kept rows-kept here program rows i q e = ⊎-elim old new (nth-last (D .rules) r i e)
   where
     E : Declarations
     E = withRule r D
+
+    more : (c s : Bytes) (ts : List Token) → Programmed D c s ts → Programmed (withRule r D) c s ts
+    more = more-attributes D (withRule r D) (λ j a x. x) (λ s n j x. x)
 
     old : nth (D .rules) i ≡ some q → RuleHeld (set words k operation) code′ (withRule r D) i q
     old f =
@@ -213,6 +245,9 @@ rows-more D r k operation words code code′ long at few known kept here rows i 
           operation-is = h .operation-is;
           word = getD-set-other words k i operation 0 (λ z. omega arith) ∙ h .word;
           tokens = coded-same D (withRule r D) (λ s n. refl) (codeOfRule code′ i) 0 (q .tokens) (subst (λ (c : Bytes). Coded D c 0 (q .tokens)) (sym (kept i (omega arith))) (h .tokens));
+          program = more (codeOfRule code′ i) (rowsOfRule code′ i) (q .tokens)
+              (subst (λ (c : Bytes). Programmed D c (rowsOfRule code′ i) (q .tokens)) (sym (kept i (omega arith)))
+              (subst (λ (c : Bytes). Programmed D (codeOfRule code i) c (q .tokens)) (sym (rows-kept i (omega arith))) (h .program)));
         }
 
     new : (i ≡ length (D .rules)) × (r ≡ q) → RuleHeld (set words k operation) code′ (withRule r D) i q
@@ -224,13 +259,17 @@ rows-more D r k operation words code code′ long at few known kept here rows i 
           word = ap (λ (j : ℕ). getD (set words k operation) j 0) z ∙ getD-set-same words k operation 0 (omega arith);
           tokens = coded-same D (withRule r D) (λ s n. refl) (codeOfRule code′ i) 0 (q .tokens)
               (subst (λ (j : ℕ). Coded D (codeOfRule code′ j) 0 (q .tokens)) (sym z) (subst (λ (x : Rule). Coded D (codeOfRule code′ k) 0 (x .tokens)) g here));
+          program = more (codeOfRule code′ i) (rowsOfRule code′ i) (q .tokens)
+              (subst (λ (j : ℕ). Programmed D (codeOfRule code′ j) (rowsOfRule code′ j) (q .tokens)) (sym z)
+              (subst (λ (x : Rule). Programmed D (codeOfRule code′ k) (rowsOfRule code′ k) (x .tokens)) g program));
         }
 
 pub rule-held : (book : List ℕ) (code code′ : Bytes) (S : State) (o : Bytes) (ts : List Token) (k operation : ℕ) → Holds book code S → length code′ ≡ ruleBytes
     → k ≡ length (S .declared .rules) → k < ruleLimit → operationNumber (S .declared) o ≡ some operation → ((i : ℕ) → i < k → codeOfRule code′ i ≡ codeOfRule code i)
-    → Coded (S .declared) (codeOfRule code′ k) 0 ts → Holds (rulePut book k operation) code′ (after (rule o ts) S)
+    → ((i : ℕ) → i < k → rowsOfRule code′ i ≡ rowsOfRule code i) → Coded (S .declared) (codeOfRule code′ k) 0 ts → Programmed (S .declared) (codeOfRule code′ k) (rowsOfRule code′ k) ts
+    → Holds (rulePut book k operation) code′ (after (rule o ts) S)
 unfolding after attributeNumber operationNumber isPairOf
-rule-held book code code′ S o ts k operation held size at few known kept here =
+rule-held book code code′ S o ts k operation held size at few known kept rows-kept here program =
     let D = S .declared in
     let r : Rule = record { operation = o; tokens = ts } in
     let E = withRule r D in
@@ -252,7 +291,7 @@ rule-held book code code′ S o ts k operation held size at few known kept here 
       ties = rw (beside section.ups refl refl, beside section.own refl refl, beside section.slots refl refl) (held .ties);
       rules =
           subst (λ (w : List ℕ). RuleRows w code′ E) (sym (put-rows book k operation few))
-          (rows-more D r k operation (sectionWords section.rules book) code code′ (section-long section.rules book (omega arith)) at few known kept here (held .rules));
+          (rows-more D r k operation (sectionWords section.rules book) code code′ (section-long section.rules book (omega arith)) at few known kept rows-kept here program (held .rules));
     }
 
 -- ---- the ways of the step
@@ -335,21 +374,29 @@ module _ (f : Bytes) (r : RuleFields) (told : RuleTold f r) (ok : r .ok ≡ true
   pub rule-refused : (n : ℕ) → n ≡ first (ruleTests policy operation k) → (n ≡ 0 → ⊥) → FieldsRead book code (readRule f) book code′ n
   rule-refused n e other S standing held = (e ∙ number-is-first S standing held, λ z. absurd (other z))
 
-  pub rule-accepted : first (ruleTests policy operation k) ≡ 0 → length code′ ≡ ruleBytes → (book′ : List ℕ) → book′ ≡ rulePut book k operation
-      → FieldsRead book code (readRule f) book′ code′ 0
-  rule-accepted e size book′ written S standing held =
+  pub rule-accepted : first (ruleTests policy operation k) ≡ 0 → length code′ ≡ ruleBytes → (code″ : Bytes) → RuleCompiled (sectionWords section.attributes book) k code′ code″
+      → (book′ : List ℕ) → book′ ≡ rulePut book k operation → FieldsRead book code (readRule f) book′ code″ 0
+  rule-accepted e size code″ compiled book′ written S standing held =
+      let D = S .declared in
       let number : 0 ≡ fieldsRefusal S (readRule f) = sym e ∙ number-is-first S standing held in
       let (o, g, words) = rule-read f r told ok in
       let (l, x) = accepted-read S (readRule f) (sym number) in
       let (ts, spelled, is-rule) = rule-tokens o (drop (r .start) f) l (sym g ∙ x) in
       let read : readRule f ≡ some (rule o ts) = x ∙ ap (λ (m : Line). some m) is-rule in
       let few = rule-room policy operation k e in
-      let known = rule-operation policy operation k e in (
+      let known = rule-operation policy operation k e in
+      let tests = none-holds (laterTests S (rule o ts)) refl (sym (number ∙ ap (fieldsRefusal S) read)) in
+      let stands = rule-of-line D o ts (fields-said Key.rule f (rule o ts) read .0) (tests .0) (tests .1 .0) in
+      let coded = judge .here few D (standing .declarations) (held .attributes) ts spelled in
+      let programmed = by-any-rows D (sectionWords section.attributes book) (held .attributes .row) (codeOfRule code′ k) (rowsOfRule code″ k) ts
+      (compiled .here D ts (stands .policy) coded (stands .written) (stands .names-declared) (stands .reads) (stands .within) (omega (arith, compiled .rows-long))) in
+      let same = compiled .codes-stay k few in (
         number,
         λ z.
-            subst (λ (y : Option Line). Holds book′ code′ (stepped S y)) (sym read)
-            (subst (λ (w : List ℕ). Holds w code′ (after (rule o ts) S)) (sym written)
-            (rule-held book code code′ S o ts k operation held size (counted S held) few
-            (number-is operationLimit (operationNumber (S .declared) o) operation (named S standing held o ts words read) (λ w. omega arith)) (judge .before)
-            (judge .here few (S .declared) (standing .declarations) (held .attributes) ts spelled))),
+            subst (λ (y : Option Line). Holds book′ code″ (stepped S y)) (sym read)
+            (subst (λ (w : List ℕ). Holds w code″ (after (rule o ts) S)) (sym written)
+            (rule-held book code code″ S o ts k operation held (compiled .long ∙ size) (counted S held) few
+            (number-is operationLimit (operationNumber D o) operation (named S standing held o ts words read) (λ w. omega arith))
+            (λ i l. compiled .codes-stay i (omega arith) ∙ judge .before i l) (λ i l. compiled .before i l ∙ judge .rows-stay i (omega arith))
+            (subst (λ (c : Bytes). Coded D c 0 ts) (sym same) coded) (subst (λ (c : Bytes). Programmed D c (rowsOfRule code″ k) ts) (sym same) programmed))),
       )

@@ -22,9 +22,10 @@ use Rattle.text.specs.Parts.{FirstAt}
 use Rattle.rows.specs.Rows.{AttributeRows}
 use Rattle.tokens.specs.RuleCode.{Coded}
 use Rattle.policy.specs.Judgements.{policyNumber}
+use Rattle.compile.specs.Compiled.{Compiled}
 use Rattle.book.specs.Sections as section
-use Rattle.book.specs.Sections.{codeBytes}
-use Rattle.book.specs.Held.{sortCode, Holds}
+use Rattle.book.specs.Sections.{rowsBytes}
+use Rattle.book.specs.Held.{sortCode, codeOfRule, rowsOfRule, Holds}
 use Rattle.book.specs.Steps.{laterTests}
 
 -- ---- fields
@@ -45,16 +46,21 @@ KeyRead book o book′ r = (code : Bytes) → FieldsRead book code o book′ cod
 
 -- ---- rules
 
--- the bytes of rule i
-abbrev pub codeOfRule : Bytes → ℕ → Bytes
-codeOfRule code i = take codeBytes (drop (codeBytes * i) code)
-
 -- n is what the policy s alone is refused for, whatever declarations the rows are those of; rule k, where there can be one, has the code of its
--- tokens, and the rules before it have the code that they had
+-- tokens, the rules before it have the code that they had, and no rows change
 pub record RuleJudged (s : Bytes) (rows : List ℕ) (k : ℕ) (code code′ : Bytes) (n : ℕ) : Type 0 where
   pub number : (D : Declarations) → WellDeclared D → AttributeRows rows D → n ≡ policyNumber D s
   pub before : (i : ℕ) → i < k → codeOfRule code′ i ≡ codeOfRule code i
+  pub rows-stay : (i : ℕ) → i < ruleLimit → rowsOfRule code′ i ≡ rowsOfRule code i
   pub here : k < ruleLimit → (D : Declarations) → WellDeclared D → AttributeRows rows D → (ts : List Token) → tokensOf s ≡ some ts → Coded D (codeOfRule code′ k) 0 ts
+
+-- rule k has the rows of its terms, those before it have what they had, and no code changes
+pub record RuleCompiled (attributes : List ℕ) (k : ℕ) (code code′ : Bytes) : Type 0 where
+  pub codes-stay : (i : ℕ) → i < ruleLimit → codeOfRule code′ i ≡ codeOfRule code i
+  pub before : (i : ℕ) → i < k → rowsOfRule code′ i ≡ rowsOfRule code i
+  pub here : Compiled (codeOfRule code k) attributes (rowsOfRule code′ k)
+  pub rows-long : length (rowsOfRule code′ k) ≡ rowsBytes
+  pub long : length code′ ≡ length code
 
 -- the tests of a rule, by what its policy alone is refused for, its operation's number and the number of rules
 abbrev pub ruleTests : ℕ → ℕ → ℕ → List Test

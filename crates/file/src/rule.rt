@@ -7,11 +7,13 @@ ghost use Rattle.model.specs.Lines.{readRule};
 ghost use Rattle.model.specs.Refusals.{first};
 ghost use Rattle.book.specs.Sections as section;
 ghost use Rattle.book.specs.Sections.{bookWords, ruleBytes};
-ghost use Rattle.file.specs.LineSteps.{FieldsRead, RuleJudged, ruleTests, rulePut};
+ghost use Rattle.file.specs.LineSteps.{FieldsRead, RuleJudged, RuleCompiled, ruleTests, rulePut};
 use book::ATTRIBUTES_AT;
 use book::CODE_BYTES;
 use book::OPERATIONS_AT;
 use book::PAIRS_AT;
+use book::ROWS_AT;
+use book::ROWS_BYTES;
 use book::RULE_COUNT;
 use book::RULES_AT;
 use book::find::OPERATIONS;
@@ -59,6 +61,18 @@ fn refusal(policy: u8, operation: usize, rules: usize) -> u8
     0
 }
 
+// The rows of rule k's terms, made of its code.
+fn put_rows(attributes: &[u64], code: &mut [u8], k: usize)
+    requires { ⌜ (length (now attributes) ≡ section.attributes .size) × (length (now code) ≡ ruleBytes) × (k < ruleLimit) ⌝ }
+    ensures { λ _. ⌜ RuleCompiled (now (attributes .entry)) k (now (code .entry)) (now (code .exit)) ⌝ }
+{
+    let mut rows: [u8; ROWS_BYTES] = [0; ROWS_BYTES];
+    let start = CODE_BYTES * k;
+    let end = start + CODE_BYTES;
+    compile::compile(&code[start..end], attributes, &mut rows);
+    output::put(code, ROWS_AT + ROWS_BYTES * k, &rows);
+}
+
 // Writes the operation of rule k, and counts it.
 fn put(book: &mut [u64], k: usize, operation: usize)
     requires { ⌜ (length (now book) ≡ bookWords) × (k < ruleLimit) ⌝ }
@@ -89,6 +103,7 @@ pub fn rule(book: &mut [u64], code: &mut [u8], f: &[u8]) -> u8
     if number != 0 {
         return number;
     }
+    put_rows(&book[ATTRIBUTES_AT..OPERATIONS_AT], code, k);
     put(book, k, operation);
     0
 }

@@ -321,7 +321,7 @@ pair-of-line D s n a written known sorted =
       written = written;
     }
 
-rule-of-line : (D : Declarations) (o : Bytes) (ts : List Token) → isLine (rule o ts) ≡ true → overLimits (rule o ts) ≡ false → undeclared D (rule o ts) ≡ false
+pub rule-of-line : (D : Declarations) (o : Bytes) (ts : List Token) → isLine (rule o ts) ≡ true → overLimits (rule o ts) ≡ false → undeclared D (rule o ts) ≡ false
     → RuleStands D (record { operation = o; tokens = ts })
 rule-of-line D o ts formed within known =
     let (front, policy) = parts (isName o && allOf isToken ts) (not (isNone (readPolicy ts))) formed in

@@ -1,7 +1,9 @@
 pub mod Shorter
 pub mod CodeFronts
-pub mod JoinedParts
 pub mod Levels
 pub mod VarsInCode
 pub mod Heads
 pub mod Wholes
+pub mod Bounds
+pub mod ScannedTokens
+pub mod Turns

@@ -263,6 +263,54 @@ module _ (code : Bytes) (kind at : ℕ) where
           (mark-off Mark.rbrace code A end (c .rest) (c .behind) (λ w. x (h ∙ w))) (mark-off Mark.comma code A end (c .rest) (c .behind) (λ w. y (h ∙ w))))) e);
     }
 
+-- ---- the constants of a set, one after another
+
+-- r, of n constants that were passed and those of q
+abbrev Behind : ℕ → Constants → Constants → Type 0
+Behind n q r = (r .ok ≡ q .ok) × (q .ok ≡ true → (r .end ≡ q .end) × (r .atoms ≡ min 9 (n + q .atoms)))
+
+-- what is read from `at` on tells what is read from `first` on, n constants before
+abbrev pub Passed : Bytes → ℕ → ℕ → ℕ → ℕ → Type 0
+Passed code kind first at n = (q r : Constants) → Behind n q r → ItemsFrom code kind at q → ItemsFrom code kind first r
+
+module _ (code : Bytes) (kind at : ℕ) where
+  pub none-passed : Passed code kind at at 0
+  none-passed q r (e, f) Q = record {
+    further = λ t. subst (λ (k : ℕ). (at < k) × (k < length code)) (sym (f (sym e ∙ t) .0)) (Q .further (sym e ∙ t));
+    answers = λ lo hi A ts g. go A (readItems ts) (Q .answers lo hi A ts g);
+  }
+    where
+      go : (A : Asked) (o : Option (List Atom × List Token)) → ItemsAnswers code A kind at q o → ItemsAnswers code A kind at r o
+      go A none a = e ∙ a
+      go A (some y) a = (
+        e ∙ a .0,
+        λ t.
+            let i = a .1 (sym e ∙ t) in
+            let (s, n) = f (sym e ∙ t) in
+            record {
+              behind = subst (λ (k : ℕ). From code A (k + 1) (y .1)) (sym s) (i .behind);
+              atom-count = omega (arith, n, i .atom-count);
+              some-atoms = i .some-atoms;
+              of-kind = i .of-kind;
+              coded = λ v. ap (λ (k : ℕ). constantsFrom kind code k at) s ∙ i .coded v;
+              written = i .written;
+            },
+      )
+
+module _ (code : Bytes) (kind first at n : ℕ) (P : Passed code kind first at n) where
+  pub no-constant : (r : Constants) → r .ok ≡ false → ItemsFrom code kind at r → ItemsFrom code kind first r
+  no-constant r e R = P r r (refl, λ t. false-is-true (sym e ∙ t)) R
+
+  module _ (q : getD code at 0 ≡ kind) (end k m : ℕ) (E : ConstantEnds code kind at end) (h : k ≡ getD code end 0) (j : m ≡ min 9 (n + 1)) where
+    pub last-constant : k ≡ 8 → ItemsFrom code kind first (record { ok = true; atoms = m; end = end })
+    last-constant z =
+        P (record { ok = true; atoms = 1; end = end }) (record { ok = true; atoms = m; end = end }) (refl, λ _. (refl, j)) (items-last code kind at q end k E h z)
+
+    pub constant-passed : k ≡ 9 → Passed code kind first (end + 1) m
+    constant-passed z p r (e, f) R =
+        P (record { ok = p .ok; atoms = min 9 (p .atoms + 1); end = p .end }) r (e, λ t. (f t .0, let i = f t .1 in omega arith))
+        (items-more code kind at q end k E h p (min 9 (p .atoms + 1)) z R refl)
+
 -- ---- a set
 
 same-type : (s t : AtomType) → sameType s t ≡ eqb (typeCode t) (typeCode s)

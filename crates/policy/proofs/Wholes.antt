@@ -1,73 +1,57 @@
--- Laws of a whole policy: what is read of its tokens, and the order of the refusals.
+-- Laws of a whole policy: whether one is read of its tokens, and the order of the refusals.
 use Prim.Native.Nat.{ℕ, suc, _+_, _-_, _*_, _≤_, _<_, min}
 use mathlib.Core.Path.{_≡_, refl, sym, ap, ap₂, subst, _∙_}
-use mathlib.Core.Bool.{Bool, true, false, _||_}
+use mathlib.Core.Bool.{Bool, true, false, _||_, not}
 use mathlib.Core.List.{List, [], _∷_}
 use mathlib.Core.Option.{Option, none, some}
 use native.Mathlib.Omega.{arith}
 use native.Mathlib.Decide.{decLt}
-use lib.Dec.{ltb}
+use lib.Dec.{eqb, ltb}
 use lib.ListN.{length, getD, drop}
 use lib.Seq.{drop-drop}
-use borrow.Author.Tests.{lt-ltb, le-ltb}
-use Rattle.model.specs.Notation.{_>>=_, _is_, isNone, anyOf, allOf}
+use borrow.Author.Tests.{lt-ltb, le-ltb, eq-eqb, ne-eqb}
+use Rattle.model.specs.Notation.{_>>=_, isNone, anyOf}
 use Rattle.model.specs.Numbers as refusal
 use Rattle.model.specs.Bytes.{Bytes}
-use Rattle.model.specs.Truth as truth
 use Rattle.model.specs.Declarations.{Declarations}
-use Rattle.model.specs.Tokens.{Token, tokensOf, isToken}
+use Rattle.model.specs.Tokens.{Token, tokensOf}
 use Rattle.model.specs.Grammar as grammar
 use Rattle.model.specs.Grammar.{Policy, policyWithin, wholly, readPolicy, tooLarge, terms, depth, largestSet}
-use Rattle.model.specs.Meaning.{Values, meaning, meaningOf}
 use Rattle.model.specs.Refusals.{_if_, first, unknownName}
 use Rattle.model.proofs.WordTables.{false-is-true}
 use Rattle.codes.proofs.TokenKinds.{kind-range}
 use Rattle.model.specs.Standing.{WellDeclared}
 use Rattle.rows.specs.Rows.{AttributeRows}
 use Rattle.tokens.specs.declared.Encoded.{Encoded}
-use Rattle.tokens.specs.RuleCode.{Coded, Encodes}
+use Rattle.tokens.specs.RuleCode.{Encodes}
 use Rattle.tokens.proofs.RuleCode.{code-coded}
-use Rattle.truth.specs.declared.Truth.the-variants.{Undef}
-use Rattle.truth.specs.Truths.{truthOf}
-use Rattle.policy.specs.declared.Part.{Part}
 use Rattle.policy.specs.declared.Reading.{Reading}
 use Rattle.policy.specs.declared.Reading.the-variants.{Read, Malformed}
-use Rattle.policy.specs.Readers.{Lending, Asked, From, Reads, Answers, Policies}
-use Rattle.policy.specs.Judgements.{WholeAnswers, Ends, policyTests, policyNumber, Refuses, Judges, Evaluated}
+use Rattle.policy.specs.declared.scan.Reached.{Reached}
+use Rattle.policy.specs.declared.scan.Stand.{Stand}
+use Rattle.policy.specs.declared.scan.Stand.the-variants.{Before, Behind, Whole, Failed}
+use Rattle.policy.specs.Readers.{Asked, From, Answers, Policies}
+use Rattle.policy.specs.Judgements.{Ends, Counted, policyTests, policyNumber, Refuses, Judges}
+use Rattle.policy.specs.Scans.{Scans}
 use Rattle.policy.proofs.CodeFronts.{told, ended}
 
 -- ---- nothing behind a policy
 
 module _ (code : Bytes) (r : Reading) where
-  pub ends-none : r ≡ Malformed → Ends code r Malformed
-  ends-none e L A o a = go o (subst (λ (q : Reading). Answers code L A q o) e a)
+  pub ends-none : r ≡ Malformed → Ends code r false
+  ends-none e A o a = go o (subst (λ (q : Reading). Answers code A q o) e a)
     where
-      go : (o : grammar.Reading) → Answers code L A Malformed o → WholeAnswers code L A Malformed (o >>= wholly)
-      go none a = tt
+      go : (o : grammar.Reading) → Answers code A Malformed o → isNone (o >>= wholly) ≡ true
+      go none a = refl
       go (some y) a = absurd a
 
-  module _ (x : Part) (k : ℕ) (e : r ≡ Read x) (h : k ≡ getD code (x .next) 0) where
-    pub ends-left : (k ≡ 0 → ⊥) → Ends code r Malformed
-    ends-left n L A o a = go o (subst (λ (q : Reading). Answers code L A q o) e a)
-      where
-        go : (o : grammar.Reading) → Answers code L A (Read x) o → WholeAnswers code L A Malformed (o >>= wholly)
-        go none a = absurd a
-        go (some (p, [])) a = n (h ∙ ended (a .behind))
-        go (some (p, t ∷ ts)) a = tt
-
-    pub ends-on : k ≡ 0 → Ends code r (Read x)
-    ends-on z L A o a = go o (subst (λ (q : Reading). Answers code L A q o) e a)
-      where
-        go : (o : grammar.Reading) → Answers code L A (Read x) o → WholeAnswers code L A (Read x) (o >>= wholly)
-        go none a = absurd a
-        go (some (p, [])) a = a
-        go (some (p, t ∷ ts)) a = absurd (omega (arith, z, h, told (a .behind) .kind-is, kind-range t))
-
--- what is read of all tokens
-whole-answer : (code : Bytes) (L : Lending) (r q : Reading) → Policies code L 0 r → Ends code r q
-    → (A : Asked) (ts : List Token) → From code A 0 ts → WholeAnswers code L A q (readPolicy ts)
-unfolding readPolicy
-whole-answer code L r q P E A ts f = E L A (policyWithin (3 * length ts + 3) ts) (P .answers A ts f (3 * length ts + 3) (omega arith))
+  pub ends-read : (n k : ℕ) → r ≡ Read n → k ≡ getD code n 0 → Ends code r (eqb k 0)
+  ends-read n k e h A o a = go o (subst (λ (q : Reading). Answers code A q o) e a)
+    where
+      go : (o : grammar.Reading) → Answers code A (Read n) o → isNone (o >>= wholly) ≡ not (eqb k 0)
+      go none a = absurd a
+      go (some (p, [])) a = sym (ap not (eq-eqb k 0 (h ∙ ended a)))
+      go (some (p, t ∷ ts)) a = sym (ap not (ne-eqb k 0 (λ z. omega (arith, z, h, told a .kind-is, kind-range t))))
 
 -- ---- the limits
 
@@ -80,7 +64,7 @@ ltb-min k a = go (decLt k a)
     go (no n) = le-ltb k (min (suc k) a) (omega arith) ∙ sym (le-ltb k a (omega arith))
 
 -- the tests of the limits, one after another
-module _ (x : Part) where
+module _ (x : Reached) where
   abbrev over : Bool → Bool → Bool → Bool
   over a b c = a || b || c
 
@@ -93,39 +77,46 @@ module _ (x : Part) where
   pub over-set : x .terms ≤ 16 → x .depth ≤ 8 → ltb 8 (x .largest) ≡ over (ltb 16 (x .terms)) (ltb 8 (x .depth)) (ltb 8 (x .largest))
   over-set h i = sym (ap₂ (λ (a b : Bool). over a b (ltb 8 (x .largest))) (le-ltb 16 (x .terms) h) (le-ltb 8 (x .depth) i))
 
-  large : {code : Bytes} {L : Lending} {A : Asked} {p : Policy} → Reads code L A x p []
+  large : (p : Policy) → Counted (Whole x) (some p)
       → over (ltb 16 (x .terms)) (ltb 8 (x .depth)) (ltb 8 (x .largest)) ≡ tooLarge p
   unfolding tooLarge
-  large {p = p} a =
+  large p a =
       ap₂ (λ (b c : Bool). b || c)
-      (ap₂ (λ (b c : Bool). b || c) (ap (ltb 16) (a .term-count) ∙ ltb-min 16 (terms p)) (ap (ltb 8) (a .deepest) ∙ ltb-min 8 (depth p)))
-      (ap (ltb 8) (a .largest-set) ∙ ltb-min 8 (largestSet p))
+      (ap₂ (λ (b c : Bool). b || c) (ap (ltb 16) (a .0) ∙ ltb-min 16 (terms p)) (ap (ltb 8) (a .1) ∙ ltb-min 8 (depth p)))
+      (ap (ltb 8) (a .2) ∙ ltb-min 8 (largestSet p))
 
 -- ---- the order of the refusals
 
-module _ (r : Reading) (unknown : Bool) where
-  pub refuse-none : r ≡ Malformed → Refuses r unknown refusal.malformed
-  refuse-none e code L A o D ts a u = go o (subst (λ (q : Reading). WholeAnswers code L A q o) e a)
-    where
-      go : (o : Option Policy) → WholeAnswers code L A Malformed o → refusal.malformed ≡ first (policyTests D (some ts) o)
-      go none a = refl
-      go (some p) a = absurd a
+module _ (s : Stand) (unknown : Bool) where
+  -- the loop does not end before or behind a term
+  refuse-by : ((p : Policy) → Counted s (some p) → ⊥) → Refuses s unknown refusal.malformed
+  refuse-by f none D ts a u = refl
+  refuse-by f (some p) D ts a u = absurd (f p a)
 
-  module _ (x : Part) (e : r ≡ Read x) (b : Bool) (l : b ≡ over x (ltb 16 (x .terms)) (ltb 8 (x .depth)) (ltb 8 (x .largest))) where
-    refuse-read : (n : ℕ) → n ≡ first (refusal.overLimits if b ∷ refusal.undeclared if unknown ∷ []) → Refuses r unknown n
-    refuse-read n f code L A o D ts a u = go o (subst (λ (q : Reading). WholeAnswers code L A q o) e a)
+  pub refuse-before : (x : Reached) → s ≡ Before x → Refuses s unknown refusal.malformed
+  refuse-before x e = refuse-by λ p a. subst (λ (r : Stand). Counted r (some p)) e a
+
+  pub refuse-behind : (x : Reached) → s ≡ Behind x → Refuses s unknown refusal.malformed
+  refuse-behind x e = refuse-by λ p a. subst (λ (r : Stand). Counted r (some p)) e a
+
+  pub refuse-none : s ≡ Failed → Refuses s unknown refusal.malformed
+  refuse-none e = refuse-by λ p a. subst (λ (r : Stand). Counted r (some p)) e a
+
+  module _ (x : Reached) (e : s ≡ Whole x) (b : Bool) (l : b ≡ over x (ltb 16 (x .terms)) (ltb 8 (x .depth)) (ltb 8 (x .largest))) where
+    refuse-read : (n : ℕ) → n ≡ first (refusal.overLimits if b ∷ refusal.undeclared if unknown ∷ []) → Refuses s unknown n
+    refuse-read n f o D ts a u = go o (subst (λ (r : Stand). Counted r o) e a)
       where
-        go : (o : Option Policy) → WholeAnswers code L A (Read x) o → n ≡ first (policyTests D (some ts) o)
+        go : (o : Option Policy) → Counted (Whole x) o → n ≡ first (policyTests D (some ts) o)
         go none a = absurd a
-        go (some p) a = f ∙ ap₂ (λ (c d : Bool). first (refusal.overLimits if c ∷ refusal.undeclared if d ∷ [])) (l ∙ large x a) u
+        go (some p) a = f ∙ ap₂ (λ (c d : Bool). first (refusal.overLimits if c ∷ refusal.undeclared if d ∷ [])) (l ∙ large x p a) u
 
-    pub refuse-large : b ≡ true → Refuses r unknown refusal.overLimits
+    pub refuse-large : b ≡ true → Refuses s unknown refusal.overLimits
     refuse-large z = refuse-read refusal.overLimits (sym (ap (λ (c : Bool). first (refusal.overLimits if c ∷ refusal.undeclared if unknown ∷ [])) z))
 
-    pub refuse-unknown : b ≡ false → unknown ≡ true → Refuses r unknown refusal.undeclared
+    pub refuse-unknown : b ≡ false → unknown ≡ true → Refuses s unknown refusal.undeclared
     refuse-unknown z u = refuse-read refusal.undeclared (sym (ap₂ (λ (c d : Bool). first (refusal.overLimits if c ∷ refusal.undeclared if d ∷ [])) z u))
 
-    pub accept : b ≡ false → unknown ≡ false → Refuses r unknown 0
+    pub accept : b ≡ false → unknown ≡ false → Refuses s unknown 0
     accept z u = refuse-read 0 (sym (ap₂ (λ (c d : Bool). first (refusal.overLimits if c ∷ refusal.undeclared if d ∷ [])) z u))
 
 -- ---- judging
@@ -150,42 +141,28 @@ module _ (s : Bytes) (rows : List ℕ) (before after : Bytes) (c : Encoded) (E :
       go D none e = refl
       go D (some ts) e = false-is-true e
 
-  pub judge-read : c .bad ≡ false → (L : Lending) (r q : Reading) → Policies after L 0 r → Ends after r q → (n : ℕ) → Refuses q (c .unknown) n → Judges s rows before after n
+  -- where it has tokens, by what is known of them
+  judge-coded : c .bad ≡ false → (n : ℕ)
+      → ((D : Declarations) (A : Asked) (ts : List Token) → From after A 0 ts → c .unknown ≡ anyOf (unknownName D) ts → n ≡ first (policyTests D (some ts) (readPolicy ts)))
+      → Judges s rows before after n
   unfolding policyNumber
-  judge-read z L r q P W n R = judges-by n (λ D ord ar. go D ord ar (tokensOf s) refl (sym (E .bad) ∙ z))
+  judge-coded z n f = judges-by n (λ D ord ar. go D ord ar (tokensOf s) refl (sym (E .bad) ∙ z))
     where
       go : (D : Declarations) → WellDeclared D → AttributeRows rows D → (o : Option (List Token)) → tokensOf s ≡ o → isNone o ≡ false
           → n ≡ first (policyTests D o (o >>= readPolicy))
-      go D ord ar none e f = false-is-true (sym f)
-      go D ord ar (some ts) e f =
+      go D ord ar none e b = false-is-true (sym b)
+      go D ord ar (some ts) e b =
           let t = E .tokens D ord ar ts e in
-          let A : Asked = record { declared = D; valued = false } in
-          let h : From after A 0 ts = record { coded = code-coded t; written = λ v. false-is-true v; known = λ v. false-is-true v } in
-          R after L A (readPolicy ts) D ts (whole-answer after L r q P W A ts h) (t .unknown)
+          f D (record { declared = D; valued = false }) ts (record { coded = code-coded t; written = λ v. false-is-true v; known = λ v. false-is-true v }) (t .unknown)
 
--- ---- the value
+  pub judge-scanned : c .bad ≡ false → (q : Stand) → Scans after q → (n : ℕ) → Refuses q (c .unknown) n → Judges s rows before after n
+  judge-scanned z q S n R = judge-coded z n λ D A ts h u. R (readPolicy ts) D ts (S A ts h) u
 
-module _ (code : Bytes) (L : Lending) (r q : Reading) (P : Policies code L 0 r) (W : Ends code r q) where
-  asked : (D : Declarations) (ts : List Token) → Coded D code 0 ts → allOf isToken ts ≡ true → anyOf (unknownName D) ts ≡ false
-      → WholeAnswers code L (record { declared = D; valued = true }) q (readPolicy ts)
-  asked D ts c w u =
-      whole-answer code L r q P W (record { declared = D; valued = true }) ts (record { coded = c; written = λ _. w; known = λ _. u })
-
-  abbrev valueOf : Values → Option Policy → truth.Truth
-  valueOf read o = elim o [ some p ↦ meaning read p | none ↦ truth.UNDEF ]
-
-  pub evaluate-none : q ≡ Malformed → Evaluated code L Undef
-  unfolding meaningOf
-  evaluate-none e D ts c w u read f = go (readPolicy ts) (subst (λ (y : Reading). WholeAnswers code L (record { declared = D; valued = true }) y (readPolicy ts)) e (asked D ts c w u))
+  pub judge-unread : c .bad ≡ false → (r : Reading) → Policies after 0 r → (b : Bool) → Ends after r b → b ≡ false → Judges s rows before after refusal.malformed
+  unfolding readPolicy
+  judge-unread z r P b W n = judge-coded z refusal.malformed λ D A ts h u.
+      go D ts (readPolicy ts) (W A (policyWithin (3 * length ts + 3) ts) (P .answers A ts h (3 * length ts + 3) (omega arith)) ∙ ap not n)
     where
-      go : (o : Option Policy) → WholeAnswers code L (record { declared = D; valued = true }) Malformed o → truth.UNDEF ≡ valueOf read o
-      go none a = refl
-      go (some p) a = absurd a
-
-  pub evaluate-read : (x : Part) → q ≡ Read x → Evaluated code L (x .value)
-  unfolding meaningOf
-  evaluate-read x e D ts c w u read f = go (readPolicy ts) (subst (λ (y : Reading). WholeAnswers code L (record { declared = D; valued = true }) y (readPolicy ts)) e (asked D ts c w u))
-    where
-      go : (o : Option Policy) → WholeAnswers code L (record { declared = D; valued = true }) (Read x) o → truthOf (x .value) ≡ valueOf read o
-      go none a = absurd a
-      go (some p) a = a .truth refl read f
+      go : (D : Declarations) (ts : List Token) (o : Option Policy) → isNone o ≡ true → refusal.malformed ≡ first (policyTests D (some ts) o)
+      go D ts none e = refl
+      go D ts (some p) e = false-is-true e

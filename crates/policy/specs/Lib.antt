@@ -1,3 +1,4 @@
 pub mod Starts
 pub mod Readers
 pub mod Judgements
+pub mod Scans

@@ -1,5 +1,5 @@
 -- What the readers of policies answer, against the readings of the specification.
-use Prim.Native.Nat.{ℕ, _+_, _*_, _≤_, _<_, min, max}
+use Prim.Native.Nat.{ℕ, _+_, _*_, _≤_, _<_, min}
 use mathlib.Core.Path.{_≡_}
 use mathlib.Core.Bool.{Bool, true, false}
 use mathlib.Core.List.{List, _∷_}
@@ -10,32 +10,27 @@ use Rattle.model.specs.Notation.{anyOf, allOf, map}
 use Rattle.model.specs.Bytes.{Bytes}
 use Rattle.model.specs.Attributes.{Source}
 use Rattle.model.specs.Atoms.{Atom, typeOf, isAtom}
-use Rattle.model.specs.Truth as model
-use Rattle.model.specs.Truth.{NOT, _AND_, _OR_}
 use Rattle.model.specs.Tokens.{Token, isToken}
 use Rattle.model.specs.Declarations.{Declarations, attributeNumber}
 use Rattle.model.specs.Refusals.{unknownName}
 use Rattle.model.specs.Grammar as grammar
-use Rattle.model.specs.Grammar.{Policy, constants, attribute, atomsIn, terms, depth, largestSet, readItems, readSet, readVar, policyWithin, conjunctionWithin, termWithin}
-use Rattle.model.specs.Meaning.{Values, meaning, valuesOf}
-use Rattle.codes.specs.Codes.{kindOf, typeCode, truthCode}
+use Rattle.model.specs.Grammar.{constants, attribute, atomsIn, largestSet, readItems, readSet, readVar, policyWithin, conjunctionWithin, termWithin}
+use Rattle.model.specs.Meaning.{Values, valuesOf}
+use Rattle.codes.specs.Codes.{kindOf, typeCode}
 use Rattle.text.specs.Values.{atomWords}
 use Rattle.tokens.specs.RuleCode.{Coded, size}
-use Rattle.truth.specs.declared.Truth.{Truth}
-use Rattle.truth.specs.Truths.{truthOf}
 use Rattle.values.specs.Operands.{Lent, lent, Stands, constantsFrom, attributeOperand}
-use Rattle.policy.specs.declared.Part.{Part}
 use Rattle.policy.specs.declared.Reading.{Reading}
 use Rattle.policy.specs.declared.Reading.the-variants.{Read, Malformed}
 use Rattle.policy.specs.declared.Head.{Head}
 use Rattle.policy.specs.declared.Head.the-variants.{Leaf, Open, Neither}
 use Rattle.policy.specs.declared.Var.{Var}
 use Rattle.policy.specs.declared.Constants.{Constants}
-use Rattle.policy.specs.Starts.{Start, whole, opened, neither, simpleStart, signedStart, aloneStart, closedBy, joinedTo}
+use Rattle.policy.specs.Starts.{Start, whole, opened, neither, simpleStart, signedStart, aloneStart, closedBy}
 
 -- ---- what is lent and what is asked
 
--- what is lent to every reader beside the code
+-- what the values of a var are looked up in, beside the code
 pub record Lending : Type 0 where
   pub attributes : List ℕ
   pub pairs : List ℕ
@@ -66,70 +61,59 @@ ReadsAs code L D read =
 
 -- ---- policies, conjunctions and terms
 
--- x is the policy p, and behind it stand the tokens of `rest`. The counts go no further than is needed to see that a limit is passed
-pub record Reads (code : Bytes) (L : Lending) (A : Asked) (x : Part) (p : Policy) (rest : List Token) : Type 0 where
-  pub behind : From code A (x .next) rest
-  pub term-count : x .terms ≡ min 17 (terms p)
-  pub deepest : x .depth ≡ min 9 (depth p)
-  pub largest-set : x .largest ≡ min 9 (largestSet p)
-  pub truth : A .valued ≡ true → (read : Values) → ReadsAs code L (A .declared) read → truthOf (x .value) ≡ meaning read p
-
-abbrev pub Answers : Bytes → Lending → Asked → Reading → grammar.Reading → Type 0
-Answers code L A (Read x) none = ⊥
-Answers code L A (Read x) (some y) = Reads code L A x (y .0) (y .1)
-Answers code L A Malformed none = Unit {0}
-Answers code L A Malformed (some y) = ⊥
+-- where a policy was read, the tokens behind it
+abbrev pub Answers : Bytes → Asked → Reading → grammar.Reading → Type 0
+Answers code A (Read n) none = ⊥
+Answers code A (Read n) (some y) = From code A n (y .1)
+Answers code A Malformed none = Unit {0}
+Answers code A Malformed (some y) = ⊥
 
 -- what is read does not end before the position where it begins
 abbrev pub Ahead : ℕ → Reading → Type 0
-Ahead at (Read x) = at ≤ x .next
+Ahead at (Read n) = at ≤ n
 Ahead at Malformed = Unit {0}
 
 -- the readers that call each other, at every bound that is large enough for the tokens
-pub record Reader (within : ℕ → List Token → grammar.Reading) (d : ℕ) (code : Bytes) (L : Lending) (at : ℕ) (r : Reading) : Type 0 where
+pub record Reader (within : ℕ → List Token → grammar.Reading) (d : ℕ) (code : Bytes) (at : ℕ) (r : Reading) : Type 0 where
   pub ahead : Ahead at r
-  pub answers : (A : Asked) (ts : List Token) → From code A at ts → (n : ℕ) → 3 * length ts + d ≤ n → Answers code L A r (within n ts)
+  pub answers : (A : Asked) (ts : List Token) → From code A at ts → (n : ℕ) → 3 * length ts + d ≤ n → Answers code A r (within n ts)
 
-abbrev pub Terms : Bytes → Lending → ℕ → Reading → Type 0
+abbrev pub Terms : Bytes → ℕ → Reading → Type 0
 Terms = Reader (λ n ts. termWithin n ts) 1
 
-abbrev pub Conjunctions : Bytes → Lending → ℕ → Reading → Type 0
+abbrev pub Conjunctions : Bytes → ℕ → Reading → Type 0
 Conjunctions = Reader (λ n ts. conjunctionWithin n ts) 2
 
-abbrev pub Policies : Bytes → Lending → ℕ → Reading → Type 0
+abbrev pub Policies : Bytes → ℕ → Reading → Type 0
 Policies = Reader (λ n ts. policyWithin n ts) 3
 
--- what they do with what was read: the end of a parenthesis, and the joining by AND (true) or OR
-pub record Closes (code : Bytes) (b : Bool) (r q : Reading) : Type 0 where
+-- the end of a parenthesis, after what was read in it
+pub record Closes (code : Bytes) (r q : Reading) : Type 0 where
   pub ahead : (at : ℕ) → Ahead at r → Ahead at q
-  pub answers : (L : Lending) (A : Asked) (o : grammar.Reading) → Answers code L A r o → Answers code L A q (closedBy b o)
-
-pub record Joins (c : Bool) (x : Part) (r q : Reading) : Type 0 where
-  pub ahead : (at : ℕ) → Ahead at r → Ahead at q
-  pub answers : (code : Bytes) (L : Lending) (A : Asked) (p : Policy) (rest : List Token) (o : grammar.Reading)
-      → Reads code L A x p rest → Answers code L A r o → Answers code L A q (joinedTo c p o)
+  pub answers : (b : Bool) (A : Asked) (o : grammar.Reading) → Answers code A r o → Answers code A q (closedBy b o)
 
 -- ---- how a term begins
 
-abbrev pub Starts : Bytes → Lending → Asked → Head → Start → Type 0
-Starts code L A (Leaf x) (whole p ts) = Reads code L A x p ts
-Starts code L A (Leaf x) (opened b ts) = ⊥
-Starts code L A (Leaf x) neither = ⊥
-Starts code L A (Open c n) (whole p ts) = ⊥
-Starts code L A (Open c n) (opened b ts) = (c ≡ b) × From code A n ts
-Starts code L A (Open c n) neither = ⊥
-Starts code L A Neither (whole p ts) = ⊥
-Starts code L A Neither (opened b ts) = ⊥
-Starts code L A Neither neither = Unit {0}
+-- the atoms are counted no further than is needed to see that the limit is passed
+abbrev pub Starts : Bytes → Asked → Head → Start → Type 0
+Starts code A (Leaf n l) (whole p ts) = From code A n ts × (l ≡ min 9 (largestSet p))
+Starts code A (Leaf n l) (opened b ts) = ⊥
+Starts code A (Leaf n l) neither = ⊥
+Starts code A (Open n) (whole p ts) = ⊥
+Starts code A (Open n) (opened b ts) = From code A n ts
+Starts code A (Open n) neither = ⊥
+Starts code A Neither (whole p ts) = ⊥
+Starts code A Neither (opened b ts) = ⊥
+Starts code A Neither neither = Unit {0}
 
 abbrev pub Further : Bytes → ℕ → Head → Type 0
-Further code at (Leaf x) = at ≤ x .next
-Further code at (Open c n) = (at < n) × (at < length code)
+Further code at (Leaf n l) = at ≤ n
+Further code at (Open n) = (at < n) × (at < length code)
 Further code at Neither = Unit {0}
 
-pub record Heads (start : List Token → Start) (code : Bytes) (L : Lending) (at : ℕ) (h : Head) : Type 0 where
+pub record Heads (start : List Token → Start) (code : Bytes) (at : ℕ) (h : Head) : Type 0 where
   pub further : Further code at h
-  pub starts : (A : Asked) (ts : List Token) → From code A at ts → Starts code L A h (start ts)
+  pub starts : (A : Asked) (ts : List Token) → From code A at ts → Starts code A h (start ts)
 
 -- ---- vars
 
@@ -186,10 +170,9 @@ pub record ItemsFrom (code : Bytes) (kind at : ℕ) (r : Constants) : Type 0 whe
   pub answers : 1 ≤ kind → kind ≤ 2 → (A : Asked) (ts : List Token) → From code A at ts → ItemsAnswers code A kind at r (readItems ts)
 
 -- what a var comes to without an operator behind it
-pub record Alone (code : Bytes) (pairs session : List ℕ) (entries : Bytes) (v : Var) (h : Head) : Type 0 where
-  pub further : (at : ℕ) → at ≤ v .next → Further code at h
-  pub starts : (rows : List ℕ) (A : Asked) (w : grammar.Var) (rest : List Token)
-      → VarReads code (lending rows pairs session entries) A v w rest → Starts code (lending rows pairs session entries) A h (aloneStart w rest)
+pub record Alone (v : Var) (h : Head) : Type 0 where
+  pub further : (code : Bytes) (at : ℕ) → at ≤ v .next → Further code at h
+  pub starts : (code : Bytes) (L : Lending) (A : Asked) (w : grammar.Var) (rest : List Token) → VarReads code L A v w rest → Starts code A h (aloneStart w rest)
 
 -- the var behind an operator, where one stands at a place and no NOT before the first var
 pub record SecondVars (code : Bytes) (rows : List ℕ) (negated : Bool) (at : ℕ) (w : Var) : Type 0 where
@@ -197,61 +180,8 @@ pub record SecondVars (code : Bytes) (rows : List ℕ) (negated : Bool) (at : �
   pub none-second : w .ok ≡ false → negated ≡ false → 16 ≤ getD code at 0 → getD code at 0 ≤ 23 → Vars code rows (at + 1) w
 
 -- what begins with a var, and what does not, wherever it was read
-abbrev pub VarHeads : Bytes → Lending → Bool → Var → Head → Type 0
-VarHeads code L negated v h = (at : ℕ) → Vars code (L .attributes) at v → v .ok ≡ true → Heads (signedStart negated) code L at h
+abbrev pub VarHeads : Bytes → List ℕ → Bool → Var → Head → Type 0
+VarHeads code rows negated v h = (at : ℕ) → Vars code rows at v → v .ok ≡ true → Heads (signedStart negated) code at h
 
 abbrev pub NoVarHeads : Bytes → ℕ → Head → Type 0
-NoVarHeads code at h = (L : Lending) (v : Var) → Vars code (L .attributes) at v → v .ok ≡ false → Heads (λ ts. simpleStart ts) code L at h
-
--- ---- parts made of parts
-
-pub record Negated (x y : Part) : Type 0 where
-  pub same-next : y .next ≡ x .next
-  pub same-terms : y .terms ≡ x .terms
-  pub same-depth : y .depth ≡ x .depth
-  pub same-largest : y .largest ≡ x .largest
-  pub swapped : truthOf (y .value) ≡ NOT (truthOf (x .value))
-
-abbrev pub NegatedHead : Head → Head → Type 0
-NegatedHead (Leaf x) (Leaf y) = Negated x y
-NegatedHead (Leaf x) (Open c m) = ⊥
-NegatedHead (Leaf x) Neither = ⊥
-NegatedHead (Open b n) (Leaf y) = ⊥
-NegatedHead (Open b n) (Open c m) = (c ≡ true) × (m ≡ n)
-NegatedHead (Open b n) Neither = ⊥
-NegatedHead Neither (Leaf y) = ⊥
-NegatedHead Neither (Open c m) = ⊥
-NegatedHead Neither Neither = Unit {0}
-
-abbrev pub SignedHead : Bool → Head → Head → Type 0
-SignedHead true h r = NegatedHead h r
-SignedHead false h r = r ≡ h
-
-abbrev pub leafPart : Truth → ℕ → ℕ → Part
-leafPart t n l = record { next = n; value = t; terms = 1; depth = 0; largest = l }
-
-abbrev pub notIf : Bool → model.Truth → model.Truth
-notIf true t = NOT t
-notIf false t = t
-
-pub record ClosedPart (b : Bool) (x : Part) (n : ℕ) (y : Part) : Type 0 where
-  pub ends : y .next ≡ n
-  pub same-terms : y .terms ≡ x .terms
-  pub deeper : y .depth ≡ min 9 (x .depth + 1)
-  pub same-largest : y .largest ≡ x .largest
-  pub swapped : truthOf (y .value) ≡ notIf b (truthOf (x .value))
-
-abbrev pub joinTruths : Bool → model.Truth → model.Truth → model.Truth
-joinTruths true t u = t AND u
-joinTruths false t u = t OR u
-
-pub record JoinedPart (c : Bool) (x y z : Part) : Type 0 where
-  pub ends : z .next ≡ y .next
-  pub more-terms : z .terms ≡ min 17 (x .terms + y .terms)
-  pub deeper : z .depth ≡ max (x .depth) (y .depth)
-  pub larger : z .largest ≡ max (x .largest) (y .largest)
-  pub both : truthOf (z .value) ≡ joinTruths c (truthOf (x .value)) (truthOf (y .value))
-
--- r is the truth value whose word has this kind
-abbrev pub Spoken : ℕ → Truth → Type 0
-Spoken kind r = (t : model.Truth) → kind ≡ truthCode t → truthOf r ≡ t
+NoVarHeads code at h = (rows : List ℕ) (v : Var) → Vars code rows at v → v .ok ≡ false → Heads (λ ts. simpleStart ts) code at h

@@ -4,7 +4,7 @@ use mathlib.Core.List.{List, [], _∷_}
 use mathlib.Core.Option.{none, some}
 use Rattle.model.specs.Notation.{_>>=_}
 use Rattle.model.specs.Tokens.{Token, Mark}
-use Rattle.model.specs.Grammar.{Var, constants, attribute, Policy, constant, lone, not, and, or, isMark, behindMark, Reading, readComparison, closed}
+use Rattle.model.specs.Grammar.{Var, constants, attribute, Policy, constant, lone, not, isMark, behindMark, Reading, readComparison, closed}
 
 -- a term without parentheses, and the tokens behind it; a parenthesis, after NOT or not, and the tokens of its policy; or neither
 pub data Start : Type 0 where
@@ -56,11 +56,3 @@ negatedIf false p = p
 -- a policy that was read in parentheses: their end
 abbrev pub closedBy : Bool → Reading → Reading
 closedBy b o = o >>= closed >>= λ (p, rest). some (negatedIf b p, rest)
-
--- the two ways to join
-abbrev pub joinOf : Bool → Policy → Policy → Policy
-joinOf true = and
-joinOf false = or
-
-abbrev pub joinedTo : Bool → Policy → Reading → Reading
-joinedTo c p o = o >>= λ (q, rest). some (joinOf c p q, rest)

@@ -3,3 +3,4 @@ pub mod Levels
 pub mod RowValues
 pub mod Runs
 pub mod Walked
+pub mod Programs

@@ -8,13 +8,13 @@ use lib.ListN.{length, getD}
 use Rattle.model.specs.Limits.{depthLimit}
 use Rattle.model.specs.Bytes.{Bytes}
 use Rattle.model.specs.Attributes.{Source}
-use Rattle.model.specs.Declarations.{Declarations, attributeNumber}
+use Rattle.model.specs.Declarations.{Declarations, Attribute, attributeNumber}
 use Rattle.model.specs.Truth as model
 use Rattle.model.specs.Tokens.{Token}
 use Rattle.model.specs.Meaning.{Values, meaningOf}
-use Rattle.model.specs.Notation.{if_then_else_}
+use Rattle.model.specs.Notation.{if_then_else_, nth}
 use Rattle.codes.specs.Codes.{endCode}
-use Rattle.rows.specs.Rows.{AttributeRows}
+use Rattle.rows.specs.Rows.{AttributeRow}
 use Rattle.values.specs.Operands.{Lent, lent, Stands, attributeOperand}
 use Rattle.truth.specs.declared.Truth.{Truth}
 use Rattle.truth.specs.Truths.{truthOf}
@@ -42,9 +42,13 @@ ProgrammedBy attributes D code rows ts =
     (pairs session : List ℕ) (entries : Bytes) (read : Values) → Reads (lent code pairs session entries) attributes D read
     → Runs (lent code pairs session entries) rows (walk fresh []) 0 0 (meaningOf read ts)
 
+-- these rows are those of the attributes of D, among others
+abbrev pub HasRows : List ℕ → Declarations → Type 0
+HasRows attributes D = (i : ℕ) (a : Attribute) → nth (D .attributes) i ≡ some a → AttributeRow attributes i a
+
 -- by any rows of the attributes of D
 abbrev pub Programmed : Declarations → Bytes → Bytes → List Token → Type 0
-Programmed D code rows ts = (attributes : List ℕ) → AttributeRows attributes D → ProgrammedBy attributes D code rows ts
+Programmed D code rows ts = (attributes : List ℕ) → HasRows attributes D → ProgrammedBy attributes D code rows ts
 
 -- r is where the code goes on behind a token, by its kind: ahead, whatever a row says
 pub record NextAt (rows : Bytes) (kind row at r : ℕ) : Type 0 where

@@ -310,13 +310,7 @@ pub fn next_row(kind: u8, row: usize) -> usize
 }
 
 // The value of a rule: its code and its rows, on what is lent for a request. UNDEF where they are no program.
-pub fn run(
-    code: &[u8],
-    rows: &[u8],
-    pairs: &[u64],
-    session: &[u64; 128],
-    entries: &[u8],
-) -> Truth
+pub fn run(code: &[u8], rows: &[u8], pairs: &[u64], session: &[u64; 128], entries: &[u8]) -> Truth
     requires { ⌜ (length (now pairs) ≡ 1024) × (length (now code) ≤ 65536) ⌝ }
     ensures { λ r. ⌜ Ran (lent (now (code .entry)) (now (pairs .entry)) (now (session .entry)) (now (entries .entry))) (now (rows .entry)) r ⌝ }
 {

@@ -1,7 +1,7 @@
 -- What a request is answered, by its tests in their order. Assumes nothing.
 use Prim.Native.Nat.{ℕ, _-_, _<_, _≤_}
 use native.Mathlib.Omega.{arith}
-use mathlib.Core.Path.{_≡_, refl, sym, ap, subst, _∙_}
+use mathlib.Core.Path.{_≡_, refl, sym, ap, ap₂, subst, _∙_}
 use mathlib.Core.Bool.{Bool, true, false}
 use mathlib.Core.List.{List, [], _∷_}
 use mathlib.Core.Option.{Option, none, some}
@@ -20,7 +20,7 @@ use Rattle.model.proofs.Table.{table-length}
 use Rattle.model.specs.Decision as model
 use Rattle.model.specs.Decision.{verdicts, judged}
 use Rattle.session.specs.Opened.{SessionOf}
-use Rattle.session.specs.Words.{OpenedFirst, unheldWords}
+use Rattle.session.specs.Words.{OpenedFirst, unheldIn}
 use Rattle.session.proofs.Opens.{zeros-hold, opens}
 use Rattle.session.proofs.Activated.{unheld-so}
 use Rattle.book.specs.Sections as section
@@ -36,44 +36,18 @@ use Rattle.request.proofs.Books.{numbers-of, request-of}
 
 module _ {S : State} {b : Block} {counts targets : List ℕ} {code : Bytes} {attributes pairs table : List ℕ} {block entries : Bytes}
     (of : RequestOf S b counts targets code attributes pairs table block entries)
-    (user object mask : ℕ) (user-is : user ≡ getD block 1 0) (object-is : object ≡ getD block 2 0) (mask-is : mask ≡ valueAt block 4)
-    (declared : ℕ) (declared-is : getD counts 0 0 ≤ 32 → declared ≡ getD counts 0 0)
-    (session : List ℕ) (opened : OpenedFirst attributes table user object mask declared (replicate 128 0) session)
-    (r : Bool) (unheld : r ≡ unheldWords attributes session mask) where
+    (user mask : ℕ) (user-is : user ≡ getD block 1 0) (mask-is : mask ≡ valueAt block 4)
+    (r : Bool) (unheld : r ≡ unheldIn attributes table user mask) where
   user-so : user ≡ b .user
   user-so = user-is ∙ sym (head-of block b (of .read) .user)
-
-  object-so : object ≡ b .object
-  object-so = object-is ∙ sym (head-of block b (of .read) .object)
 
   mask-so : mask ≡ b .mask
   mask-so = mask-is ∙ sym (head-of block b (of .read) .mask)
 
-  declared-so : length (S .declared .attributes) ≡ declared
-  declared-so =
-      let attributes : getD counts 0 0 ≡ length (S .declared .attributes) = of .counts-are .attributes in
-      sym attributes ∙ sym (declared-is (omega (arith, of .attribute-rows .within)))
-
-  -- the session that is opened, where zeros stood
-  opened-words : OpenedFirst attributes table (b .user) (b .object) (b .mask) declared (replicate 128 0) session
-  opened-words =
-      subst (λ (m : ℕ). OpenedFirst attributes table (b .user) (b .object) m declared (replicate 128 0) session) mask-so
-      (subst (λ (o : ℕ). OpenedFirst attributes table (b .user) o mask declared (replicate 128 0) session) object-so
-      (subst (λ (u : ℕ). OpenedFirst attributes table u object mask declared (replicate 128 0) session) user-so opened))
-
-  session-of : SessionOf S b attributes pairs session entries
-  session-of = record {
-    declarations = of .declarations;
-    attribute-rows = of .attribute-rows;
-    pair-rows = of .pair-rows;
-    opened = opens S b attributes table (replicate 128 0) session declared (of .attribute-rows) (of .sets) declared-so (zeros-hold 128) opened-words;
-    entries-of = of .entries-of;
-  }
-
   held-so : notHeld S b ≡ r
   held-so =
-      sym (unheld-so S b attributes pairs session (of .declarations) (of .attribute-rows) (of .pair-rows) (session-of .opened))
-      ∙ sym (ap (unheldWords attributes session) mask-so)
+      sym (unheld-so S b attributes pairs table (of .declarations) (of .attribute-rows) (of .pair-rows) (of .sets .user-set))
+      ∙ sym (ap₂ (unheldIn attributes table) user-so mask-so)
       ∙ sym unheld
 
   abbrev Answer : model.Decision → Type 0
@@ -82,18 +56,44 @@ module _ {S : State} {b : Block} {counts targets : List ℕ} {code : Bytes} {att
   pub not-held : r ≡ true → Answer (model.refused refusal.notHeld)
   not-held on = sym (ap (λ (t : Bool). if t then model.refused refusal.notHeld else model.decisionBy (verdicts S b)) (held-so ∙ on))
 
-  rules-so : (rules : ℕ) → (getD counts 5 0 ≤ 32 → rules ≡ getD counts 5 0) → length (S .declared .rules) ≡ rules
-  rules-so rules e =
-      let all : getD counts 5 0 ≡ length (S .declared .rules) = of .counts-are .rules in
-      sym all ∙ sym (e (omega (arith, of .declarations .rules .few)))
+  -- the session that is opened, where zeros stood
+  module _ (object : ℕ) (object-is : object ≡ getD block 2 0) (declared : ℕ) (declared-is : getD counts 0 0 ≤ 32 → declared ≡ getD counts 0 0)
+      (session : List ℕ) (opened : OpenedFirst attributes table user object mask declared (replicate 128 0) session) where
+    object-so : object ≡ b .object
+    object-so = object-is ∙ sym (head-of block b (of .read) .object)
 
-  pub by-rules : r ≡ false → (rules : ℕ) → (getD counts 5 0 ≤ 32 → rules ≡ getD counts 5 0) → (operation : ℕ) → operation ≡ getD block 3 0
-      → (d : Decision) → Decided targets code attributes pairs session entries operation rules d → Answer (decisionOf d)
-  by-rules off rules w operation f d g =
-      g S b
-      (record { operation-is = head-of block b (of .read) .operation ∙ sym f; rule-rows = of .rule-rows; session-of = session-of })
-      (rules-so rules w)
-      ∙ sym (ap (λ (t : Bool). if t then model.refused refusal.notHeld else model.decisionBy (verdicts S b)) (held-so ∙ off))
+    declared-so : length (S .declared .attributes) ≡ declared
+    declared-so =
+        let attributes : getD counts 0 0 ≡ length (S .declared .attributes) = of .counts-are .attributes in
+        sym attributes ∙ sym (declared-is (omega (arith, of .attribute-rows .within)))
+
+    opened-words : OpenedFirst attributes table (b .user) (b .object) (b .mask) declared (replicate 128 0) session
+    opened-words =
+        subst (λ (m : ℕ). OpenedFirst attributes table (b .user) (b .object) m declared (replicate 128 0) session) mask-so
+        (subst (λ (o : ℕ). OpenedFirst attributes table (b .user) o mask declared (replicate 128 0) session) object-so
+        (subst (λ (u : ℕ). OpenedFirst attributes table u object mask declared (replicate 128 0) session) user-so opened))
+
+    session-of : SessionOf S b attributes pairs session entries
+    session-of = record {
+      declarations = of .declarations;
+      attribute-rows = of .attribute-rows;
+      pair-rows = of .pair-rows;
+      opened = opens S b attributes table (replicate 128 0) session declared (of .attribute-rows) (of .sets) declared-so (zeros-hold 128) opened-words;
+      entries-of = of .entries-of;
+    }
+
+    rules-so : (rules : ℕ) → (getD counts 5 0 ≤ 32 → rules ≡ getD counts 5 0) → length (S .declared .rules) ≡ rules
+    rules-so rules e =
+        let all : getD counts 5 0 ≡ length (S .declared .rules) = of .counts-are .rules in
+        sym all ∙ sym (e (omega (arith, of .declarations .rules .few)))
+
+    pub by-rules : r ≡ false → (rules : ℕ) → (getD counts 5 0 ≤ 32 → rules ≡ getD counts 5 0) → (operation : ℕ) → operation ≡ getD block 3 0
+        → (d : Decision) → Decided targets code pairs session entries operation rules d → Answer (decisionOf d)
+    by-rules off rules w operation f d g =
+        g S b attributes
+        (record { operation-is = head-of block b (of .read) .operation ∙ sym f; rule-rows = of .rule-rows; session-of = session-of })
+        (rules-so rules w)
+        ∙ sym (ap (λ (t : Bool). if t then model.refused refusal.notHeld else model.decisionBy (verdicts S b)) (held-so ∙ off))
 
 -- ---- a request
 

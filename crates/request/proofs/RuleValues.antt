@@ -24,11 +24,10 @@ use Rattle.bits.specs.Bits.{anyBelow}
 use Rattle.bits.proofs.Counts.{any-more, any-none, any-find}
 use Rattle.truth.specs.declared.Truth as k3
 use Rattle.truth.specs.Truths.{truthOf}
-use Rattle.tokens.specs.RuleCode.{Coded}
 use Rattle.session.proofs.NamedOperands.{reads-number}
-use Rattle.policy.specs.Readers.{lending}
-use Rattle.policy.specs.Judgements.{Evaluated}
-use Rattle.book.specs.Held.{RuleHeld}
+use Rattle.values.specs.Operands.{lent}
+use Rattle.program.specs.Runs.{Ran}
+use Rattle.book.specs.Held.{codeOfRule, rowsOfRule, RuleHeld}
 use Rattle.request.specs.Requests.{ruleValue, RulesOf}
 
 -- ---- the value of a rule
@@ -107,18 +106,21 @@ module _ {S : State} {b : Block} {targets : List ℕ} {code : Bytes} {attributes
           absurd (h (held .word ∙ z ∙ of .operation-is))
 
   pub its-operation : getD targets k 0 ≡ operation → (t : k3.Truth)
-      → Evaluated (take (768 * k + 768 - 768 * k) (drop (768 * k) code)) (lending attributes pairs session entries) t → truthOf t ≡ ruleValue S b k
-  its-operation h t evaluated =
-      let stands = of .session-of .declarations .rules .each k rule (rule-there .1) in
-      let size : 768 ≡ 768 * k + 768 - 768 * k = omega arith in
+      → Ran (lent (take (768 * k + 768 - 768 * k) (drop (768 * k) code)) pairs session entries) (take (24576 + 256 * k + 256 - (24576 + 256 * k)) (drop (24576 + 256 * k) code)) t
+      → truthOf t ≡ ruleValue S b k
+  its-operation h t ran =
+      let size : 768 * k + 768 - 768 * k ≡ 768 = omega arith in
+      let rows-size : 24576 + 256 * k + 256 - (24576 + 256 * k) ≡ 256 = omega arith in
       let on : held .operation ≡ b .operation = sym (held .word) ∙ h ∙ sym (of .operation-is) in
       let same-one : (nth (decls .operations) (b .operation) is same (rule .operation)) ≡ true =
       ap (λ (i : ℕ). nth (decls .operations) i is same (rule .operation)) (sym on)
       ∙ ap (λ (o : Option Bytes). o is same (rule .operation)) (named .1) ∙ named .2 in
-      evaluated decls (rule .tokens)
-      (subst (λ (n : ℕ). Coded decls (take n (drop (768 * k) code)) 0 (rule .tokens)) size (held .tokens))
-      (stands .written) (stands .names-declared) (readBy S b)
-      (reads-number S b attributes pairs session entries (of .session-of) (take (768 * k + 768 - 768 * k) (drop (768 * k) code)))
+      let on-parts : Ran (lent (codeOfRule code k) pairs session entries) (rowsOfRule code k) t =
+      subst (λ (n : ℕ). Ran (lent (take n (drop (768 * k) code)) pairs session entries) (rowsOfRule code k) t) size
+      (subst (λ (n : ℕ). Ran (lent (take (768 * k + 768 - 768 * k) (drop (768 * k) code)) pairs session entries) (take n (drop (24576 + 256 * k) code)) t) rows-size ran) in
+      on-parts (meaningOf (readBy S b) (rule .tokens))
+      (held .program attributes (of .session-of .attribute-rows .row) pairs session entries (readBy S b)
+      (reads-number S b attributes pairs session entries (of .session-of) (codeOfRule code k)))
       ∙ sym (value-by S b k rule (rule-there .1) true same-one)
 
 -- ---- what the rules come to

@@ -30,9 +30,9 @@ abbrev pub numberAndValuesOf : Decision → ℕ × List ℕ
 numberAndValuesOf r = model.numberAndValues (decisionOf r)
 
 -- r is what the rules come to, whatever state and block they are those of
-abbrev pub Decided : List ℕ → Bytes → List ℕ → List ℕ → List ℕ → Bytes → ℕ → ℕ → Decision → Type 0
-Decided targets code attributes pairs session entries operation count r =
-    (S : State) (b : Block) → RulesOf S b targets code attributes pairs session entries operation → length (S .declared .rules) ≡ count
+abbrev pub Decided : List ℕ → Bytes → List ℕ → List ℕ → Bytes → ℕ → ℕ → Decision → Type 0
+Decided targets code pairs session entries operation count r =
+    (S : State) (b : Block) (attributes : List ℕ) → RulesOf S b targets code attributes pairs session entries operation → length (S .declared .rules) ≡ count
     → decisionOf r ≡ model.decisionBy (model.verdicts S b)
 
 -- r is what a request with no wrong number is answered

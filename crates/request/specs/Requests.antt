@@ -67,17 +67,16 @@ pub record RulesOf (S : State) (b : Block) (targets : List ℕ) (code : Bytes) (
   pub rule-rows : RuleRows targets code (S .declared)
   pub session-of : SessionOf S b attributes pairs session entries
 
--- the sections that the rules are evaluated on have their sizes
-pub record Sizes (targets : List ℕ) (code : Bytes) (attributes pairs : List ℕ) : Type 0 where
+-- the sections that the rules are run on have their sizes
+pub record Sizes (targets : List ℕ) (code : Bytes) (pairs : List ℕ) : Type 0 where
   pub targets-long : length targets ≡ section.rules .size
   pub code-long : length code ≡ ruleBytes
-  pub attributes-long : length attributes ≡ section.attributes .size
   pub pairs-long : length pairs ≡ pairRows .size
 
--- r is the value of rule k
-abbrev pub RuleValued : List ℕ → Bytes → List ℕ → List ℕ → List ℕ → Bytes → ℕ → ℕ → Truth → Type 0
-RuleValued targets code attributes pairs session entries operation k r =
-    (S : State) (b : Block) → RulesOf S b targets code attributes pairs session entries operation → k < length (S .declared .rules)
+-- r is the value of rule k, whatever rows of attributes the session is that of
+abbrev pub RuleValued : List ℕ → Bytes → List ℕ → List ℕ → Bytes → ℕ → ℕ → Truth → Type 0
+RuleValued targets code pairs session entries operation k r =
+    (S : State) (b : Block) (attributes : List ℕ) → RulesOf S b targets code attributes pairs session entries operation → k < length (S .declared .rules)
     → truthOf r ≡ ruleValue S b k
 
 -- what is lent for a request, of a state and a block

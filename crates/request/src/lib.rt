@@ -17,6 +17,8 @@ use book::HOLDERS_AT;
 use book::OPERATION_COUNT;
 use book::OPERATIONS_AT;
 use book::PAIR_ROWS_AT;
+use book::ROWS_AT;
+use book::ROWS_BYTES;
 use book::RULE_BYTES;
 use book::RULE_COUNT;
 use book::RULES_AT;
@@ -124,26 +126,33 @@ fn wrong_number(
     !entries_fit(attributes, entries)
 }
 
-// The value of rule k, evaluated on its code; FALSE, which decides nothing, where its target, the operation that it is for, is another.
+// The value of rule k, by a run over its code and its rows; FALSE, which decides nothing, where its target, the operation that it is for, is another.
 fn rule_value(
     targets: &[u64],
     code: &[u8],
-    attributes: &[u64],
     pairs: &[u64],
     session: &[u64; 128],
     entries: &[u8],
     operation: u8,
     k: usize,
 ) -> Truth
-    requires { ⌜ Sizes (now targets) (now code) (now attributes) (now pairs) × (k < 32) ⌝ }
-    ensures { λ r. ⌜ RuleValued (now (targets .entry)) (now (code .entry)) (now (attributes .entry)) (now (pairs .entry)) (now (session .entry)) (now (entries .entry)) operation k r ⌝ }
+    requires { ⌜ Sizes (now targets) (now code) (now pairs) × (k < 32) ⌝ }
+    ensures { λ r. ⌜ RuleValued (now (targets .entry)) (now (code .entry)) (now (pairs .entry)) (now (session .entry)) (now (entries .entry)) operation k r ⌝ }
 {
     if targets[k] != operation as u64 {
         return Truth::False;
     }
     let start = CODE_BYTES * k;
     let end = CODE_BYTES * k + CODE_BYTES;
-    policy::evaluate(&code[start..end], attributes, pairs, session, entries)
+    let first = ROWS_AT + ROWS_BYTES * k;
+    let last = ROWS_AT + ROWS_BYTES * k + ROWS_BYTES;
+    program::run(
+        &code[start..end],
+        &code[first..last],
+        pairs,
+        session,
+        entries,
+    )
 }
 
 fn is_true(t: Truth) -> bool
@@ -171,28 +180,18 @@ fn or_undef(before: bool, t: Truth) -> bool
 fn decided(
     targets: &[u64],
     code: &[u8],
-    attributes: &[u64],
     pairs: &[u64],
     session: &[u64; 128],
     entries: &[u8],
     operation: u8,
     count: usize,
 ) -> Decision
-    requires { ⌜ Sizes (now targets) (now code) (now attributes) (now pairs) × (count ≤ 32) ⌝ }
-    ensures { λ r. ⌜ Decided (now (targets .entry)) (now (code .entry)) (now (attributes .entry)) (now (pairs .entry)) (now (session .entry)) (now (entries .entry)) operation count r ⌝ }
+    requires { ⌜ Sizes (now targets) (now code) (now pairs) × (count ≤ 32) ⌝ }
+    ensures { λ r. ⌜ Decided (now (targets .entry)) (now (code .entry)) (now (pairs .entry)) (now (session .entry)) (now (entries .entry)) operation count r ⌝ }
 {
     let mut undefined = false;
     for k in 0..count {
-        let value = rule_value(
-            targets,
-            code,
-            attributes,
-            pairs,
-            session,
-            entries,
-            operation,
-            k,
-        );
+        let value = rule_value(targets, code, pairs, session, entries, operation, k);
         if is_true(value) {
             let rule = k as u8;
             return Decision::Permit(rule);
@@ -215,7 +214,7 @@ fn in_room(n: u64) -> usize
     32
 }
 
-// A request with no wrong number: 17, or what its rules come to. Both are read off the session that is opened for it, of the declared attributes.
+// A request with no wrong number: 17, or what its rules come to on the session that is opened for it, of the declared attributes.
 fn answered(
     counts: &[u64],
     targets: &[u64],
@@ -226,12 +225,15 @@ fn answered(
     block: &[u8],
     entries: &[u8],
 ) -> Decision
-    requires { ⌜ (length (now counts) ≡ 8) × Sizes (now targets) (now code) (now attributes) (now pairs) × (10 ≤ length (now block)) ⌝ }
+    requires { ⌜ (length (now counts) ≡ 8) × Sizes (now targets) (now code) (now pairs) × (length (now attributes) ≡ 256) × (10 ≤ length (now block)) ⌝ }
     ensures { λ r. ⌜ Answered (now (counts .entry)) (now (targets .entry)) (now (code .entry)) (now (attributes .entry)) (now (pairs .entry)) (now (table .entry)) (now (block .entry)) (now (entries .entry)) r ⌝ }
 {
     let user = codes::byte_to_index(block[1]);
-    let object = codes::byte_to_index(block[2]);
     let mask = values::four(block, 4) as u32;
+    if session::unheld(attributes, table, user, mask) {
+        return Decision::Refused(NOT_HELD);
+    }
+    let object = codes::byte_to_index(block[2]);
     let declared = in_room(counts[ATTRIBUTE_COUNT]);
     let mut session: [u64; 128] = [0; 128];
     session::open(
@@ -243,20 +245,8 @@ fn answered(
         declared,
         &mut session,
     );
-    if session::unheld(attributes, &session, mask) {
-        return Decision::Refused(NOT_HELD);
-    }
     let rules = in_room(counts[RULE_COUNT]);
-    decided(
-        targets,
-        code,
-        attributes,
-        pairs,
-        &session,
-        entries,
-        block[3],
-        rules,
-    )
+    decided(targets, code, pairs, &session, entries, block[3], rules)
 }
 
 // Decides a request: its block, on a book with the code of its rules, and the table.

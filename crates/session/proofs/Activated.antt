@@ -1,8 +1,8 @@
--- Refusal 17, read off the session. Assumes nothing.
+-- Refusal 17, read off the table. Assumes nothing.
 use Prim.Native.Nat.{ℕ, zero, suc, _+_, _-_, _*_, _<_}
 use native.Mathlib.Omega.{arith}
 use mathlib.Core.Path.{_≡_, refl, sym, ap, ap₂, _∙_}
-use mathlib.Core.Bool.{Bool, true, false, not, _&&_, true≢false}
+use mathlib.Core.Bool.{Bool, true, false, not, _&&_, and-comm, true≢false}
 use mathlib.Core.List.{List, [], _∷_, _++_}
 use mathlib.Core.Option.{Option, none, some}
 use lib.Dec.{eqb, ltb}
@@ -18,17 +18,16 @@ use Rattle.model.specs.Session.{pairsOf, held}
 use Rattle.model.specs.Standing.{WellDeclared}
 use Rattle.model.specs.Refusals.{isHeld, notHeld}
 use Rattle.model.proofs.Lists.{any-ext, in-below}
-use Rattle.bits.specs.Bits.{bit, holds, anyBelow}
+use Rattle.bits.specs.Bits.{bit, anyBelow}
 use Rattle.codes.specs.Codes.{sourceCode}
 use Rattle.text.specs.declared.Words.{Words}
 use Rattle.text.specs.Values.{atomWords}
-use Rattle.rows.specs.Rows.{AttributeRows, PairRows, isPairOf}
+use Rattle.rows.specs.Rows.{AttributeRows, PairRows, masked, isPairOf}
 use Rattle.rows.proofs.FirstPlaces.{place-first}
 use Rattle.model.proofs.Declared.{eq-named}
 use Rattle.values.specs.Operands.{upFrom, chosen, pairWords}
-use Rattle.session.specs.Opened.{readsPair, mayRead, Opened}
-use Rattle.session.specs.Words.{heldWords, unheldWords}
-use Rattle.session.proofs.Opens.{mask-bit, no-attribute}
+use Rattle.session.specs.Words.{inTable, SetOf, heldIn, unheldIn}
+use Rattle.session.proofs.Opens.{its-set, mask-bit, no-attribute}
 use Rattle.session.proofs.NamedOperands.{held-pairs}
 
 -- lists
@@ -76,12 +75,15 @@ is-user Source.admin e = absurd (true≢false (sym e))
 is-user Source.env e = absurd (true≢false (sym e))
 is-user Source.connect e = absurd (true≢false (sym e))
 
-module _ (S : State) (b : Block) (attributes pairs session : List ℕ) (declarations : WellDeclared (S .declared))
-    (attribute-rows : AttributeRows attributes (S .declared)) (pair-rows : PairRows pairs (S .declared)) (opened : Opened S b session) where
+module _ (S : State) (b : Block) (attributes pairs table : List ℕ) (declarations : WellDeclared (S .declared))
+    (attribute-rows : AttributeRows attributes (S .declared)) (pair-rows : PairRows pairs (S .declared)) (user-set : SetOf S table (b .user)) where
   abbrev D : Declarations
   D = S .declared
 
   module _ (k : ℕ) (small : k < 32) where
+    abbrev here : ℕ → Bool
+    here p = inTable table (b .user) p && masked attributes k p
+
     -- a user attribute has the number of its place
     number-so : (a : Attribute) → nth (D .attributes) k ≡ some a → attributeNumber D (a .source) (a .name) ≡ some k
     unfolding attributeNumber
@@ -94,53 +96,40 @@ module _ (S : State) (b : Block) (attributes pairs session : List ℕ) (declarat
         other i c l e false q = q
         other i c l e true q = let z = declarations .attributes .unique i k c a e at q in absurd (omega arith)
 
-    module _ (on : activated b k ≡ true) (a : Attribute) (at : nth (D .attributes) k ≡ some a) (user : a .source ≡ Source.user) where
-      -- the pairs of an activated user attribute in the session
-      here-so : (p : ℕ) → p < 256 → holds session k p ≡ (isPairOf D k p && effectiveSet D (S .ties) (b .user) p)
-      unfolding mayRead
-      here-so p h =
-          opened k p small h
-          ∙ ap (λ (t : Bool). isPairOf D k p && t)
-          (ap (λ (o : Option Attribute). o is λ c. readsPair S b k p (c .source)) at
-          ∙ ap (readsPair S b k p) user
-          ∙ ap (λ (t : Bool). t && effectiveSet D (S .ties) (b .user) p) on)
+    -- the pairs of the attribute in the user's set
+    here-so : (p : ℕ) → p < 256 → here p ≡ (isPairOf D k p && effectiveSet D (S .ties) (b .user) p)
+    here-so p h =
+        ap₂ (λ (t u : Bool). t && u) (its-set S table (b .user) p user-set h) (attribute-rows .mask k p small h)
+        ∙ and-comm (effectiveSet D (S .ties) (b .user) p) (isPairOf D k p)
 
-      held-so : anyBelow 256 (holds session k) ≡ ltb 0 (length (held S (b .user) Source.user (a .name)))
-      unfolding held pairsOf
-      held-so =
-          let number : attributeNumber D Source.user (a .name) ≡ some k = ap (λ (s : Source). attributeNumber D s (a .name)) (sym user) ∙ number-so a at in
-          some-chosen (holds session k) (pairWords pairs) 256
-          ∙ ap (λ (l : List Words). not (isEmpty l))
-          (held-pairs declarations Source.user (a .name) k number pairs pair-rows (effectiveSet D (S .ties) (b .user)) (holds session k) here-so)
-          ∙ some-mapped atomWords (held S (b .user) Source.user (a .name))
+    held-so : (a : Attribute) → nth (D .attributes) k ≡ some a → a .source ≡ Source.user → anyBelow 256 here ≡ ltb 0 (length (held S (b .user) Source.user (a .name)))
+    unfolding held pairsOf
+    held-so a at user =
+        let number : attributeNumber D Source.user (a .name) ≡ some k = ap (λ (s : Source). attributeNumber D s (a .name)) (sym user) ∙ number-so a at in
+        some-chosen here (pairWords pairs) 256
+        ∙ ap (λ (l : List Words). not (isEmpty l))
+        (held-pairs declarations Source.user (a .name) k number pairs pair-rows (effectiveSet D (S .ties) (b .user)) here here-so)
+        ∙ some-mapped atomWords (held S (b .user) Source.user (a .name))
 
-    held-attribute : activated b k ≡ true → heldWords attributes session k ≡ isHeld S b k
-    unfolding heldWords isHeld
-    held-attribute on = go (nth (D .attributes) k) refl
+    held-attribute : heldIn attributes table (b .user) k ≡ isHeld S b k
+    unfolding heldIn isHeld
+    held-attribute = go (nth (D .attributes) k) refl
       where
         known : (a : Attribute) → nth (D .attributes) k ≡ some a → (t : Bool) → sameSource (a .source) Source.user ≡ t
-            → (t && anyBelow 256 (holds session k)) ≡ (t && ltb 0 (length (held S (b .user) Source.user (a .name))))
-        known a at true e = held-so on a at (is-user (a .source) e)
+            → (t && anyBelow 256 here) ≡ (t && ltb 0 (length (held S (b .user) Source.user (a .name))))
+        known a at true e = held-so a at (is-user (a .source) e)
         known a at false e = refl
 
         go : (o : Option Attribute) → nth (D .attributes) k ≡ o
-            → (eqb (getD attributes (8 * k) 0) 1 && anyBelow 256 (holds session k))
+            → (eqb (getD attributes (8 * k) 0) 1 && anyBelow 256 here)
             ≡ (o is λ a. sameSource (a .source) Source.user && ltb 0 (length (held S (b .user) Source.user (a .name))))
         go (some a) at =
-            ap (λ (t : Bool). t && anyBelow 256 (holds session k)) (ap (λ (n : ℕ). eqb n 1) (attribute-rows .row k a at .source) ∙ user-source (a .source))
+            ap (λ (t : Bool). t && anyBelow 256 here) (ap (λ (n : ℕ). eqb n 1) (attribute-rows .row k a at .source) ∙ user-source (a .source))
             ∙ known a at (sameSource (a .source) Source.user) refl
-        go none at =
-            ap (λ (n : ℕ). eqb n 1 && anyBelow 256 (holds session k)) (attribute-rows .other k (no-attribute (D .attributes) k at) small)
+        go none at = ap (λ (n : ℕ). eqb n 1 && anyBelow 256 here) (attribute-rows .other k (no-attribute (D .attributes) k at) small)
 
-    unheld-attribute : (bit (b .mask) k && not (heldWords attributes session k)) ≡ (activated b k && not (isHeld S b k))
-    unheld-attribute = ap (λ (t : Bool). t && not (heldWords attributes session k)) (mask-bit b k) ∙ go (activated b k) refl
-      where
-        go : (t : Bool) → activated b k ≡ t → (t && not (heldWords attributes session k)) ≡ (t && not (isHeld S b k))
-        go true e = ap not (held-attribute e)
-        go false e = refl
-
-  pub unheld-so : unheldWords attributes session (b .mask) ≡ notHeld S b
+  pub unheld-so : unheldIn attributes table (b .user) (b .mask) ≡ notHeld S b
   unfolding notHeld anyBelow
   unheld-so =
-      any-ext (λ k. bit (b .mask) k && not (heldWords attributes session k)) (λ k. activated b k && not (isHeld S b k)) (below 32)
-      (λ k m. unheld-attribute k (in-below 32 m))
+      any-ext (λ k. bit (b .mask) k && not (heldIn attributes table (b .user) k)) (λ k. activated b k && not (isHeld S b k)) (below 32)
+      (λ k m. ap₂ (λ (t u : Bool). t && not u) (mask-bit b k) (held-attribute k (in-below 32 m)))

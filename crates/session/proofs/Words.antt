@@ -1,5 +1,5 @@
 -- The words of a session. Assumes nothing.
-use Prim.Native.Nat.{ℕ, _+_, _-_, _*_, _/_, _%_, _≤_, _<_}
+use Prim.Native.Nat.{ℕ, _+_, _*_, _/_, _%_, _≤_, _<_}
 use native.Mathlib.Omega.{arith}
 use native.Mathlib.Decide.{ℕ-discrete, decLt}
 use mathlib.Core.Path.{_≡_, refl, sym, ap, ap₂, _∙_}
@@ -7,16 +7,16 @@ use mathlib.Core.Bool.{Bool, true, false, not, _&&_, Bool·beq}
 use mathlib.Core.List.{List, [], _∷_}
 use lib.Bits.{bitAnd}
 use lib.Dec.{eqb, ltb}
-use lib.ListN.{length, getD, set, take, drop, length-set}
+use lib.ListN.{length, getD, set, length-set}
 use lib.Seq.{getD-set-same, getD-set-other}
 use borrow.Author.Tests.{eq-eqb, ne-eqb, lt-ltb, le-ltb}
 use Rattle.model.specs.Notation.{if_then_else_}
-use Rattle.bits.specs.Bits.{bit, member, holds, anyBelow, differ}
+use Rattle.bits.specs.Bits.{bit, member, Numbers, holds, anyBelow, differ}
 use Rattle.bits.proofs.Bits.{bit-and}
-use Rattle.bits.proofs.Sets.{four, member-none, member-part}
+use Rattle.bits.proofs.Sets.{four, member-none}
 use Rattle.bits.proofs.Counts.{any-ext}
 use Rattle.rows.specs.Rows.{masked}
-use Rattle.session.specs.Words.{holderFor, inTable, openedPair, OpenedFirst, WordsWritten, heldWords}
+use Rattle.session.specs.Words.{holderFor, inTable, openedPair, OpenedFirst, WordsWritten, heldIn}
 
 -- the holder whose set is read, by the source
 module _ (rows : List ℕ) (nobody user object mask k : ℕ) where
@@ -165,17 +165,20 @@ module _ (rows table : List ℕ) (user object mask k : ℕ) (start before after 
 
 -- ---- held attributes
 
-module _ (rows session : List ℕ) (k : ℕ) where
-  pub not-user : (getD rows (8 * k) 0 ≡ 1 → ⊥) → false ≡ heldWords rows session k
-  unfolding heldWords
-  not-user n = sym (ap (λ (t : Bool). t && anyBelow 256 (holds session k)) (ne-eqb (getD rows (8 * k) 0) 1 n))
+module _ (rows table : List ℕ) (user k : ℕ) where
+  abbrev here : ℕ → Bool
+  here p = inTable table user p && masked rows k p
 
-  pub some-pair : getD rows (8 * k) 0 ≡ 1 → differ 256 (take (4 * k + 4 - 4 * k) (drop (4 * k) session)) (0 ∷ 0 ∷ 0 ∷ 0 ∷ []) ≡ heldWords rows session k
-  unfolding heldWords differ
-  some-pair e =
-      any-ext 256 (λ p. not (Bool·beq (member (take (4 * k + 4 - 4 * k) (drop (4 * k) session)) p) (member (0 ∷ 0 ∷ 0 ∷ 0 ∷ []) p))) (holds session k)
-      (λ p h. ap₂ (λ (t u : Bool). not (Bool·beq t u)) (member-part session k p h) (member-none p h) ∙ unlike-false (holds session k p))
-      ∙ sym (ap (λ (t : Bool). t && anyBelow 256 (holds session k)) (eq-eqb (getD rows (8 * k) 0) 1 e))
+  pub not-user : (getD rows (8 * k) 0 ≡ 1 → ⊥) → false ≡ heldIn rows table user k
+  unfolding heldIn
+  not-user n = sym (ap (λ (t : Bool). t && anyBelow 256 here) (ne-eqb (getD rows (8 * k) 0) 1 n))
+
+  pub some-pair : getD rows (8 * k) 0 ≡ 1 → (words : List ℕ) → Numbers 256 words here → differ 256 words (0 ∷ 0 ∷ 0 ∷ 0 ∷ []) ≡ heldIn rows table user k
+  unfolding heldIn differ
+  some-pair e words word =
+      any-ext 256 (λ p. not (Bool·beq (member words p) (member (0 ∷ 0 ∷ 0 ∷ 0 ∷ []) p))) here
+      (λ p h. ap₂ (λ (t u : Bool). not (Bool·beq t u)) (word p h) (member-none p h) ∙ unlike-false (here p))
+      ∙ sym (ap (λ (t : Bool). t && anyBelow 256 here) (eq-eqb (getD rows (8 * k) 0) 1 e))
     where
       unlike-false : (t : Bool) → not (Bool·beq t false) ≡ t
       unlike-false true = refl

@@ -42,13 +42,13 @@ pub record SetOf (S : State) (table : List ℕ) (k : ℕ) : Type 0 where
   pub within : k < length table / 4
   pub pairs : (p : ℕ) → p < pairLimit → holds table k p ≡ effectiveSet (S .declared) (S .ties) k p
 
--- attribute k is a user attribute of which the session has some pair
-unfoldable pub heldWords : List ℕ → List ℕ → ℕ → Bool
-heldWords rows session k = eqb (getD rows (8 * k) 0) 1 && anyBelow pairLimit (holds session k)
+-- attribute k is a user attribute of which the user's set has some pair
+unfoldable pub heldIn : List ℕ → List ℕ → ℕ → ℕ → Bool
+heldIn rows table user k = eqb (getD rows (8 * k) 0) 1 && anyBelow pairLimit (λ p. inTable table user p && masked rows k p)
 
 -- some activated attribute is none
-abbrev pub unheldWords : List ℕ → List ℕ → ℕ → Bool
-unheldWords rows session mask = anyBelow maskBits (λ k. bit mask k && not (heldWords rows session k))
+abbrev pub unheldIn : List ℕ → List ℕ → ℕ → ℕ → Bool
+unheldIn rows table user mask = anyBelow maskBits (λ k. bit mask k && not (heldIn rows table user k))
 
 -- the sets that a request reads
 pub record SetsOf (S : State) (b : Block) (table : List ℕ) : Type 0 where

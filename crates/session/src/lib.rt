@@ -5,7 +5,7 @@ ghost use lib.ListN.{length};
 ghost use Rattle.bits.specs.Bits.{member, Numbers};
 ghost use Rattle.rows.specs.Rows.{masked};
 ghost use mathlib.Core.Bool.{_&&_};
-ghost use Rattle.session.specs.Words.{holderFor, inTable, OpenedFirst, WordsWritten, heldWords, unheldWords};
+ghost use Rattle.session.specs.Words.{holderFor, inTable, OpenedFirst, WordsWritten, heldIn, unheldIn};
 use codes::ADMIN;
 use codes::OBJECT;
 use codes::USER;
@@ -86,30 +86,28 @@ pub fn open(
     }
 }
 
-// Whether attribute k is a user attribute of which the session has a pair.
-fn is_held(attributes: &[u64], session: &[u64; 128], k: usize) -> bool
+// Whether attribute k is a user attribute of which the user has a pair.
+fn is_held(attributes: &[u64], table: &[u64], user: usize, k: usize) -> bool
     requires { ⌜ (length (now attributes) ≡ 256) × (k < 32) ⌝ }
-    ensures { λ r. ⌜ r ≡ heldWords (now (attributes .entry)) (now (session .entry)) k ⌝ }
+    ensures { λ r. ⌜ r ≡ heldIn (now (attributes .entry)) (now (table .entry)) user k ⌝ }
 {
     if attributes[8 * k] != USER as u64 {
         return false;
     }
-    let words = &session[..];
-    let start = 4 * k;
-    let end = 4 * k + 4;
+    let words = words_of(attributes, table, user, k);
     let none = [0u64; 4];
-    bits::differs(&words[start..end], &none)
+    bits::differs(&words, &none)
 }
 
-// "17: activated bit that is no user attribute held by that user": the session of the mask has a user's pairs of activated attributes alone.
-pub fn unheld(attributes: &[u64], session: &[u64; 128], mask: u32) -> bool
+// "17: activated bit that is no user attribute held by that user": read off the table, so that a refused request opens no session.
+pub fn unheld(attributes: &[u64], table: &[u64], user: usize, mask: u32) -> bool
     requires { ⌜ length (now attributes) ≡ 256 ⌝ }
-    ensures { λ r. ⌜ r ≡ unheldWords (now (attributes .entry)) (now (session .entry)) mask ⌝ }
+    ensures { λ r. ⌜ r ≡ unheldIn (now (attributes .entry)) (now (table .entry)) user mask ⌝ }
 {
     let mut left = mask as u64;
     while left != 0 {
         let k = bits::lowest(left);
-        if !is_held(attributes, session, k) {
+        if !is_held(attributes, table, user, k) {
             return true;
         }
         left = bits::without(left, k);

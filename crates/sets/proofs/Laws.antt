@@ -4,20 +4,20 @@ use mathlib.Core.Path.{_≡_, refl, sym, ap, _∙_, subst}
 use mathlib.Core.Logic.{_⊎_, inl, inr, ⊎-elim}
 use mathlib.Core.Bool.{Bool, true, false, not, _&&_, _||_, or-true, or-false, and-true, true≢false}
 use mathlib.Core.List.{List}
-use native.Mathlib.Decide.{ℕ-discrete, decLt}
+use native.Mathlib.Decide.{ℕ-discrete}
 use native.Mathlib.Numerals.{sub-one}
 use native.Mathlib.Omega.{arith}
-use lib.ListN.{getD, length, List·getD-eq-default}
+use lib.ListN.{getD, length}
 use lib.Dec.{eqb}
-use borrow.Author.Tests.{eq-eqb, eqb-true, ne-eqb}
+use borrow.Author.Tests.{eq-eqb, eqb-true, ne-eqb, not-true}
 use Rattle.model.proofs.Options.{parts, both}
 use Rattle.model.proofs.Lists.{or-cases}
-use Rattle.bits.specs.Bits.{bit, member, holds, anyBelow}
+use Rattle.bits.specs.Bits.{bit, holds, anyBelow}
 use Rattle.bits.proofs.Counts.{any-ext, any-find, find-any}
 use Rattle.bits.proofs.Bits.{bit-none}
-use Rattle.ties.specs.TieArrays.{inUse, tiedUp, Distinct}
+use Rattle.ties.specs.TieArrays.{inUse, grouped, tiedUp, meets, Distinct, TellsGroups}
 use Rattle.ties.proofs.Masks.{in-use-lt}
-use Rattle.sets.specs.Settled.{Solves, RightAt, Right, Stored, ShortChains, Chain, one, more, Deep, Settled, Spared, AllDeep, GroupsRight, NoGroups, MarksChanged, StoredEach, StoredTied}
+use Rattle.sets.specs.Settled.{Solves, RightAt, Right, Stored, ShortChains, Chain, one, more, Deep, Settled, Spared, AllDeep, GroupsRight, partyBelow, MarksChanged, PartiesStored, StoredTied}
 use Rattle.sets.proofs.LentSets.{holds-kept}
 use Rattle.sets.proofs.Telling.{SameAt, others-same, told-none, told-more}
 
@@ -221,60 +221,60 @@ module _ {ups own slots t t₁ t₂ m m₁ m₂ : List ℕ} {d d₁ : ℕ} {deep
   pub settled-own : Settled ups own slots t t₂ m m₂ d d₂ deep (λ g. g ≡ group)
   settled-own = settled-more (λ g. g ≡ group) a own-settled (λ x. x) (λ g x. inr x)
 
--- ---- stored sets
+-- ---- the parties below, one after another
 
-module _ {ups own slots wanted t t₁ m m₁ : List ℕ} (k : ℕ) (a : StoredEach ups own slots wanted t t₁ m m₁ k) where
+pub parties-none : (ups own slots slotOf : List ℕ) (below : ℕ) (t m : List ℕ) → PartiesStored ups own slots slotOf below t t m m 0
+parties-none ups own slots slotOf below t m = record { right = λ f s r tells i l on. absurd (omega arith); others = λ j out. refl; told = told-none m t }
+
+-- neither a group nor a holder with no tie into the mask is a party below; any other is
+module _ (ups slotOf : List ℕ) (below k : ℕ) where
+  pub group-no-party : grouped slotOf k ≡ true → partyBelow ups slotOf below k ≡ true → ⊥
+  unfolding partyBelow
+  group-no-party g on = true≢false (sym g ∙ not-true (grouped slotOf k) (parts (meets (getD ups k 0) below) (not (grouped slotOf k)) on .1))
+
+  pub apart-no-party : meets (getD ups k 0) below ≡ false → partyBelow ups slotOf below k ≡ true → ⊥
+  unfolding partyBelow
+  apart-no-party off on = true≢false (sym (parts (meets (getD ups k 0) below) (not (grouped slotOf k)) on .0) ∙ off)
+
+  pub party-by : meets (getD ups k 0) below ≡ true → grouped slotOf k ≡ false → partyBelow ups slotOf below k ≡ true
+  unfolding partyBelow
+  party-by on off = both on (ap not off)
+
+module _ {ups own slots slotOf t t₁ m m₁ : List ℕ} {below k : ℕ} (a : PartiesStored ups own slots slotOf below t t₁ m m₁ k) where
+  pub party-passed : (partyBelow ups slotOf below k ≡ true → ⊥) → PartiesStored ups own slots slotOf below t t₁ m m₁ (k + 1)
+  party-passed off = record {
+    right = λ f s r tells i l on. a .right f s r tells i (before i l on (ℕ-discrete i k)) on;
+    others = λ j out. a .others j (λ on l. out on (omega arith));
+    told = a .told;
+  }
+    where
+      before : (i : ℕ) → i < k + 1 → partyBelow ups slotOf below i ≡ true → Dec (i ≡ k) → i < k
+      before i l on (yes e) = absurd (off (ap (partyBelow ups slotOf below) (sym e) ∙ on))
+      before i l on (no n) = omega arith
+
   -- the groups' words have stayed
-  groups-stay : (f : ℕ → ℕ → Bool) → GroupsRight (length ups) slots f t → NoGroups (length ups) slots wanted → GroupsRight (length ups) slots f t₁
-  unfolding GroupsRight NoGroups RightAt
-  groups-stay f r no-groups g l u p h =
-      holds-kept t t₁ (getD slots g 0) p h (λ j e. a .others j (λ on few. true≢false (sym on ∙ ap (member wanted) e ∙ no-groups g l u))) ∙ r g l u p h
+  groups-stay : (f : ℕ → ℕ → Bool) → GroupsRight (length ups) slots f t → TellsGroups (length ups) slots slotOf → GroupsRight (length ups) slots f t₁
+  unfolding GroupsRight RightAt
+  groups-stay f r tells g l u p h =
+      holds-kept t t₁ (getD slots g 0) p h
+      (λ j e. a .others j (λ on few. group-no-party ups slotOf below (getD slots g 0) (tells .told g l u) (ap (partyBelow ups slotOf below) (sym e) ∙ on))) ∙ r g l u p h
 
-  -- holder k is stored, and the next of the set is n
-  pub each-taken : {t₂ m₂ : List ℕ} (mask n : ℕ) → k < length ups → length t₁ ≡ 4 * length ups → mask ≡ getD ups k 0 → member wanted k ≡ true
-      → Stored own slots k mask t₁ t₂ → MarksChanged m₁ m₂ t₁ t₂ → k < n → ((j : ℕ) → k + 1 ≤ j → j < n → member wanted j ≡ false) → StoredEach ups own slots wanted t t₂ m m₂ n
+  pub party-stored : {t₂ m₂ : List ℕ} (mask : ℕ) → k < length ups → length t₁ ≡ 4 * length ups → mask ≡ getD ups k 0 → partyBelow ups slotOf below k ≡ true
+      → Stored own slots k mask t₁ t₂ → MarksChanged m₁ m₂ t₁ t₂ → PartiesStored ups own slots slotOf below t t₂ m m₂ (k + 1)
   unfolding GroupsRight
-  each-taken {t₂} mask n few long by on b c less none = record {
-    right = λ f s r no-groups i l o.
-        let r₁ = groups-stay f r no-groups in
-        go f s r no-groups r₁ i o (ℕ-discrete i k) (decLt i k) l;
-    others = λ j out. b .others j (λ e. out (ap (member wanted) e ∙ on) (omega arith)) ∙ a .others j (λ o l. out o (omega arith));
+  party-stored {t₂} mask few long by party b c = record {
+    right = λ f s r tells i l on. go f s (groups-stay f r tells) i (ℕ-discrete i k) (λ n. a .right f s r tells i (omega arith) on);
+    others = λ j out. b .others j (λ e. out (ap (partyBelow ups slotOf below) e ∙ party) (omega arith)) ∙ a .others j (λ on l. out on (omega arith));
     told = told-more (a .told) c (λ i. once i (ℕ-discrete i k));
   }
     where
-      go : (f : ℕ → ℕ → Bool) → Solves ups own slots f → GroupsRight (length ups) slots f t → NoGroups (length ups) slots wanted → GroupsRight (length ups) slots f t₁
-          → (i : ℕ) → member wanted i ≡ true → Dec (i ≡ k) → Dec (i < k) → i < n → RightAt f t₂ i
-      go f s r no-groups r₁ i o (yes e) d l = subst (RightAt f t₂) (sym e) (stored-right ups own slots k mask f s few long by b (λ q l u o. r₁ q l u))
-      go f s r no-groups r₁ i o (no x) (yes d) l = other-right own slots k mask i f b x (a .right f s r no-groups i d o)
-      go f s r no-groups r₁ i o (no x) (no d) l = absurd (true≢false (sym o ∙ none i (above i x d) l))
-        where
-          above : (i : ℕ) → (i ≡ k → ⊥) → (i < k → ⊥) → k + 1 ≤ i
-          above i x d = omega arith
+      go : (f : ℕ → ℕ → Bool) → Solves ups own slots f → GroupsRight (length ups) slots f t₁ → (i : ℕ) → Dec (i ≡ k) → ((i ≡ k → ⊥) → RightAt f t₁ i) → RightAt f t₂ i
+      go f s r i (yes e) y = subst (RightAt f t₂) (sym e) (stored-right ups own slots k mask f s few long by b (λ q l u on. r q l u))
+      go f s r i (no n) y = other-right own slots k mask i f b n (y n)
 
       once : (i : ℕ) → Dec (i ≡ k) → SameAt t t₁ i ⊎ SameAt t₁ t₂ i
-      once i (yes e) = inl (λ j x. a .others j (λ o l. omega arith))
-      once i (no x) = inr (others-same b i x)
-
--- at the start none is stored, and none of the set lies before the first
-pub each-none : (ups own slots wanted t m : List ℕ) (n : ℕ) → ((j : ℕ) → 0 ≤ j → j < n → member wanted j ≡ false) → StoredEach ups own slots wanted t t m m n
-each-none ups own slots wanted t m n none = record {
-  right = λ f s r no-groups i l o. absurd (true≢false (sym o ∙ none i (omega arith) l));
-  others = λ j out. refl;
-  told = told-none m t;
-}
-
--- the walk is behind the last holder
-pub each-all : {ups own slots wanted t t₁ m m₁ : List ℕ} (k : ℕ) → length ups ≤ k → length t ≡ 4 * length ups → length t₁ ≡ 4 * length ups
-    → StoredEach ups own slots wanted t t₁ m m₁ k → StoredEach ups own slots wanted t t₁ m m₁ (length ups)
-each-all {ups} {own} {slots} {wanted} {t} {t₁} k l long long₁ a = record {
-  right = λ f s r no-groups i x o. a .right f s r no-groups i (omega arith) o;
-  others = λ j out. go j out (decLt (j / 4) (length ups));
-  told = a .told;
-}
-  where
-    go : (j : ℕ) → (member wanted (j / 4) ≡ true → j / 4 < length ups → ⊥) → Dec (j / 4 < length ups) → getD t₁ j 0 ≡ getD t j 0
-    go j out (yes d) = a .others j (λ o x. out o d)
-    go j out (no d) = List·getD-eq-default t₁ 0 {n = j} (omega arith) ∙ sym (List·getD-eq-default t 0 {n = j} (omega arith))
+      once i (yes e) = inl (λ j x. a .others j (λ on l. omega arith))
+      once i (no n) = inr (others-same b i n)
 
 -- ---- the holders that have a tie up, one after another
 

@@ -7,9 +7,9 @@ use mathlib.Core.List.{List}
 use native.Mathlib.Nat.{eq-or-lt-of-le, lt-of-lt-of-le}
 use native.Mathlib.Decide.{decLt}
 use native.Mathlib.Omega.{arith}
-use lib.Dec.{eqb, ltb}
+use lib.Dec.{eqb}
 use lib.ListN.{length, getD, replicate, List·getD-eq-default, getD-replicate, length-replicate}
-use borrow.Author.Tests.{eq-eqb, eqb-true, ne-eqb, lt-ltb, not-true, not-false}
+use borrow.Author.Tests.{eq-eqb, eqb-true, ne-eqb, not-true, not-false}
 use Rattle.model.specs.Notation.{map}
 use Rattle.model.specs.Declarations.{Declarations, Holder, isHolder, holderNumbersOf}
 use Rattle.model.specs.Ties.{Ties}
@@ -25,18 +25,18 @@ use Rattle.bits.specs.Bits.{bit, member, holds, anyBelow, countBelow}
 use Rattle.bits.proofs.Bits.{bit-none, bit-not}
 use Rattle.bits.proofs.Sets.{same-beq}
 use Rattle.bits.proofs.Counts.{any-ext, any-suc, any-at, any-find, find-any, count-ext, count-below-le}
-use Rattle.ties.specs.TieArrays.{inUse, tiedUp, meets, hasSlot, groupOf, under, Room, Under, here, over, Marks}
+use Rattle.ties.specs.TieArrays.{inUse, grouped, tiedUp, meets, under, Distinct, TellsGroups, Room, Under, here, over, Marks}
 use Rattle.ties.proofs.Masks.{in-use-lt}
-use Rattle.ties.proofs.Keeps.{slot-group, group-any}
+use Rattle.ties.proofs.Widening.{none-below}
 use Rattle.ties.proofs.Below.{above-meets, holders-fit}
-use Rattle.sets.specs.Settled.{Solves, RightAt, Right, Stored, MarksChanged, unlike, Settled, AllDeep, StoredEach}
+use Rattle.sets.specs.Settled.{Solves, RightAt, Right, Stored, unlike, Settled, AllDeep, GroupsRight, partyBelow, PartiesStored}
 use Rattle.sets.specs.Filled.{KeepsSets}
 use Rattle.sets.specs.Refreshed.{EditedAt, Elsewhere, Rewritten, Refreshed}
 use Rattle.sets.proofs.LentSets.{holds-kept}
 use Rattle.sets.proofs.Telling.{SameAt, unlike-past, others-same, told-more}
-use Rattle.sets.proofs.Laws.{masked, stored-right}
-use Rattle.sets.proofs.Tables.{sets-table, table-sets, pair-declared, no-holder}
-use Rattle.sets.proofs.Solving.{all-deep, effective-solves, groups-right, each-right}
+use Rattle.sets.proofs.Laws.{stored-right, group-no-party, apart-no-party, party-by}
+use Rattle.sets.proofs.Tables.{pair-declared, no-holder}
+use Rattle.sets.proofs.Solving.{all-deep, effective-solves, groups-right}
 
 -- none passes from n on
 any-rest : (n m : ℕ) (f : ℕ → Bool) → n ≤ m → ((i : ℕ) → n ≤ i → i < m → f i ≡ false) → anyBelow m f ≡ anyBelow n f
@@ -96,7 +96,7 @@ module _ (ups slots : List ℕ) (e m : ℕ) (marks : Marks ups slots e m) where
   stays-elsewhere t t′ stays j no-e none = stays (j / 4) (not-under (j / 4) no-e none) j refl
 
   -- against the specification
-  module _ (own t : List ℕ) (D : Declarations) (T U : Ties) (edit : EditedAt ups own slots e D T U) (room : Room D (length ups))
+  module _ (own slotOf t : List ℕ) (D : Declarations) (T U : Ties) (edit : EditedAt ups own slots slotOf e D T U) (room : Room D (length ups))
       (was : KeepsSets (length ups) t D T) where
     -- a holder that is not under e has the same effective set as before
     unchanged : (k : ℕ) → k < length ups → under ups m e k ≡ false → RightAt (effectiveSet D U) t k
@@ -123,95 +123,14 @@ module _ (ups slots : List ℕ) (e m : ℕ) (marks : Marks ups slots e m) where
     all-right t′ stays right k p h l =
         ⊎-elim (λ y. right k h y p l) (λ y. holds-kept t t′ k p l (stays k y) ∙ unchanged k h y p l) (true-or-false (under ups m e k))
 
--- ---- a user or object: nobody is below it, and its own set is all
-
-module _ (ups own slots : List ℕ) (e up : ℕ) (t t′ marks marks′ : List ℕ) (none : Marks ups slots e 0) (long : length t ≡ 4 * length ups) (by : up ≡ getD ups e 0)
-    (b : Stored own slots e up t t′) (c : MarksChanged marks marks′ t t′) where
-  under-none : (k : ℕ) → under ups 0 e k ≡ eqb k e
-  unfolding under meets
-  under-none k =
-      ap (λ (x : Bool). eqb k e || x) (any-at 64 (λ q. bit (getD ups k 0) q && bit 0 q) (λ q l. ap (λ (x : Bool). bit (getD ups k 0) q && x) (bit-none q) ∙ and-false (bit (getD ups k 0) q)))
-      ∙ or-false (eqb k e)
-
-  one-stays : (k : ℕ) → under ups 0 e k ≡ false → SameAt t t′ k
-  one-stays k off = others-same b k (λ x. true≢false (sym (eq-eqb k e x) ∙ sym (under-none k) ∙ off))
-
-  pub rewritten-alone : Rewritten ups own slots e t t′ marks marks′
-  rewritten-alone = record {
-    right = λ D T U edit room was. all-right ups slots e 0 none own t D T U edit room was t′ one-stays
-        (λ k h on. subst (RightAt (effectiveSet D U) t′) (sym (eqb-true k e (sym (under-none k) ∙ on)))
-        (stored-right ups own slots e up (effectiveSet D U) (solved ups slots e 0 none own t D T U edit room was)
-        (subst (λ (x : ℕ). x < length ups) (eqb-true k e (sym (under-none k) ∙ on)) h) long by b
-        (λ q l u o. group-right ups slots e 0 none own t D T U edit room was q l u (bit-none q))));
-    told = λ distinct. c;
-    elsewhere = stays-elsewhere ups slots e 0 none t t′ one-stays;
-  }
-
--- ---- a group: the groups of the mask are settled anew, and then the others under e are stored
-
-module _ (ups own slots : List ℕ) (e m : ℕ) (marks : Marks ups slots e m) (small : m < 2 ^ 64) (t t₁ t₂ m₀ m₁ m₂ holders wanted : List ℕ) (d₁ : ℕ)
-    (h : (k : ℕ) → member holders k ≡ (member (replicate 4 0) k || ltb k (length ups) && under ups m e k))
-    (w : (k : ℕ) → member wanted k ≡ (member holders k && not (groupOf (length ups) slots m k)))
-    (a : Settled ups own slots t t₁ m₀ m₁ (2 ^ 64 - 1 - m) d₁ (AllDeep ups slots) (λ g. g < 64)) (b : StoredEach ups own slots wanted t₁ t₂ m₁ m₂ (length ups)) where
-  g : ℕ → Bool
-  g k = ltb k (length ups) && under ups m e k
-
-  -- the groups that are to be dropped are those of the mask
-  by-g : (k : ℕ) → member wanted k ≡ (g k && not (hasSlot (length ups) slots k))
-  unfolding g
-  by-g k =
-      w k ∙ ap (λ (x : Bool). x && not (groupOf (length ups) slots m k)) (h k ∙ ap (λ (x : Bool). x || ltb k (length ups) && under ups m e k) (no-numbers k))
-      ∙ masked (ltb k (length ups) && under ups m e k) (not (groupOf (length ups) slots m k)) (not (hasSlot (length ups) slots k))
-      (λ on. ap not (group-any (length ups) slots m k (λ q l u at.
-      under-marked ups slots e m marks q l u (ap (under ups m e) at ∙ parts (ltb k (length ups)) (under ups m e k) on .1))))
-
-  g-off : (k : ℕ) → under ups m e k ≡ false → g k ≡ false
-  unfolding g
-  g-off k y = ap (λ (x : Bool). ltb k (length ups) && x) y ∙ and-false (ltb k (length ups))
-
-  g-on : (k : ℕ) → k < length ups → under ups m e k ≡ true → g k ≡ true
-  unfolding g
-  g-on k l y = both (lt-ltb k (length ups) l) y
-
-  not-done : (q : ℕ) → q < 64 → bit (2 ^ 64 - 1 - m) q ≡ not (bit m q)
-  not-done q l = bit-not 64 m q small l
-
-  below-stays : (k : ℕ) → under ups m e k ≡ false → SameAt t t₂ k
-  below-stays k off j at =
-      b .others j (λ on l. true≢false (sym on ∙ ap (member wanted) at ∙ by-g k ∙ ap (λ (x : Bool). x && not (hasSlot (length ups) slots k)) (g-off k off)))
-      ∙ a .others j (λ q l u off₁ on₁ x. true≢false (sym (marked-under ups slots e m marks q l (not-false (bit m q) (sym (not-done q l) ∙ off₁))) ∙ ap (under ups m e) (sym x ∙ at) ∙ off))
-
-  -- a group is settled, another holder is stored
-  settled-or-stored : (k : ℕ) → SameAt t t₁ k ⊎ SameAt t₁ t₂ k
-  settled-or-stored k = ⊎-elim
-      (λ y. inr (λ j at. b .others j (λ on l. true≢false (sym on ∙ ap (member wanted) at ∙ by-g k ∙ off (g k) (hasSlot (length ups) slots k) y))))
-      (λ y. inl (λ j at. a .others j (λ q l u off₁ on₁ x. true≢false (sym (ap (hasSlot (length ups) slots) (sym (sym x ∙ at)) ∙ slot-group (length ups) slots q l u) ∙ y))))
-      (true-or-false (hasSlot (length ups) slots k))
-    where
-      off : (x y : Bool) → y ≡ true → (x && not y) ≡ false
-      off true y e = ap not e
-      off false y e = refl
-
-  pub rewritten : Rewritten ups own slots e t t₂ m₀ m₂
-  unfolding Right
-  rewritten = record {
-    right = λ D T U edit room was.
-        let s = solved ups slots e m marks own t D T U edit room was in
-        let r = groups-right (effectiveSet D U) a s
-        (λ q l u on. group-right ups slots e m marks own t D T U edit room was q l u (not-true (bit m q) (sym (not-done q l) ∙ on)))
-        (all-deep ups own slots D U (edit .after) (edit .kept) room) in
-        all-right ups slots e m marks own t D T U edit room was t₂ below-stays (λ k l y. each-right (effectiveSet D U) g by-g s r b k l (g-on k l y));
-    told = λ distinct. told-more (a .told distinct) (b .told) settled-or-stored;
-    elsewhere = stays-elsewhere ups slots e m marks t t₂ below-stays;
-  }
-
 -- ---- how many changed
 
-module _ (ups own slots : List ℕ) (e : ℕ) (t t′ changed : List ℕ) (r : ℕ) (few : length ups ≤ 256) (long : length t ≡ 4 * length ups) (long′ : length t′ ≡ 4 * length ups)
-    (fit : (j : ℕ) → getD t′ j 0 < 2 ^ 64) (b : Rewritten ups own slots e t t′ (replicate 4 0) changed) (n : r ≡ countBelow 256 (member changed)) where
-  module _ (D : Declarations) (T U : Ties) (edit : EditedAt ups own slots e D T U) (room : Room D (length ups)) (was : KeepsSets (length ups) t D T) where
+module _ (ups own slots slotOf : List ℕ) (e : ℕ) (t t′ : List ℕ) (r : ℕ) (few : length ups ≤ 256) (long : length t ≡ 4 * length ups) (long′ : length t′ ≡ 4 * length ups)
+    (right : (D : Declarations) (T U : Ties) → EditedAt ups own slots slotOf e D T U → Room D (length ups) → KeepsSets (length ups) t D T → KeepsSets (length ups) t′ D U)
+    (n : Distinct (length ups) slots → TellsGroups (length ups) slots slotOf → r ≡ countBelow 256 (unlike t t′)) where
+  module _ (D : Declarations) (T U : Ties) (edit : EditedAt ups own slots slotOf e D T U) (room : Room D (length ups)) (was : KeepsSets (length ups) t D T) where
     now : KeepsSets (length ups) t′ D U
-    now = b .right D T U edit room was
+    now = right D T U edit room was
 
     -- a holder's sets, by the table's words and by the specification
     unlike-differs : (k : ℕ) → k < length ups → unlike t t′ k ≡ anyBelow (length (D .pairs)) (λ p. not (Bool·beq (effectiveSet D T k p) (effectiveSet D U k p)))
@@ -237,7 +156,7 @@ module _ (ups own slots : List ℕ) (e : ℕ) (t t′ changed : List ℕ) (r : �
     counted : r ≡ changes D T U
     unfolding changes differs holderNumbersOf countBelow anyBelow
     counted =
-        n ∙ count-ext 256 (member changed) (unlike t t′) (λ k l. b .told (edit .kept .distinct) .marks k ∙ ap (λ (x : Bool). x || unlike t t′ k) (no-numbers k))
+        n (edit .kept .distinct) (edit .tells)
         ∙ sym (count-numbers (λ h. h .number) (unlike t t′) (D .holders) 256 (edit .before .declarations .holders .ordered)
         (λ k m. lt-of-lt-of-le (room k (model.holder-below D k m)) few) (λ k l out. unlike-none k (absent k out (true-or-false (isHolder D k)))))
         ∙ list-ext (unlike t t′) (differs D T U) (holderNumbersOf D) (λ k m. unlike-differs k (room k (model.holder-below D k m)))
@@ -246,15 +165,99 @@ module _ (ups own slots : List ℕ) (e : ℕ) (t t′ changed : List ℕ) (r : �
         absent k out (inl e) = absurd (out (model.holder-in D k e))
         absent k out (inr e) = e
 
-  pub refreshed : Refreshed ups own slots e t t′ r
-  refreshed = record {
-    pairs = λ D T U edit room was. (now D T U edit room was, counted D T U edit room was);
-    whole = λ D T U edit size was.
-        let room : Room D (length ups) = λ k h. omega (arith, model.holder-fits (edit .before) k h) in
-        let sets = subst (λ (n : ℕ). KeepsSets n t D T) (sym size) (table-sets D T (edit .before) t was) in (
-          sets-table D U (edit .after) t′ (omega arith) fit (subst (λ (n : ℕ). KeepsSets n t′ D U) size (now D T U edit room sets)),
-          counted D T U edit room sets,
-        );
-    elsewhere = b .elsewhere;
-    at-most = omega (arith, n, count-below-le 256 (member changed));
+  refreshed : r ≤ 256 → Elsewhere ups slots e t t′ → Refreshed ups own slots slotOf e t t′ r
+  refreshed most elsewhere = record { pairs = λ D T U edit room was. (now D T U edit room was, counted D T U edit room was); elsewhere = elsewhere; at-most = most }
+
+-- ---- a user or object: nobody is below it, and its own set is all
+
+module _ (ups own slots slotOf : List ℕ) (e up : ℕ) (t t′ : List ℕ) (no-group : grouped slotOf e ≡ false) (few : length ups ≤ 256) (long : length t ≡ 4 * length ups)
+    (long′ : length t′ ≡ 4 * length ups) (by : up ≡ getD ups e 0) (b : Stored own slots e up t t′) where
+  under-none : (k : ℕ) → under ups 0 e k ≡ eqb k e
+  unfolding under meets
+  under-none k =
+      ap (λ (x : Bool). eqb k e || x) (any-at 64 (λ q. bit (getD ups k 0) q && bit 0 q) (λ q l. ap (λ (x : Bool). bit (getD ups k 0) q && x) (bit-none q) ∙ and-false (bit (getD ups k 0) q)))
+      ∙ or-false (eqb k e)
+
+  one-stays : (k : ℕ) → under ups 0 e k ≡ false → SameAt t t′ k
+  one-stays k off = others-same b k (λ x. true≢false (sym (eq-eqb k e x) ∙ sym (under-none k) ∙ off))
+
+  alone : TellsGroups (length ups) slots slotOf → Marks ups slots e 0
+  alone tells = none-below ups slots e (λ q l u at. true≢false (sym (tells .told q l u) ∙ ap (grouped slotOf) at ∙ no-group))
+
+  alone-right : (D : Declarations) (T U : Ties) → EditedAt ups own slots slotOf e D T U → Room D (length ups) → KeepsSets (length ups) t D T → KeepsSets (length ups) t′ D U
+  alone-right D T U edit room was =
+      let none = alone (edit .tells) in
+      all-right ups slots e 0 none own slotOf t D T U edit room was t′ one-stays
+      (λ k h on.
+      let at = eqb-true k e (sym (under-none k) ∙ on) in
+      subst (RightAt (effectiveSet D U) t′) (sym at)
+      (stored-right ups own slots e up (effectiveSet D U) (solved ups slots e 0 none own slotOf t D T U edit room was) (subst (λ (x : ℕ). x < length ups) at h) long by b
+      (λ q l u o. group-right ups slots e 0 none own slotOf t D T U edit room was q l u (bit-none q))))
+
+  pub refreshed-alone : (r : ℕ) → r ≡ countBelow 256 (unlike t t′) → Refreshed ups own slots slotOf e t t′ r
+  unfolding Elsewhere
+  refreshed-alone r n =
+      refreshed ups own slots slotOf e t t′ r few long long′ alone-right (λ distinct tells. n) (omega (arith, n, count-below-le 256 (unlike t t′))) (λ j no-e none. b .others j no-e)
+
+-- ---- a group: the groups of the mask are settled anew, and then the parties below are stored
+
+module _ (ups own slots slotOf : List ℕ) (e m : ℕ) (is-group : grouped slotOf e ≡ true) (marks : Marks ups slots e m) (small : m < 2 ^ 64)
+    (t t₁ t₂ m₀ m₁ m₂ : List ℕ) (d₁ : ℕ) (a : Settled ups own slots t t₁ m₀ m₁ (2 ^ 64 - 1 - m) d₁ (AllDeep ups slots) (λ g. g < 64))
+    (b : PartiesStored ups own slots slotOf m t₁ t₂ m₁ m₂ (length ups)) where
+  not-done : (q : ℕ) → q < 64 → bit (2 ^ 64 - 1 - m) q ≡ not (bit m q)
+  not-done q l = bit-not 64 m q small l
+
+  -- a group's words stay behind the settling, and so do those of a holder that is not under e
+  group-stays : (k : ℕ) → grouped slotOf k ≡ true → SameAt t₁ t₂ k
+  group-stays k g j at = b .others j (λ on l. group-no-party ups slotOf m k g (ap (partyBelow ups slotOf m) (sym at) ∙ on))
+
+  below-stays : (k : ℕ) → under ups m e k ≡ false → SameAt t t₂ k
+  unfolding under
+  below-stays k off j at =
+      b .others j (λ on l. apart-no-party ups slotOf m k (or-none (eqb k e) (meets (getD ups k 0) m) off .1) (ap (partyBelow ups slotOf m) (sym at) ∙ on))
+      ∙ a .others j (λ q l u off₁ on₁ x. true≢false (sym (marked-under ups slots e m marks q l (not-false (bit m q) (sym (not-done q l) ∙ off₁))) ∙ ap (under ups m e) (sym x ∙ at) ∙ off))
+
+  -- a group is settled, another holder is stored
+  settled-or-stored : TellsGroups (length ups) slots slotOf → (k : ℕ) → SameAt t t₁ k ⊎ SameAt t₁ t₂ k
+  settled-or-stored tells k = ⊎-elim
+      (λ y. inr (group-stays k y))
+      (λ y. inl (λ j at. a .others j (λ q l u off on x. true≢false (sym (tells .told q l u) ∙ ap (grouped slotOf) (sym x ∙ at) ∙ y))))
+      (true-or-false (grouped slotOf k))
+
+  module _ (f : ℕ → ℕ → Bool) (s : Solves ups own slots f) (r : GroupsRight (length ups) slots f t₁) (tells : TellsGroups (length ups) slots slotOf) (k : ℕ)
+      (few : k < length ups) (on : under ups m e k ≡ true) where
+    is-party : grouped slotOf k ≡ false → partyBelow ups slotOf m k ≡ true
+    unfolding under
+    is-party y =
+        party-by ups slotOf m k
+        (⊎-elim (λ z. absurd (true≢false (sym is-group ∙ ap (grouped slotOf) (sym (eqb-true k e z)) ∙ y))) (λ z. z) (or-cases (eqb k e) (meets (getD ups k 0) m) on)) y
+
+    settled-right : grouped slotOf k ≡ true → RightAt f t₂ k
+    unfolding GroupsRight RightAt
+    settled-right y p h =
+        let q = tells .slot k y in
+        holds-kept t₁ t₂ k p h (group-stays k y) ∙ subst (λ (i : ℕ). holds t₁ i p ≡ f i p) (q .3) (r (q .0) (q .1) (q .2) p h)
+
+    under-right : RightAt f t₂ k
+    under-right = ⊎-elim settled-right (λ y. b .right f s r tells k few (is-party y)) (true-or-false (grouped slotOf k))
+
+  pub rewritten : Rewritten ups own slots slotOf e t t₂ m₀ m₂
+  unfolding Right
+  rewritten = record {
+    right = λ D T U edit room was.
+        let s = solved ups slots e m marks own slotOf t D T U edit room was in
+        let r = groups-right (effectiveSet D U) a s
+        (λ q l u on. group-right ups slots e m marks own slotOf t D T U edit room was q l u (not-true (bit m q) (sym (not-done q l) ∙ on)))
+        (all-deep ups own slots D U (edit .after) (edit .kept) room) in
+        all-right ups slots e m marks own slotOf t D T U edit room was t₂ below-stays (under-right (effectiveSet D U) s r (edit .tells));
+    told = λ distinct tells. told-more (a .told distinct) (b .told) (settled-or-stored tells);
+    elsewhere = stays-elsewhere ups slots e m marks t t₂ below-stays;
   }
+
+-- the marks are counted
+pub refreshed-below : (ups own slots slotOf : List ℕ) (e : ℕ) (t t′ changed : List ℕ) (r : ℕ) → length ups ≤ 256 → length t ≡ 4 * length ups → length t′ ≡ 4 * length ups
+    → Rewritten ups own slots slotOf e t t′ (replicate 4 0) changed → r ≡ countBelow 256 (member changed) → Refreshed ups own slots slotOf e t t′ r
+refreshed-below ups own slots slotOf e t t′ changed r few long long′ b n =
+    refreshed ups own slots slotOf e t t′ r few long long′ (b .right)
+    (λ distinct tells. n ∙ count-ext 256 (member changed) (unlike t t′) (λ k l. b .told distinct tells .marks k ∙ ap (λ (x : Bool). x || unlike t t′ k) (no-numbers k)))
+    (omega (arith, n, count-below-le 256 (member changed))) (b .elsewhere)

@@ -2,11 +2,13 @@
 use Prim.Native.Nat.{ℕ, zero, suc, _*_, _/_, _^_, _≤_, _<_}
 use mathlib.Core.Path.{_≡_, refl, sym, ap, ap₂, _∙_, subst}
 use mathlib.Core.Logic.{_⊎_, inl, inr}
-use mathlib.Core.Bool.{Bool, true, false, not, _&&_, _||_, or-false, true≢false}
+use mathlib.Core.Bool.{Bool, true, false, _&&_, _||_, or-false, true≢false}
 use mathlib.Core.List.{List}
-use native.Mathlib.Decide.{ℕ-discrete, decLt}
+use native.Mathlib.Decide.{ℕ-discrete}
 use native.Mathlib.Omega.{arith}
+use lib.Dec.{eqb}
 use lib.ListN.{length, getD}
+use borrow.Author.Tests.{eq-eqb, eqb-true}
 use Rattle.model.specs.Notation.{anyOf}
 use Rattle.model.specs.Declarations.{Declarations, isHolder, holderNumbersOf}
 use Rattle.model.specs.Ties.{Ties, up}
@@ -20,13 +22,13 @@ use Rattle.model.proofs.Chains.{acyclic-depth}
 use Rattle.model.proofs.Effective.{effective-equation}
 use Rattle.model.specs.Standing.{Standing}
 use Rattle.model.proofs.Standing.{among, numbers-length, holder-in, holder-below, holder-fits, room-length}
-use Rattle.bits.specs.Bits.{bit, member, holds, anyBelow}
+use Rattle.bits.specs.Bits.{bit, holds, anyBelow}
 use Rattle.bits.proofs.Walks.{none-left}
-use Rattle.ties.specs.TieArrays.{inUse, tiedUp, hasSlot, KeepsTies, Room}
+use Rattle.ties.specs.TieArrays.{inUse, tiedUp, KeepsTies, Room}
 use Rattle.ties.proofs.Masks.{in-use-lt}
 use Rattle.bits.proofs.Counts.{any-find, find-any}
-use Rattle.ties.proofs.Keeps.{up-slot, slot-up, group-slot, slot-group}
-use Rattle.sets.specs.Settled.{Solves, RightAt, Right, ShortChains, Settled, AllDeep, GroupsRight, NoGroups, StoredEach, StoredTied}
+use Rattle.ties.proofs.Keeps.{up-slot, slot-up}
+use Rattle.sets.specs.Settled.{Solves, RightAt, Right, ShortChains, Settled, AllDeep, GroupsRight, StoredTied}
 use Rattle.sets.specs.Filled.{KeepsSets, Filled}
 use Rattle.sets.proofs.LentSets.{holds-kept}
 use Rattle.sets.proofs.Tables.{sets-table}
@@ -98,32 +100,6 @@ pub right-free : (n : ℕ) (slots : List ℕ) (f : ℕ → ℕ → Bool) (t : Li
 unfolding Right
 right-free n slots f t d free g l u on = absurd (true≢false (sym on ∙ free g l u))
 
--- a set without the groups
-pub no-groups : (n : ℕ) (slots wanted : List ℕ) (g : ℕ → Bool) → ((k : ℕ) → member wanted k ≡ (g k && not (hasSlot n slots k))) → NoGroups n slots wanted
-unfolding NoGroups
-no-groups n slots wanted g e q l u = e (getD slots q 0) ∙ off (g (getD slots q 0)) (hasSlot n slots (getD slots q 0)) (slot-group n slots q l u)
-  where
-    off : (a b : Bool) → b ≡ true → (a && not b) ≡ false
-    off true b h = ap not h
-    off false b h = refl
-
--- each holder that is to be right: a group, or one that is stored
-pub each-right : {ups own slots wanted t₁ t₂ m₁ m₂ : List ℕ} (f : ℕ → ℕ → Bool) (g : ℕ → Bool) → ((k : ℕ) → member wanted k ≡ (g k && not (hasSlot (length ups) slots k)))
-    → Solves ups own slots f → GroupsRight (length ups) slots f t₁ → StoredEach ups own slots wanted t₁ t₂ m₁ m₂ (length ups)
-    → (k : ℕ) → k < length ups → g k ≡ true → RightAt f t₂ k
-unfolding GroupsRight RightAt
-each-right {ups} {own} {slots} {wanted} {t₁} {t₂} {m₁} {m₂} f g e s r b k few on = go (hasSlot (length ups) slots k) refl
-  where
-    none : NoGroups (length ups) slots wanted
-    none = no-groups (length ups) slots wanted g e
-
-    go : (t : Bool) → hasSlot (length ups) slots k ≡ t → (p : ℕ) → p < 256 → holds t₂ k p ≡ f k p
-    go true q p h =
-        let m = group-slot (length ups) slots k q in
-        holds-kept t₁ t₂ k p h (λ j x. b .others j (λ y l. true≢false (sym y ∙ ap (member wanted) x ∙ e k ∙ ap₂ (λ (a b : Bool). a && not b) on q)))
-        ∙ subst (λ (i : ℕ). holds t₁ i p ≡ f i p) (m .3) (r (m .0) (m .1) (m .2) p h)
-    go false q p h = b .right f s r none k few (e k ∙ ap₂ (λ (a b : Bool). a && not b) on q) p h
-
 -- a holder with no tie up has its own pairs
 untied-right : (ups own slots t : List ℕ) (f : ℕ → ℕ → Bool) → Solves ups own slots f → (k : ℕ) → k < length ups → getD ups k 0 ≡ 0 → ((j : ℕ) → j / 4 ≡ k → getD t j 0 ≡ getD own j 0)
     → RightAt f t k
@@ -137,15 +113,25 @@ module _ (ups own slots t t₁ t₂ m m₁ : List ℕ) (d d₁ : ℕ) (free : (g
     (copied : (j : ℕ) → getD t j 0 ≡ getD own j 0)
     (a : Settled ups own slots t t₁ m m₁ d d₁ (AllDeep ups slots) (λ g. g < 64)) (b : StoredTied ups own slots t₁ t₂ (length ups)) where
   module _ (f : ℕ → ℕ → Bool) (s : Solves ups own slots f) (r : GroupsRight (length ups) slots f t₁) (k : ℕ) (l : k < length ups) where
-    before-ties : getD ups k 0 ≡ 0 → (g : Bool) → hasSlot (length ups) slots k ≡ g → RightAt f t₁ k
+    -- a group is settled, another holder with no tie has its own pairs
+    before-ties : getD ups k 0 ≡ 0 → RightAt f t₁ k
     unfolding GroupsRight
-    before-ties none true y = let q = group-slot (length ups) slots k y in subst (RightAt f t₁) (q .3) (r (q .0) (q .1) (q .2))
-    before-ties none false y =
-        untied-right ups own slots t₁ f s k l none
-        (λ j at. a .others j (λ q low u off on x. true≢false (sym (slot-group (length ups) slots q low u) ∙ ap (hasSlot (length ups) slots) (sym x ∙ at) ∙ y)) ∙ copied j)
+    before-ties none = go (anyBelow 64 has-slot) refl
+      where
+        has-slot : ℕ → Bool
+        has-slot q = inUse (length ups) slots q && eqb (getD slots q 0) k
+
+        go : (y : Bool) → anyBelow 64 has-slot ≡ y → RightAt f t₁ k
+        go true y =
+            let q = any-find 64 has-slot y in
+            let u = parts (inUse (length ups) slots (q .0)) (eqb (getD slots (q .0) 0) k) (q .2) in
+            subst (RightAt f t₁) (eqb-true (getD slots (q .0) 0) k (u .1)) (r (q .0) (q .1) (u .0))
+        go false y =
+            untied-right ups own slots t₁ f s k l none
+            (λ j at. a .others j (λ q low u off on x. true≢false (sym (find-any 64 has-slot q low (both u (eq-eqb (getD slots q 0) k (sym x ∙ at)))) ∙ y)) ∙ copied j)
 
     each-holder : Dec (getD ups k 0 ≡ 0) → RightAt f t₂ k
-    each-holder (yes e) = b .stays f s r k (before-ties e (hasSlot (length ups) slots k) refl)
+    each-holder (yes e) = b .stays f s r k (before-ties e)
     each-holder (no n) = b .right f s r k l n
 
   all-right : (D : Declarations) (T : Ties) → Standing (record { declared = D; ties = T }) → KeepsTies ups own slots T → Room D (length ups) → KeepsSets (length ups) t₂ D T

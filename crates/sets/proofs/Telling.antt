@@ -1,18 +1,21 @@
 -- Which sets changed from one table to another, and how marks of them add up. Assumes nothing.
-use Prim.Native.Nat.{ℕ, _+_, _-_, _*_, _/_, _%_, _≤_, _<_}
+use Prim.Native.Nat.{ℕ, suc, _+_, _-_, _*_, _/_, _%_, _≤_, _<_}
 use mathlib.Core.Path.{_≡_, refl, sym, ap, ap₂, _∙_}
 use mathlib.Core.Logic.{_⊎_, ⊎-elim}
 use mathlib.Core.Bool.{Bool, true, false, not, _||_, Bool·beq, or-false, true≢false}
 use mathlib.Core.List.{List, [], _∷_}
+use native.Mathlib.Nat.{zero-add}
 use native.Mathlib.Decide.{ℕ-discrete, decLt}
 use native.Mathlib.Omega.{arith}
 use lib.Dec.{eqb}
 use lib.ListN.{length, getD, take, drop, set}
 use borrow.Author.Tests.{eq-eqb, ne-eqb}
 use borrow.Rule.Slice.PartMut.{putMid}
-use Rattle.bits.specs.Bits.{bit, member, holds, differ}
+use Rattle.model.specs.Notation.{if_then_else_}
+use Rattle.bits.specs.Bits.{bit, member, holds, differ, countBelow}
+use Rattle.bits.proofs.Bits.{bit-none}
 use Rattle.bits.proofs.Sets.{member-part, same-beq, four, stored4}
-use Rattle.bits.proofs.Counts.{any-ext, any-at}
+use Rattle.bits.proofs.Counts.{num, any-ext, any-at, count-suc, count-rest}
 use Rattle.sets.specs.Settled.{unlike, MarksChanged, Stored}
 use Rattle.sets.proofs.LentSets.{holds-put, holds-past, holds-kept}
 
@@ -109,3 +112,26 @@ module _ {own slots t t′ : List ℕ} {k mask : ℕ} (stored : Stored own slots
       go : Dec (4 * k < length t) → 4 * k < length t
       go (yes l) = l
       go (no n) = absurd (true≢false (sym on ∙ unlike-past t t′ k (omega arith) long))
+
+-- ---- how many changed where one set is stored
+
+-- no number passes but i
+count-one : (n i : ℕ) (f : ℕ → Bool) → i < n → ((j : ℕ) → (j ≡ i → ⊥) → f j ≡ false) → countBelow n f ≡ num (f i)
+unfolding countBelow
+count-one n i f l none =
+    count-rest (suc i) n f (omega arith) (λ j a b. none j (λ e. omega arith)) ∙ count-suc i f
+    ∙ ap (λ (m : ℕ). m + num (f i)) (count-rest 0 i f (omega arith) (λ j a b. none j (λ e. omega arith))) ∙ zero-add (num (f i))
+
+module _ {own slots t t′ : List ℕ} {k mask : ℕ} (stored : Stored own slots k mask t t′) (long : length t′ ≡ length t) (few : length t ≤ 1024) where
+  changed-count : Dec (k < 256) → countBelow 256 (unlike t t′) ≡ num (unlike t t′ k)
+  unfolding countBelow
+  changed-count (yes l) = count-one 256 k (unlike t t′) l (λ j n. unlike-same t t′ j (others-same stored j n))
+  changed-count (no n) =
+      let off = unlike-past t t′ k (omega arith) long in
+      count-rest 0 256 (unlike t t′) (omega arith) (λ j a b. unlike-same t t′ j (others-same stored j (λ e. omega arith))) ∙ ap num (sym off)
+
+  -- the ones of a word that marks the holder
+  pub counted-alone : (w : ℕ) (b : Bool) → b ≡ unlike t t′ k → ((j : ℕ) → bit w j ≡ (if eqb j (k % 64) then b else bit 0 j)) → countBelow 64 (bit w) ≡ countBelow 256 (unlike t t′)
+  counted-alone w b is put =
+      count-one 64 (k % 64) (bit w) (omega arith) (λ j n. put j ∙ ap (λ (x : Bool). if x then b else bit 0 j) (ne-eqb j (k % 64) n) ∙ bit-none j)
+      ∙ ap num (put (k % 64) ∙ ap (λ (x : Bool). if x then b else bit 0 (k % 64)) (eq-eqb (k % 64) (k % 64) refl) ∙ is) ∙ sym (changed-count (decLt k 256))

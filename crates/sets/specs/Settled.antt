@@ -6,22 +6,17 @@ use mathlib.Core.List.{List}
 use lib.ListN.{getD, length}
 use Rattle.model.specs.Limits.{Edition, groupLimit, pairLimit, holderNumbers, wordBits}
 use Rattle.bits.specs.Bits.{bit, member, holds, anyBelow}
-use Rattle.ties.specs.TieArrays.{inUse, tiedUp, Distinct}
+use Rattle.ties.specs.TieArrays.{inUse, grouped, tiedUp, meets, Distinct, TellsGroups}
 
 -- the lengths of the arrays of a call
 pub record Shaped (ups own slots t : List ℕ) : Type 0 where
   pub own-long : length own ≡ 4 * length ups
-  pub slots-long : length slots ≡ groupLimit
+  pub slots-long : length slots ≤ groupLimit
   pub table-long : length t ≡ 4 * length ups
 
 -- the words of the sets of holders that a call makes for itself: room for the number of holders of the first edition
 abbrev pub markWords : ℕ
 markWords = holderNumbers Edition.first / wordBits
-
--- a set of holders with room for those of the arrays, and not too long to be walked over
-pub record Marked (ups marks : List ℕ) : Type 0 where
-  pub room : length ups ≤ wordBits * length marks
-  pub short : length marks ≤ 65536
 
 -- f says of each holder which pairs are effective: its own, and those of the groups one tie up; and a tie leads to a slot in use
 pub record Solves (ups own slots : List ℕ) (f : ℕ → ℕ → Bool) : Type 0 where
@@ -83,18 +78,19 @@ Spared path d d′ = (i : ℕ) → bit path i ≡ true → bit d′ i ≡ bit d 
 unfoldable pub AllDeep : List ℕ → List ℕ → Type 0
 AllDeep ups slots = (g : ℕ) → g < groupLimit → inUse (length ups) slots g ≡ true → ShortChains ups slots (length ups) g
 
--- every group has the pairs that f says, and none is in the set `wanted`
+-- every group has the pairs that f says
 unfoldable pub GroupsRight : ℕ → List ℕ → (ℕ → ℕ → Bool) → List ℕ → Type 0
 GroupsRight n slots f t = (g : ℕ) → g < groupLimit → inUse n slots g ≡ true → RightAt f t (getD slots g 0)
 
-unfoldable pub NoGroups : ℕ → List ℕ → List ℕ → Type 0
-NoGroups n slots wanted = (g : ℕ) → g < groupLimit → inUse n slots g ≡ true → member wanted (getD slots g 0) ≡ false
+-- holder k is a party below: it has a tie up to a group of the mask, and is no group
+unfoldable pub partyBelow : List ℕ → List ℕ → ℕ → ℕ → Bool
+partyBelow ups slotOf below k = meets (getD ups k 0) below && not (grouped slotOf k)
 
--- the holders below n of the set `wanted` are stored, from groups that were right, and those marked whose sets changed
-pub record StoredEach (ups own slots wanted t t′ m m′ : List ℕ) (n : ℕ) : Type 0 where
-  pub right : (f : ℕ → ℕ → Bool) → Solves ups own slots f → GroupsRight (length ups) slots f t → NoGroups (length ups) slots wanted
-      → (k : ℕ) → k < n → member wanted k ≡ true → RightAt f t′ k
-  pub others : (j : ℕ) → (member wanted (j / 4) ≡ true → j / 4 < n → ⊥) → getD t′ j 0 ≡ getD t j 0
+-- of the first n holders the parties below are stored, from groups that were right, and those marked whose sets changed
+pub record PartiesStored (ups own slots slotOf : List ℕ) (below : ℕ) (t t′ m m′ : List ℕ) (n : ℕ) : Type 0 where
+  pub right : (f : ℕ → ℕ → Bool) → Solves ups own slots f → GroupsRight (length ups) slots f t → TellsGroups (length ups) slots slotOf
+      → (k : ℕ) → k < n → partyBelow ups slotOf below k ≡ true → RightAt f t′ k
+  pub others : (j : ℕ) → (partyBelow ups slotOf below (j / 4) ≡ true → j / 4 < n → ⊥) → getD t′ j 0 ≡ getD t j 0
   pub told : MarksChanged m m′ t t′
 
 -- the holders below n that have a tie up are stored, from groups that were right, and what was right stays so

@@ -1,12 +1,13 @@
 // The kept table: every holder's effective set in four words, filled from the book's arrays and refreshed after an edit.
 ghost use mathlib.Core.Path.{_≡_};
-ghost use mathlib.Core.Bool.{_||_, _&&_};
+ghost use mathlib.Core.Bool.{true, _||_, _&&_};
 ghost use Prim.Native.Nat.{ℕ, _*_, _%_, _<_, _≤_};
 ghost use lib.ListN.{length, getD};
 ghost use Rattle.model.specs.Limits.{groupLimit};
 ghost use lib.Dec.{eqb};
-ghost use Rattle.bits.specs.Bits.{bit, member, holds, differ, Numbers, anyBelow, Bits};
-ghost use Rattle.sets.specs.Settled.{markWords, Shaped, Marked, unlike, MarksChanged, Stored, Settled, Deep, Spared, AllDeep, StoredEach, StoredTied};
+ghost use Rattle.bits.specs.Bits.{bit, member, holds, differ, Numbers, anyBelow, countBelow, Bits};
+ghost use Rattle.ties.specs.TieArrays.{grouped};
+ghost use Rattle.sets.specs.Settled.{markWords, Shaped, unlike, MarksChanged, Stored, Settled, Deep, Spared, AllDeep, PartiesStored, StoredTied};
 ghost use Rattle.sets.specs.Filled.{Filled};
 ghost use Rattle.sets.specs.Refreshed.{Rewritten, Refreshed};
 
@@ -42,7 +43,7 @@ fn inherit(sum: [u64; 4], table: &[u64], k: usize) -> [u64; 4]
 
 // The pairs that stand in the sets of the groups of a mask.
 fn gather(table: &[u64], slots: &[u64], mask: u64) -> [u64; 4]
-    requires { ⌜ (length (now table) % 4 ≡ 0) × (length (now slots) ≡ groupLimit) ⌝ }
+    requires { ⌜ length (now table) % 4 ≡ 0 ⌝ }
     ensures { λ r. ⌜ Numbers 256 r (λ p. anyBelow groupLimit (λ q. bit mask q && holds (now (table .entry)) (getD (now (slots .entry)) q 0) p)) ⌝ }
 {
     let mut sum = [0u64; 4];
@@ -59,7 +60,7 @@ fn gather(table: &[u64], slots: &[u64], mask: u64) -> [u64; 4]
 
 // Rewrites holder k's set from its own pairs and the sets of the groups of a mask. Tells whether it changed.
 fn store(table: &mut [u64], own: &[u64], slots: &[u64], k: usize, mask: u64) -> bool
-    requires { ⌜ (length (now table) % 4 ≡ 0) × (length (now own) ≡ length (now table)) × (length (now slots) ≡ groupLimit) ⌝ }
+    requires { ⌜ (length (now table) % 4 ≡ 0) × (length (now own) ≡ length (now table)) ⌝ }
     ensures { λ r. ⌜ Stored (now (own .entry)) (now (slots .entry)) k mask (now (table .entry)) (now (table .exit)) × (r ≡ unlike (now (table .entry)) (now (table .exit)) k) ⌝ }
 {
     if k >= table.len() / 4 {
@@ -80,7 +81,7 @@ fn store_marked(
     k: usize,
     mask: u64,
 )
-    requires { ⌜ (length (now table) % 4 ≡ 0) × (length (now own) ≡ length (now table)) × (length (now slots) ≡ groupLimit) × (length (now table) ≤ 256 * length (now marks)) ⌝ }
+    requires { ⌜ (length (now table) % 4 ≡ 0) × (length (now own) ≡ length (now table)) × (length (now table) ≤ 256 * length (now marks)) ⌝ }
     ensures { λ _. ⌜ Stored (now (own .entry)) (now (slots .entry)) k mask (now (table .entry)) (now (table .exit)) × MarksChanged (now (marks .entry)) (now (marks .exit)) (now (table .entry)) (now (table .exit)) ⌝ }
 {
     if store(table, own, slots, k, mask) {
@@ -99,7 +100,7 @@ fn store_group(
     mask: u64,
     seen: u64,
 ) -> u64
-    requires { ⌜ (length (now table) % 4 ≡ 0) × (length (now own) ≡ length (now table)) × (length (now slots) ≡ groupLimit) × (length (now table) ≤ 256 * length (now marks)) × (group < groupLimit) ⌝ }
+    requires { ⌜ (length (now table) % 4 ≡ 0) × (length (now own) ≡ length (now table)) × (length (now table) ≤ 256 * length (now marks)) × (group < groupLimit) ⌝ }
     ensures { λ r. ⌜ Stored (now (own .entry)) (now (slots .entry)) (getD (now (slots .entry)) group 0) mask (now (table .entry)) (now (table .exit)) × MarksChanged (now (marks .entry)) (now (marks .exit)) (now (table .entry)) (now (table .exit)) × Bits r (λ j. bit seen j || eqb j group) ⌝ }
 {
     let k = ties::holder_at(slots, group);
@@ -144,7 +145,7 @@ fn settle(
     let mask = ties::ties_up(ups, k);
     let below = bits::with(path, group);
     let mut seen = done;
-    let mut left = mask;
+    let mut left = ties::still_left(mask, 0, done);
     while left != 0 {
         let q = bits::lowest(left);
         seen = settle(table, marks, own, ups, slots, q, below, seen, height - 1);
@@ -175,22 +176,26 @@ fn settle_groups(
     seen
 }
 
-// Stores the holders of the set `wanted`, once the groups' sets are right.
-fn store_each(
+// Stores the parties below, once the groups' sets are right: the holders that have a tie up to a group of the mask `below` and are no group.
+fn store_under(
     table: &mut [u64],
     marks: &mut [u64],
     own: &[u64],
     ups: &[u64],
     slots: &[u64],
-    wanted: &[u64],
+    groups: &[u64],
+    below: u64,
 )
-    requires { ⌜ Shaped (now ups) (now own) (now slots) (now table) × (length (now ups) ≤ 64 * length (now marks)) × Marked (now ups) (now wanted) ⌝ }
-    ensures { λ _. ⌜ StoredEach (now (ups .entry)) (now (own .entry)) (now (slots .entry)) (now (wanted .entry)) (now (table .entry)) (now (table .exit)) (now (marks .entry)) (now (marks .exit)) (length (now (ups .entry))) ⌝ }
+    requires { ⌜ Shaped (now ups) (now own) (now slots) (now table) × (length (now ups) ≤ 64 * length (now marks)) ⌝ }
+    ensures { λ _. ⌜ PartiesStored (now (ups .entry)) (now (own .entry)) (now (slots .entry)) (now (groups .entry)) below (now (table .entry)) (now (table .exit)) (now (marks .entry)) (now (marks .exit)) (length (now (ups .entry))) ⌝ }
 {
-    let mut k = bits::first_from(wanted, 0);
-    while k < ups.len() {
-        store_marked(table, marks, own, slots, k, ups[k]);
-        k = bits::first_from(wanted, k + 1);
+    for k in 0..ups.len() {
+        let up = ups[k];
+        if ties::meet(up, below) {
+            if !ties::is_group(groups, k) {
+                store_marked(table, marks, own, slots, k, up);
+            }
+        }
     }
 }
 
@@ -230,38 +235,53 @@ pub fn fill(table: &mut [u64], own: &[u64], ups: &[u64], slots: &[u64])
     store_tied(table, own, ups, slots);
 }
 
-// Rewrites the set of holder `edited` and those of the holders below it, each once and no other, a group's after those above it, and marks
-// those that changed. Nobody is below a user or an object: its own set is all.
+// After an edit of a user or an object, below whom nobody is: its own set is all. Answers how many sets changed, the ones
+// of a word in which it is marked.
+fn refresh_alone(table: &mut [u64], own: &[u64], ups: &[u64], slots: &[u64], edited: usize) -> usize
+    requires { ⌜ Shaped (now ups) (now own) (now slots) (now table) × (length (now ups) ≤ 64 * markWords) ⌝ }
+    ensures { λ r. ⌜ Stored (now (own .entry)) (now (slots .entry)) edited (getD (now (ups .entry)) edited 0) (now (table .entry)) (now (table .exit)) × (r ≡ countBelow (64 * markWords) (unlike (now (table .entry)) (now (table .exit)))) ⌝ }
+{
+    let up = ties::ties_up(ups, edited);
+    let changed = store(table, own, slots, edited, up);
+    let mark = bits::put(0, edited % 64, changed);
+    bits::ones(mark)
+}
+
+// Rewrites the set of the group `edited` and those of the holders below it, each once and no other, a group's after those above it, and marks
+// those that changed.
 fn rewrite_below(
     table: &mut [u64],
     marks: &mut [u64],
     own: &[u64],
     ups: &[u64],
     slots: &[u64],
+    groups: &[u64],
     edited: usize,
 )
-    requires { ⌜ Shaped (now ups) (now own) (now slots) (now table) × (length (now ups) ≤ 64 * length (now marks)) × (length (now ups) ≤ 64 * markWords) ⌝ }
-    ensures { λ _. ⌜ Rewritten (now (ups .entry)) (now (own .entry)) (now (slots .entry)) edited (now (table .entry)) (now (table .exit)) (now (marks .entry)) (now (marks .exit)) ⌝ }
+    requires { ⌜ Shaped (now ups) (now own) (now slots) (now table) × (length (now ups) ≤ 64 * length (now marks)) × (grouped (now groups) edited ≡ true) ⌝ }
+    ensures { λ _. ⌜ Rewritten (now (ups .entry)) (now (own .entry)) (now (slots .entry)) (now (groups .entry)) edited (now (table .entry)) (now (table .exit)) (now (marks .entry)) (now (marks .exit)) ⌝ }
 {
-    if !ties::is_group(slots, edited, ups.len()) {
-        let up = ties::ties_up(ups, edited);
-        store_marked(table, marks, own, slots, edited, up);
-        return;
-    }
     let below = ties::groups_below(ups, slots, edited);
-    let mut parties = [0u64; MARK_WORDS];
-    ties::holders_below(&mut parties, ups, below, edited);
-    ties::drop_groups(&mut parties, slots, below, ups.len());
     settle_groups(table, marks, own, ups, slots, !below);
-    store_each(table, marks, own, ups, slots, &parties);
+    store_under(table, marks, own, ups, slots, groups, below);
 }
 
-// After an edit of holder `edited`: refreshes the table, and answers how many holders' sets changed.
-pub fn refresh(table: &mut [u64], own: &[u64], ups: &[u64], slots: &[u64], edited: usize) -> usize
+// After an edit of holder `edited`: refreshes the table, and answers how many holders' sets changed. `groups` tells which holders are groups.
+pub fn refresh(
+    table: &mut [u64],
+    own: &[u64],
+    ups: &[u64],
+    slots: &[u64],
+    groups: &[u64],
+    edited: usize,
+) -> usize
     requires { ⌜ Shaped (now ups) (now own) (now slots) (now table) × (length (now ups) ≤ 64 * markWords) ⌝ }
-    ensures { λ r. ⌜ Refreshed (now (ups .entry)) (now (own .entry)) (now (slots .entry)) edited (now (table .entry)) (now (table .exit)) r ⌝ }
+    ensures { λ r. ⌜ Refreshed (now (ups .entry)) (now (own .entry)) (now (slots .entry)) (now (groups .entry)) edited (now (table .entry)) (now (table .exit)) r ⌝ }
 {
+    if !ties::is_group(groups, edited) {
+        return refresh_alone(table, own, ups, slots, edited);
+    }
     let mut changed = [0u64; MARK_WORDS];
-    rewrite_below(table, &mut changed, own, ups, slots, edited);
+    rewrite_below(table, &mut changed, own, ups, slots, groups, edited);
     bits::count(&changed)
 }

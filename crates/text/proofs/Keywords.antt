@@ -3,6 +3,7 @@ use Prim.Native.Nat.{ℕ, zero, suc, _+_, _-_, _*_, _≤_, _<_}
 use mathlib.Core.Path.{_≡_, refl, sym, ap, _∙_}
 use mathlib.Core.Bool.{Bool, true, false, _&&_}
 use mathlib.Core.List.{List, [], _∷_}
+use mathlib.Core.Option.{Option, none, some}
 use native.Mathlib.Numerals.{unary-clauses}
 use native.Mathlib.Omega.{arith}
 use borrow.Author.Tests.{leb-true, eqb-true, eq-eqb, ne-eqb}
@@ -12,7 +13,7 @@ use lib.Dec.{eqb, leb}
 use Rattle.model.specs.Notation.{if_then_else_, allOf, map}
 use Rattle.model.specs.Bytes.{Bytes, same, oneOf}
 use Rattle.model.specs.Block.{number}
-use Rattle.model.proofs.WordTables.{false-is-true, same-eq, same-refl}
+use Rattle.model.proofs.WordTables.{false-is-true, none-is-some, one-of-word, same-eq, same-refl}
 use Rattle.model.proofs.Options.{parts}
 use Rattle.model.proofs.Lists.{all-parts, same-truth}
 use Rattle.codes.specs.Codes.{coded}
@@ -150,3 +151,13 @@ module _ {A : Type 0} (word : A → Bytes) (code : A → ℕ) where
     keyword-code =
         let codes : List ℕ = 0 ∷ map code list in
         ap (λ (k : ℕ). getD codes k 0) (found .place (map word list) all packed) ∙ place-code s codes refl 1 list refl ∙ sym (coded-one-of word code list s)
+
+-- words found in a list are found in any other list of the same words
+pub in-any-order : {A : Type 0} (word : A → Bytes) (l m : List A) → ((a : A) → oneOf word l (word a) ≡ some a) → ((a : A) → oneOf word m (word a) ≡ some a)
+    → (s : Bytes) → oneOf word l s ≡ oneOf word m s
+in-any-order {A = A} word l m in-l in-m s = go (oneOf word l s) refl (oneOf word m s) refl
+  where
+    go : (x : Option A) → oneOf word l s ≡ x → (y : Option A) → oneOf word m s ≡ y → x ≡ y
+    go (some a) e y f = sym (in-m a) ∙ ap (oneOf word m) (one-of-word word l s a e) ∙ f
+    go none e (some b) f = none-is-some (sym e ∙ ap (oneOf word l) (sym (one-of-word word m s b f)) ∙ in-l b)
+    go none e none f = refl

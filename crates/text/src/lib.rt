@@ -29,7 +29,7 @@ const LARGEST: u64 = 4294967295;
 // The letter `a`: hex is lower-case.
 const HEX_LETTERS: u8 = 97;
 
-// Words of the format in tables, packed as names are. The number of a source, a type or a key is its place.
+// Words of the format in tables, packed as names are. The number of a source or a type is its place.
 pub const SOURCES: [u64; 6] = [
     0, // none
     1919251317, // `user`
@@ -46,20 +46,23 @@ pub const TYPES: [u64; 4] = [
     1819242338, // `bool`
 ];
 
+// Keys, and their numbers. Those that most lines and all edits have come first.
 const KEYS: [u64; 12] = [
     0, // none
-    1920234593, // `attr`
-    28783, // `op`
+    435761734006, // `value`
+    125779768599917, // `member`
+    128017497219440, // `parent`
+    1701606770, // `rule`
+    1919251317, // `user`
+    127970252055151, // `object`
     1836020833, // `atom`
     123649683253109, // `ugroup`
     123649683253103, // `ogroup`
-    1919251317, // `user`
-    127970252055151, // `object`
-    128017497219440, // `parent`
-    125779768599917, // `member`
-    435761734006, // `value`
-    1701606770, // `rule`
+    1920234593, // `attr`
+    28783, // `op`
 ];
+
+const KEY_CODES: [u8; 12] = [0, 10, 9, 8, 11, 6, 7, 3, 4, 5, 1, 2];
 
 // TRUE and FALSE, and their numbers.
 const BOOLS: [u64; 3] = [
@@ -69,6 +72,9 @@ const BOOLS: [u64; 3] = [
 ];
 
 const BOOL_CODES: [u8; 3] = [0, 2, 1];
+
+// The bytes of the shorter one.
+const BOOL_BYTES: usize = 4;
 
 pub enum Int {
     Number(u32),
@@ -130,22 +136,20 @@ pub fn same(s: &[u8], t: &[u8]) -> bool
     true
 }
 
+// Letters first: most bytes of names are.
 fn name_byte(b: u8) -> bool
     ensures { λ r. ⌜ r ≡ nameByte b ⌝ }
 {
-    if b < 48 {
-        return false;
-    }
-    if b <= 57 {
-        return true;
+    if 97 <= b {
+        return b <= 122;
     }
     if b == 95 {
         return true;
     }
-    if b < 97 {
+    if b < 48 {
         return false;
     }
-    b <= 122
+    b <= 57
 }
 
 fn text_byte(b: u8) -> bool
@@ -323,13 +327,16 @@ pub fn type_of(s: &[u8]) -> u8
 pub fn key_of(s: &[u8]) -> u8
     ensures { λ r. ⌜ r ≡ keyNumber (now (s .entry)) ⌝ }
 {
-    keyword(s, &KEYS) as u8
+    KEY_CODES[keyword(s, &KEYS)]
 }
 
-// 1 for FALSE, 2 for TRUE.
+// 1 for FALSE, 2 for TRUE. Most bytes that are neither are too few.
 pub fn bool_of(s: &[u8]) -> u8
     ensures { λ r. ⌜ r ≡ boolNumber (now (s .entry)) ⌝ }
 {
+    if s.len() < BOOL_BYTES {
+        return 0;
+    }
     BOOL_CODES[keyword(s, &BOOLS)]
 }
 

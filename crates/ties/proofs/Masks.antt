@@ -1,13 +1,13 @@
 -- Slots in use and masks over slots. Assumes nothing.
 use Prim.Native.Nat.{ℕ, zero, suc, _^_, _<_}
 use mathlib.Core.Path.{_≡_, refl, sym, ap, _∙_}
-use mathlib.Core.Bool.{Bool, true, false, not, _&&_, _||_}
+use mathlib.Core.Bool.{Bool, true, false, not, _&&_}
 use mathlib.Core.List.{List}
-use native.Mathlib.Decide.{ℕ-discrete}
+use native.Mathlib.Decide.{ℕ-discrete, decLt}
 use native.Mathlib.Omega.{arith}
 use lib.Bits.{bitAnd, and-le-l}
 use lib.Dec.{eqb, ltb}
-use lib.ListN.{getD}
+use lib.ListN.{getD, length, List·getD-eq-default}
 use borrow.Author.Tests.{eq-eqb, ne-eqb, ltb-true, lt-ltb, le-ltb}
 use Rattle.model.proofs.Options.{parts}
 use Rattle.bits.specs.Bits.{bit, anyBelow}
@@ -34,6 +34,14 @@ unfolding inUse
 in-use-lt n slots q e =
     let s = parts (ltb 0 (getD slots q 0)) (ltb (getD slots q 0) n) e in (ltb-true 0 (getD slots q 0) (s .0), ltb-true (getD slots q 0) n (s .1))
 
+-- a slot that has a number is one of the slots
+pub numbered-lt : (slots : List ℕ) (q : ℕ) → 0 < getD slots q 0 → q < length slots
+numbered-lt slots q n = go (decLt q (length slots))
+  where
+    go : Dec (q < length slots) → q < length slots
+    go (yes l) = l
+    go (no p) = absurd (omega (arith, n, List·getD-eq-default slots 0 {n = q} (omega arith)))
+
 -- what the code's `a & b != 0` computes
 pub meets-by : (a b : ℕ) → a < 2 ^ 64 → not (eqb (bitAnd a b) 0) ≡ meets a b
 unfolding meets
@@ -53,16 +61,3 @@ meets-by a b fit = go (ℕ-discrete (bitAnd a b) 0)
 
 pub eqb-flip : (a b : ℕ) → eqb a b ≡ eqb b a
 eqb-flip a b = same-test a b b a sym sym
-
--- the group of one slot is taken out of a set
-pub drop-on : (a u e : Bool) → u ≡ true → (a && not e) ≡ (a && not (u && e))
-drop-on a u e h = ap (λ (b : Bool). a && not (b && e)) (sym h)
-
-pub drop-off : (a u e : Bool) → u ≡ false → a ≡ (a && not (u && e))
-drop-off true u e h = ap (λ (b : Bool). not (b && e)) (sym h)
-drop-off false u e h = refl
-
-pub drop-both : (a x y : Bool) → (a && not x && not y) ≡ (a && not (x || y))
-drop-both true true y = refl
-drop-both true false y = refl
-drop-both false x y = refl

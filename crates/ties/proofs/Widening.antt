@@ -1,44 +1,21 @@
 -- A mask that is widened until nothing is new has just the groups below a holder. Assumes nothing.
-use Prim.Native.Nat.{ℕ, _+_, _-_, _^_, _≤_, _<_}
+use Prim.Native.Nat.{ℕ, _^_, _≤_, _<_}
 use mathlib.Core.Path.{_≡_, refl, sym, ap, _∙_, subst}
 use mathlib.Core.Logic.{_⊎_, inl, inr, ⊎-elim}
-use mathlib.Core.Bool.{Bool, true, false, not, _&&_, _||_, or-false, true≢false, and-true}
+use mathlib.Core.Bool.{Bool, true, false, not, _&&_, _||_, true≢false, and-true}
 use mathlib.Core.List.{List}
 use native.Mathlib.Decide.{ℕ-discrete, decLt}
 use native.Mathlib.Omega.{arith}
-use lib.Dec.{eqb, ltb}
+use lib.Dec.{eqb}
 use lib.ListN.{getD, length}
-use borrow.Author.Tests.{eq-eqb, eqb-true, ne-eqb, lt-ltb, le-ltb, not-true}
+use borrow.Author.Tests.{eq-eqb, eqb-true, ne-eqb, not-true}
 use Rattle.model.proofs.Options.{parts, both}
 use Rattle.model.proofs.Lists.{same-truth, true-or-false, or-cases, or-left, or-right, count-more, below-in}
 use Rattle.bits.specs.Bits.{bit, anyBelow, countBelow}
 use Rattle.bits.proofs.Bits.{bit-none, bit-high, bit-ext}
 use Rattle.bits.proofs.Counts.{any-none, any-find, find-any}
-use Rattle.ties.specs.TieArrays.{inUse, HasNumbered, tiedUp, meets, hasSlot, under, Under, here, over, AllUnder, Marks, Widened}
+use Rattle.ties.specs.TieArrays.{inUse, HasNumbered, tiedUp, meets, under, Under, here, over, AllUnder, Marks, Widened}
 use Rattle.ties.proofs.Masks.{in-use-lt}
-use Rattle.ties.proofs.Keeps.{slot-group}
-
--- ---- a turn of a loop that marks the numbers that pass
-
-pub turn-on : (d : ℕ → Bool) (i k : ℕ) → d k ≡ true → (ltb i k && d i || eqb i k) ≡ (ltb i (k + 1) && d i)
-turn-on d i k on = go (ℕ-discrete i k) (decLt i k)
-  where
-    go : Dec (i ≡ k) → Dec (i < k) → (ltb i k && d i || eqb i k) ≡ (ltb i (k + 1) && d i)
-    go (yes e) l = simp (le-ltb i k (omega arith), lt-ltb i (k + 1) (omega arith), eq-eqb i k e) (sym (ap d e ∙ on))
-    go (no n) (yes l) = simp (lt-ltb i k l, lt-ltb i (k + 1) (omega arith), ne-eqb i k n) (or-false (d i))
-    go (no n) (no l) = simp (le-ltb i k (omega arith), le-ltb i (k + 1) (omega arith), ne-eqb i k n)
-
-pub turn-off : (d : ℕ → Bool) (i k : ℕ) → d k ≡ false → (ltb i k && d i) ≡ (ltb i (k + 1) && d i)
-turn-off d i k off = go (ℕ-discrete i k) (decLt i k)
-  where
-    go : Dec (i ≡ k) → Dec (i < k) → (ltb i k && d i) ≡ (ltb i (k + 1) && d i)
-    go (yes e) l = simp (le-ltb i k (omega arith), lt-ltb i (k + 1) (omega arith)) (sym (ap d e ∙ off))
-    go (no n) (yes l) = simp (lt-ltb i k l, lt-ltb i (k + 1) (omega arith))
-    go (no n) (no l) = simp (le-ltb i k (omega arith), le-ltb i (k + 1) (omega arith))
-
-pub or-regroup : (a b c : Bool) → (a || b || c) ≡ (a || (b || c))
-or-regroup true b c = refl
-or-regroup false b c = refl
 
 -- ---- masks that grow
 
@@ -170,10 +147,10 @@ module _ (ups slots : List ℕ) (e : ℕ) where
   pub marks : (m next : ℕ) → next ≡ m → AllUnder ups slots e m → Widened ups slots e m next → Marks ups slots e m
   marks m next same sound w = record { sound = sound; complete = λ q l c. closed-complete m (subst (Widened ups slots e m) same w) c l }
 
-  -- no group is below a user or an object
-  under-group : {q : ℕ} → Under ups slots e q → q < 64 → hasSlot (length ups) slots e ≡ true
-  under-group {q} (here u at) l = ap (hasSlot (length ups) slots) (sym at) ∙ slot-group (length ups) slots q l u
-  under-group (over u low on c) l = under-group c low
-
-  pub none-below : hasSlot (length ups) slots e ≡ false → Marks ups slots e 0
-  none-below none = record { sound = none-sound; complete = λ q l c. absurd (true≢false (sym (under-group c l) ∙ none)) }
+  -- nobody is below e where that is the group of no slot
+  pub none-below : ((q : ℕ) → q < 64 → inUse (length ups) slots q ≡ true → getD slots q 0 ≡ e → ⊥) → Marks ups slots e 0
+  none-below none = record { sound = none-sound; complete = λ q l c. absurd (go c l) }
+    where
+      go : {q : ℕ} → Under ups slots e q → q < 64 → ⊥
+      go {q} (here u at) l = none q l u at
+      go (over u low on c) l = go c low

@@ -1,8 +1,9 @@
--- Ties in arrays. A group has a slot, and `slots` gives the holder number of each; a holder's ties up are a mask over slots, in `ups`; its own
--- pairs are four words, in `own`. The number of holders is that of the words of `ups`. Assumes nothing: these are definitions.
+-- Ties in arrays. A group has a slot: `slots` gives the holder number of each, and `slotOf` for each holder 1 + its slot, 0 if it is no group; a holder's
+-- ties up are a mask over slots, in `ups`; its own pairs are four words, in `own`. The number of holders is that of the words of `ups`.
+-- Assumes nothing: these are definitions.
 use Prim.Native.Nat.{ℕ, _<_}
 use mathlib.Core.Path.{_≡_}
-use mathlib.Core.Bool.{Bool, true, false, _&&_, _||_}
+use mathlib.Core.Bool.{Bool, true, false, not, _&&_, _||_}
 use mathlib.Core.List.{List}
 use lib.Dec.{eqb, ltb}
 use lib.ListN.{getD, length}
@@ -15,6 +16,10 @@ use Rattle.bits.specs.Bits.{bit, holds, anyBelow}
 -- slot q is in use: it has the number of a holder. Number 0 is the admin's, who is no group, so a slot of 0 is free
 unfoldable pub inUse : ℕ → List ℕ → ℕ → Bool
 inUse n slots q = ltb 0 (getD slots q 0) && ltb (getD slots q 0) n
+
+-- holder k's own word, in `slotOf`, tells a slot
+unfoldable pub grouped : List ℕ → ℕ → Bool
+grouped slotOf k = not (eqb (getD slotOf k 0) 0)
 
 -- the mask m has each slot below n that has a number: no other is in use
 abbrev pub HasNumbered : List ℕ → ℕ → ℕ → Type 0
@@ -33,17 +38,14 @@ tiedUp ups h q = bit (getD ups h 0) q
 unfoldable pub meets : ℕ → ℕ → Bool
 meets a b = anyBelow groupLimit (λ q. bit a q && bit b q)
 
--- holder k is the group of some slot
-unfoldable pub hasSlot : ℕ → List ℕ → ℕ → Bool
-hasSlot n slots k = anyBelow groupLimit (λ q. inUse n slots q && eqb (getD slots q 0) k)
-
--- holder k is the group of some slot of the mask m
-unfoldable pub groupOf : ℕ → List ℕ → ℕ → ℕ → Bool
-groupOf n slots m k = anyBelow groupLimit (λ q. bit m q && (inUse n slots q && eqb (getD slots q 0) k))
-
 -- no two slots in use have one holder
 unfoldable pub Distinct : ℕ → List ℕ → Type 0
 Distinct n slots = (q r : ℕ) → q < groupLimit → r < groupLimit → inUse n slots q ≡ true → getD slots r 0 ≡ getD slots q 0 → r ≡ q
+
+-- the words of `slotOf` tell a slot of just those holders, of n, that are the group of a slot in use
+pub record TellsGroups (n : ℕ) (slots slotOf : List ℕ) : Type 0 where
+  pub told : (q : ℕ) → q < groupLimit → inUse n slots q ≡ true → grouped slotOf (getD slots q 0) ≡ true
+  pub slot : (k : ℕ) → grouped slotOf k ≡ true → (q : ℕ) × (q < groupLimit) × (inUse n slots q ≡ true) × (getD slots q 0 ≡ k)
 
 -- the arrays keep the ties T
 pub record KeepsTies (ups own slots : List ℕ) (T : Ties) : Type 0 where

@@ -2,24 +2,24 @@
 ghost use mathlib.Core.Path.{_≡_};
 ghost use mathlib.Core.Bool.{_||_, _&&_, not};
 ghost use Prim.Native.Nat.{ℕ, _+_, _*_, _<_, _≤_};
-ghost use lib.Dec.{eqb, ltb};
 ghost use lib.ListN.{length, getD};
 ghost use Rattle.model.specs.Limits.{groupLimit, pairLimit};
-ghost use Rattle.bits.specs.Bits.{bit, member, anyBelow};
-ghost use Rattle.ties.specs.TieArrays.{inUse, meets, hasSlot, groupOf, under, HasNumbered, AddsNumbered, Marks, Widened, LeadsTo, ClosesCircle};
+ghost use Rattle.bits.specs.Bits.{bit};
+ghost use Rattle.ties.specs.TieArrays.{inUse, grouped, meets, under, HasNumbered, AddsNumbered, Marks, Widened, LeadsTo, ClosesCircle};
 ghost use Rattle.ties.specs.TieEdits.{MaskChanged, OwnChanged, SlotGiven};
 
-// The holder number of slot q.
+// The holder number of slot q: 0, which is no group's, where there is no such slot.
 pub fn holder_at(slots: &[u64], q: usize) -> usize
-    requires { ⌜ q < length (now slots) ⌝ }
     ensures { λ r. ⌜ r ≡ getD (now (slots .entry)) q 0 ⌝ }
 {
+    if q >= slots.len() {
+        return 0;
+    }
     codes::word_to_index(slots[q])
 }
 
 // Whether slot q is in use, among n holders.
 pub fn in_use(slots: &[u64], q: usize, n: usize) -> bool
-    requires { ⌜ q < length (now slots) ⌝ }
     ensures { λ r. ⌜ r ≡ inUse n (now (slots .entry)) q ⌝ }
 {
     let k = holder_at(slots, q);
@@ -29,29 +29,14 @@ pub fn in_use(slots: &[u64], q: usize, n: usize) -> bool
     k < n
 }
 
-// Whether a slot has the holder number k. The loop goes over all slots, so that the compiler can compare several at a time.
-fn any_slot(slots: &[u64], k: usize) -> bool
-    ensures { λ r. ⌜ r ≡ anyBelow (length (now (slots .entry))) (λ q. eqb (getD (now (slots .entry)) q 0) k) ⌝ }
+// Whether holder k is a group: its own word tells a slot then.
+pub fn is_group(groups: &[u64], k: usize) -> bool
+    ensures { λ r. ⌜ r ≡ grouped (now (groups .entry)) k ⌝ }
 {
-    let mut found = false;
-    for q in 0..slots.len() {
-        found = found | (holder_at(slots, q) == k);
-    }
-    found
-}
-
-// Whether holder k is a group, among n holders.
-pub fn is_group(slots: &[u64], k: usize, n: usize) -> bool
-    requires { ⌜ length (now slots) ≡ groupLimit ⌝ }
-    ensures { λ r. ⌜ r ≡ hasSlot n (now (slots .entry)) k ⌝ }
-{
-    if k == 0 {
+    if k >= groups.len() {
         return false;
     }
-    if k >= n {
-        return false;
-    }
-    any_slot(slots, k)
+    groups[k] != 0
 }
 
 // Holder k's ties up: none where there is no such holder.
@@ -71,30 +56,6 @@ pub fn meet(a: u64, b: u64) -> bool
     a & b != 0
 }
 
-// A set of holders without the group of slot q.
-fn drop_group(set: &mut [u64], slots: &[u64], q: usize, n: usize)
-    requires { ⌜ (q < length (now slots)) × (n ≤ 64 * length (now set)) ⌝ }
-    ensures { λ _. ⌜ ((k : ℕ) → member (now (set .exit)) k ≡ (member (now (set .entry)) k && not (inUse n (now (slots .entry)) q && eqb (getD (now (slots .entry)) q 0) k))) ⌝ }
-{
-    if in_use(slots, q, n) {
-        let k = holder_at(slots, q);
-        bits::remove(set, k);
-    }
-}
-
-// A set of holders without the groups of the mask m.
-pub fn drop_groups(set: &mut [u64], slots: &[u64], m: u64, n: usize)
-    requires { ⌜ (length (now slots) ≡ groupLimit) × (n ≤ 64 * length (now set)) ⌝ }
-    ensures { λ _. ⌜ ((k : ℕ) → member (now (set .exit)) k ≡ (member (now (set .entry)) k && not (groupOf n (now (slots .entry)) m k))) ⌝ }
-{
-    let mut left = m;
-    while left != 0 {
-        let q = bits::lowest(left);
-        drop_group(set, slots, q, n);
-        left = bits::without(left, q);
-    }
-}
-
 // Whether holder k is e, or has a tie up to a group of the mask m.
 pub fn is_under(ups: &[u64], m: u64, e: usize, k: usize) -> bool
     ensures { λ r. ⌜ r ≡ under (now (ups .entry)) m e k ⌝ }
@@ -108,7 +69,6 @@ pub fn is_under(ups: &[u64], m: u64, e: usize, k: usize) -> bool
 
 // Whether the group of slot q is e, or has a tie up to a group of the mask m.
 fn joins(ups: &[u64], slots: &[u64], m: u64, e: usize, q: usize) -> bool
-    requires { ⌜ q < length (now slots) ⌝ }
     ensures { λ r. ⌜ r ≡ (inUse (length (now (ups .entry))) (now (slots .entry)) q && under (now (ups .entry)) m e (getD (now (slots .entry)) q 0)) ⌝ }
 {
     if !in_use(slots, q, ups.len()) {
@@ -120,7 +80,7 @@ fn joins(ups: &[u64], slots: &[u64], m: u64, e: usize, q: usize) -> bool
 
 // The mask with slot q, if that has a number.
 fn with_numbered(mask: u64, slots: &[u64], q: usize) -> u64
-    requires { ⌜ (length (now slots) ≡ groupLimit) × (q < groupLimit) ⌝ }
+    requires { ⌜ q < groupLimit ⌝ }
     ensures { λ r. ⌜ AddsNumbered (now (slots .entry)) mask q r ⌝ }
 {
     if holder_at(slots, q) == 0 {
@@ -131,7 +91,7 @@ fn with_numbered(mask: u64, slots: &[u64], q: usize) -> u64
 
 // The slots that have a number: no other is in use, and most areas have few groups.
 pub fn numbered(slots: &[u64]) -> u64
-    requires { ⌜ length (now slots) ≡ groupLimit ⌝ }
+    requires { ⌜ length (now slots) ≤ groupLimit ⌝ }
     ensures { λ r. ⌜ HasNumbered (now (slots .entry)) groupLimit r ⌝ }
 {
     let mut mask: u64 = 0;
@@ -142,7 +102,7 @@ pub fn numbered(slots: &[u64]) -> u64
 }
 
 // The slots that a walk has left: those of either mask that are not done.
-fn still_left(left: u64, up: u64, done: u64) -> u64
+pub fn still_left(left: u64, up: u64, done: u64) -> u64
     ensures { λ r. ⌜ ((q : ℕ) → q < groupLimit → bit r q ≡ ((bit left q || bit up q) && not (bit done q))) ⌝ }
 {
     (left | up) & !done
@@ -151,7 +111,7 @@ fn still_left(left: u64, up: u64, done: u64) -> u64
 // The mask m with the slots of such groups: those that are not in it yet are looked at, each against what is in it by then, so that a chain of
 // groups that were declared from the top down is taken at once. Only slots of the mask `used` can be in use.
 fn widened(ups: &[u64], slots: &[u64], used: u64, m: u64, e: usize) -> u64
-    requires { ⌜ (length (now slots) ≡ groupLimit) × HasNumbered (now slots) groupLimit used ⌝ }
+    requires { ⌜ HasNumbered (now slots) groupLimit used ⌝ }
     ensures { λ r. ⌜ Widened (now (ups .entry)) (now (slots .entry)) e m r ⌝ }
 {
     let mut next = m;
@@ -168,7 +128,7 @@ fn widened(ups: &[u64], slots: &[u64], used: u64, m: u64, e: usize) -> u64
 
 // The same from the highest slot down, which takes a chain of groups that were declared from the bottom up at once.
 fn widened_down(ups: &[u64], slots: &[u64], m: u64, e: usize) -> u64
-    requires { ⌜ length (now slots) ≡ groupLimit ⌝ }
+    requires { ⌜ length (now slots) ≤ groupLimit ⌝ }
     ensures { λ r. ⌜ Widened (now (ups .entry)) (now (slots .entry)) e m r ⌝ }
 {
     let mut next = m;
@@ -184,7 +144,7 @@ fn widened_down(ups: &[u64], slots: &[u64], m: u64, e: usize) -> u64
 
 // The same from the lowest slot up, and from the highest down only if that found any.
 fn widened_both_ways(ups: &[u64], slots: &[u64], used: u64, m: u64, e: usize) -> u64
-    requires { ⌜ (length (now slots) ≡ groupLimit) × HasNumbered (now slots) groupLimit used ⌝ }
+    requires { ⌜ (length (now slots) ≤ groupLimit) × HasNumbered (now slots) groupLimit used ⌝ }
     ensures { λ r. ⌜ Widened (now (ups .entry)) (now (slots .entry)) e m r ⌝ }
 {
     let up = widened(ups, slots, used, m, e);
@@ -196,7 +156,7 @@ fn widened_both_ways(ups: &[u64], slots: &[u64], used: u64, m: u64, e: usize) ->
 
 // The slots of holder e, if it is a group, and of the groups below it: the mask is widened until nothing is new.
 pub fn groups_below(ups: &[u64], slots: &[u64], e: usize) -> u64
-    requires { ⌜ length (now slots) ≡ groupLimit ⌝ }
+    requires { ⌜ length (now slots) ≤ groupLimit ⌝ }
     ensures { λ r. ⌜ Marks (now (ups .entry)) (now (slots .entry)) e r ⌝ }
 {
     let used = numbered(slots);
@@ -209,21 +169,8 @@ pub fn groups_below(ups: &[u64], slots: &[u64], e: usize) -> u64
     m
 }
 
-// Puts into a set holder e and the holders below it, of whom m has the groups.
-pub fn holders_below(set: &mut [u64], ups: &[u64], m: u64, e: usize)
-    requires { ⌜ length (now ups) ≤ 64 * length (now set) ⌝ }
-    ensures { λ _. ⌜ ((k : ℕ) → member (now (set .exit)) k ≡ (member (now (set .entry)) k || ltb k (length (now (ups .entry))) && under (now (ups .entry)) m e k)) ⌝ }
-{
-    for k in 0..ups.len() {
-        if is_under(ups, m, e, k) {
-            bits::insert(set, k);
-        }
-    }
-}
-
 // Whether a chain of ties leads from holder k up to holder e: each group above k is looked at once, until e is found or none is left.
 fn leads_up(ups: &[u64], slots: &[u64], k: usize, e: usize) -> bool
-    requires { ⌜ length (now slots) ≡ groupLimit ⌝ }
     ensures { λ r. ⌜ LeadsTo (now (ups .entry)) (now (slots .entry)) k e r ⌝ }
 {
     let mut done: u64 = 0;
@@ -243,7 +190,6 @@ fn leads_up(ups: &[u64], slots: &[u64], k: usize, e: usize) -> bool
 
 // Whether a tie from holder `child` up to holder `group` closes a circle: `child` is `group`, or above it.
 pub fn closes_circle(ups: &[u64], slots: &[u64], child: usize, group: usize) -> bool
-    requires { ⌜ length (now slots) ≡ groupLimit ⌝ }
     ensures { λ r. ⌜ ClosesCircle (now (ups .entry)) (now (slots .entry)) child group r ⌝ }
 {
     if child == group {

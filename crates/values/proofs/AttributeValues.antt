@@ -16,9 +16,8 @@ use Rattle.bits.specs.Lowest.{FirstFrom}
 use Rattle.bits.proofs.Sets.{member-part}
 use Rattle.text.specs.declared.Words.{Words}
 use Rattle.text.specs.Values.{words, truthBit}
-use Rattle.values.specs.declared.Found.{Found}
 use Rattle.values.specs.declared.Operand.{Operand}
-use Rattle.values.specs.Operands.{Lent, constantsFrom, valuesFrom, firstOf, operandValues, chosen, First, Finds, found, nothing, pairWords, wordsFrom, entryWords, entriesFrom}
+use Rattle.values.specs.Operands.{Lent, constantsFrom, valuesFrom, firstOf, operandValues, chosen, First, Finds, FirstPair, found, nothing, pairWords, wordsFrom, entryWords, entriesFrom}
 use Rattle.values.proofs.Chosen.{finds-none, finds-by, finds-next, finds-end}
 
 -- four bytes, low byte first
@@ -39,14 +38,10 @@ value-four s at h =
 
 -- ---- the session's words
 
-module _ (pairs session : List ℕ) (k i : ℕ) where
-  words-so : k < 32 → (j : ℕ) → wordsFrom pairs session k j ≡ chosen (holds session k) (pairWords pairs) 256 j
+module _ (session : List ℕ) (k i : ℕ) where
+  pub no-words : 32 ≤ k → FirstPair session k i 256
   unfolding wordsFrom
-  words-so h j = rw (lt-ltb k 32 h)
-
-  pub no-words : (r : Found) → r ≡ nothing → 32 ≤ k → Finds (wordsFrom pairs session k) i r
-  unfolding wordsFrom
-  no-words r e h = subst (Finds (wordsFrom pairs session k) i) (sym e) (finds-none (wordsFrom pairs session k) i (rw (le-ltb k 32 h)))
+  no-words h = record { more = λ l. absurd (omega arith); none = λ l pairs. finds-none (wordsFrom pairs session k) i (rw (le-ltb k 32 h)) }
 
   module _ (h : k < 32) (long : length session ≡ 128) (p : ℕ) (first : FirstFrom (take (4 * k + 4 - 4 * k) (drop (4 * k) session)) i p) where
     four-long : length (take (4 * k + 4 - 4 * k) (drop (4 * k) session)) ≡ 4
@@ -61,16 +56,17 @@ module _ (pairs session : List ℕ) (k i : ℕ) where
               (a, sym (member-part session k p l) ∙ b);
         }
 
-    pub words-next : p < 256 → Finds (wordsFrom pairs session k) i (found (pairWords pairs p) (p + 1))
-    words-next l =
-        finds-by (wordsFrom pairs session k) (chosen (holds session k) (pairWords pairs) 256) (words-so h) i (found (pairWords pairs p) (p + 1))
-        (finds-next (holds session k) (pairWords pairs) 256 i p part-first l)
+    words-so : (pairs : List ℕ) (j : ℕ) → wordsFrom pairs session k j ≡ chosen (holds session k) (pairWords pairs) 256 j
+    unfolding wordsFrom
+    words-so pairs j = rw (lt-ltb k 32 h)
 
-    pub words-end : (r : Found) → r ≡ nothing → 256 ≤ p → Finds (wordsFrom pairs session k) i r
-    words-end r e l =
-        subst (Finds (wordsFrom pairs session k) i) (sym e)
-        (finds-by (wordsFrom pairs session k) (chosen (holds session k) (pairWords pairs) 256) (words-so h) i nothing
-        (finds-end (holds session k) (pairWords pairs) 256 i p part-first l))
+    pub first-pair : FirstPair session k i p
+    first-pair = record {
+      more = λ l pairs. finds-by (wordsFrom pairs session k) (chosen (holds session k) (pairWords pairs) 256) (words-so pairs) i (found (pairWords pairs p) (p + 1))
+          (finds-next (holds session k) (pairWords pairs) 256 i p part-first l);
+      none = λ l pairs. finds-by (wordsFrom pairs session k) (chosen (holds session k) (pairWords pairs) 256) (words-so pairs) i nothing
+          (finds-end (holds session k) (pairWords pairs) 256 i p part-first l);
+    }
 
 -- ---- the entries
 
@@ -86,11 +82,9 @@ module _ (ty v : ℕ) where
   entry-false h e = sym (ap₂ (λ (t u : Bool). if t then words (truthBit u) 0 0 else words v 0 0) (eq-eqb ty 3 h) (ne-eqb v 1 e))
 
 module _ (entries : Bytes) (ty k i j : ℕ) (first : First (λ n. eqb (byteAt entries (5 * n)) k) (length entries / 5) i j) where
-  pub entry-end : (r : Found) → r ≡ nothing → length entries / 5 ≤ j → Finds (entriesFrom entries ty k) i r
+  pub entry-end : length entries / 5 ≤ j → Finds (entriesFrom entries ty k) i nothing
   unfolding entriesFrom
-  entry-end r e h =
-      subst (Finds (entriesFrom entries ty k) i) (sym e)
-      (finds-end (λ n. eqb (byteAt entries (5 * n)) k) (λ n. entryWords ty (valueAt entries (5 * n + 1))) (length entries / 5) i j first h)
+  entry-end h = finds-end (λ n. eqb (byteAt entries (5 * n)) k) (λ n. entryWords ty (valueAt entries (5 * n + 1))) (length entries / 5) i j first h
 
   pub entry-next : (w : Words) → w ≡ entryWords ty (valueAt entries (5 * j + 1)) → j < length entries / 5 → Finds (entriesFrom entries ty k) i (found w (j + 1))
   unfolding entriesFrom
@@ -101,39 +95,16 @@ module _ (entries : Bytes) (ty k i j : ℕ) (first : First (λ n. eqb (byteAt en
 -- ---- an operand's place
 
 module _ (L : Lent) (o : Operand) where
-  -- its values from each position on
-  session-from : o .place ≡ 0 → (j : ℕ) → valuesFrom L o j ≡ wordsFrom (L .pairs) (L .session) (o .start) j
-  unfolding valuesFrom
-  session-from e j = rw (eq-eqb (o .place) 0 e)
-
-  block-from : o .place ≡ 1 → (j : ℕ) → valuesFrom L o j ≡ entriesFrom (L .entries) (o .ty) (o .start) j
-  unfolding valuesFrom
-  block-from e j = let n : o .place ≡ 0 → ⊥ = λ z. omega arith in rw (ne-eqb (o .place) 0 n, eq-eqb (o .place) 1 e)
-
-  code-from : (o .place ≡ 0 → ⊥) → (o .place ≡ 1 → ⊥) → (j : ℕ) → valuesFrom L o j ≡ constantsFrom (o .ty) (L .code) (o .end) j
-  unfolding valuesFrom
-  code-from n m j = rw (ne-eqb (o .place) 0 n, ne-eqb (o .place) 1 m)
-
-  -- and all of them
   pub session-values : o .place ≡ 0 → wordsFrom (L .pairs) (L .session) (o .start) 0 ≡ operandValues L o
-  unfolding firstOf
-  session-values e = sym (rw (le-leb (o .place) 1 (omega arith)) (session-from e 0))
+  unfolding valuesFrom firstOf
+  session-values e = sym (rw (le-leb (o .place) 1 (omega arith), eq-eqb (o .place) 0 e))
 
   pub block-values : o .place ≡ 1 → entriesFrom (L .entries) (o .ty) (o .start) 0 ≡ operandValues L o
-  unfolding firstOf
-  block-values e = sym (rw (le-leb (o .place) 1 (omega arith)) (block-from e 0))
+  unfolding valuesFrom firstOf
+  block-values e =
+      let n : o .place ≡ 0 → ⊥ = λ z. omega arith in
+      sym (rw (le-leb (o .place) 1 (omega arith), ne-eqb (o .place) 0 n, eq-eqb (o .place) 1 e))
 
   pub code-values : (o .place ≡ 0 → ⊥) → (o .place ≡ 1 → ⊥) → constantsFrom (o .ty) (L .code) (o .end) (o .start) ≡ operandValues L o
-  unfolding firstOf
-  code-values n m = sym (rw (lt-leb (o .place) 1 (omega arith)) (code-from n m (o .start)))
-
-  -- the first of them, from a position on
-  module _ (i : ℕ) (r : Found) where
-    pub in-session : o .place ≡ 0 → Finds (wordsFrom (L .pairs) (L .session) (o .start)) i r → Finds (valuesFrom L o) i r
-    in-session e = finds-by (valuesFrom L o) (wordsFrom (L .pairs) (L .session) (o .start)) (session-from e) i r
-
-    pub in-block : o .place ≡ 1 → Finds (entriesFrom (L .entries) (o .ty) (o .start)) i r → Finds (valuesFrom L o) i r
-    in-block e = finds-by (valuesFrom L o) (entriesFrom (L .entries) (o .ty) (o .start)) (block-from e) i r
-
-    pub in-code : (o .place ≡ 0 → ⊥) → (o .place ≡ 1 → ⊥) → Finds (constantsFrom (o .ty) (L .code) (o .end)) i r → Finds (valuesFrom L o) i r
-    in-code n m = finds-by (valuesFrom L o) (constantsFrom (o .ty) (L .code) (o .end)) (code-from n m) i r
+  unfolding valuesFrom firstOf
+  code-values n m = sym (rw (lt-leb (o .place) 1 (omega arith), ne-eqb (o .place) 0 n, ne-eqb (o .place) 1 m))

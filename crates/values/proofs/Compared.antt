@@ -28,7 +28,7 @@ use Rattle.values.specs.declared.Operand.{Operand}
 use Rattle.values.specs.Operands.{Lent, operandValues, Stands}
 use Rattle.values.specs.Compared.{greatestOf, leastOf, leastBelowGreatest, orNext, soughtFrom, amongOf, asked, foundOf, ofPresent, orderOf, belowOf, Compared, Lone}
 use Rattle.values.proofs.Orders.{below-so, not-above-so}
-use Rattle.values.proofs.ComparedAtoms.{amongValues, someFound, int-small, Typed, among-atoms, common-atoms, subset-atoms, before-atoms, after-atoms}
+use Rattle.values.proofs.ComparedAtoms.{amongValues, someFound, int-small, Typed, among-atoms, common-turned, common-atoms, subset-atoms, before-atoms, after-atoms}
 
 -- what an operator says of present values of one type
 unfoldable likeValues : Operator → ℕ → List Words → List Words → model.Truth
@@ -155,6 +155,13 @@ found-so wanted (w ∷ l) [] = ap (λ (t : model.Truth). orNext (asked wanted t)
 found-so wanted (w ∷ l) (v ∷ r) =
     sought-so (λ x. asked wanted (amongOf (v ∷ r) x)) (λ x. Bool·beq (amongValues (v ∷ r) x) wanted)
     (λ x. ap (asked wanted) (among-so (v ∷ r) x) ∙ asked-truth wanted (amongValues (v ∷ r) x)) (w ∷ l)
+
+pub found-turned : (l r : List Words) → foundOf true l r ≡ foundOf true r l
+found-turned l r =
+    found-so true l r
+    ∙ ap (λ (b : Bool). ofPresent l r (truth b)) (common-turned l r)
+    ∙ turned r l (truth (someFound true r l))
+    ∙ sym (found-so true r l)
 
 -- types are the same where their numbers are
 same-ty : (a b : Atom) → sameType (typeOf a) (typeOf b) ≡ eqb (typeCode (typeOf a)) (typeCode (typeOf b))
@@ -353,10 +360,9 @@ module _ (L : Lent) (o : Operand) where
   unfolding loneOf
   not-bool h = alone L o Undef (sym (rw (ne-eqb (o .ty) 3 h)))
 
-  pub some-alone : o .ty ≡ 3 → (w : Words) → w ≡ words 1 0 0 → (r : Truth) → truthOf r ≡ amongOf (operandValues L o) w → Lone L o r
+  pub some-alone : o .ty ≡ 3 → (r : Truth) → truthOf r ≡ amongOf (operandValues L o) (words 1 0 0) → Lone L o r
   unfolding loneOf
-  some-alone e w ew r er =
-      alone L o r (er ∙ ap (amongOf (operandValues L o)) ew ∙ among-so (operandValues L o) (words 1 0 0) ∙ sym (rw (eq-eqb (o .ty) 3 e)))
+  some-alone e r er = alone L o r (er ∙ among-so (operandValues L o) (words 1 0 0) ∙ sym (rw (eq-eqb (o .ty) 3 e)))
 
 -- the ways through an order's tests
 module _ (ty : ℕ) (equal : Bool) (low high : List Words) where

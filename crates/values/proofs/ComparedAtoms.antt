@@ -4,7 +4,8 @@ use mathlib.Core.Path.{_≡_, refl, sym, ap, _∙_}
 use mathlib.Core.Bool.{Bool, true, false, not, Bool·beq}
 use mathlib.Core.List.{List, [], _∷_}
 use native.Mathlib.Omega.{arith}
-use borrow.Author.Tests.{leb-true}
+use lib.Dec.{eqb}
+use borrow.Author.Tests.{eq-eqb, eqb-true, leb-true}
 use Rattle.model.specs.Notation.{anyOf, allOf, map}
 use Rattle.model.specs.Limits.{largestInt}
 use Rattle.model.specs.Atoms.{Atom, int, str, bool, typeOf, isAtom, sameAtom}
@@ -111,6 +112,22 @@ turned f l m = same-truth (anyOf (λ a. anyOf (f a) m) l) (anyOf (λ b. anyOf (�
         let (b, q, d) = any-in (λ b. anyOf (λ a. f a b) l) m e in
         let (a, p, t) = any-in (λ a. f a b) l d in
         in-any (λ a. anyOf (f a) m) p (in-any (f a) q t)
+
+-- a common value, seen from either side
+same-turned : (a b : Words) → sameWords a b ≡ sameWords b a
+same-turned a b =
+    simp (eqb-turned (a .first) (b .first), eqb-turned (a .second) (b .second), eqb-turned (a .third) (b .third))
+  where
+    eqb-turned : (m n : ℕ) → eqb m n ≡ eqb n m
+    eqb-turned m n = same-truth (eqb m n) (eqb n m) (λ e. eq-eqb n m (sym (eqb-true m n e))) (λ e. eq-eqb m n (sym (eqb-true n m e)))
+
+pub common-turned : (l r : List Words) → someFound true l r ≡ someFound true r l
+unfolding someFound
+common-turned l r =
+    any-ext (λ w. Bool·beq (amongValues r w) true) (amongValues r) l (λ w p. beq-true (amongValues r w))
+    ∙ turned sameWords l r
+    ∙ any-ext (λ w. anyOf (λ v. sameWords v w) l) (λ w. Bool·beq (amongValues l w) true) r
+    (λ w p. any-ext (λ v. sameWords v w) (sameWords w) l (λ v q. same-turned v w) ∙ sym (beq-true (amongValues l w)))
 
 -- an order the other way round
 ordered-turned : (before : ℕ → ℕ → Bool) (a b : Atom) → ordered (λ x y. before y x) a b ≡ ordered before b a

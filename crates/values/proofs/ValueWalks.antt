@@ -12,7 +12,7 @@ use Rattle.text.specs.declared.Words.{Words}
 use Rattle.text.specs.Values.{sameWords}
 use Rattle.values.specs.declared.Found.{Found}
 use Rattle.values.specs.Operands.{Finds}
-use Rattle.values.specs.Compared.{further, extremeFrom, worst, Extreme, orNext, isFalse, atEnd, soughtFrom, amongOf}
+use Rattle.values.specs.Compared.{further, extremeFrom, worst, Extreme, orNext, isFalse, atEnd, soughtFrom, amongOf, asked, foundOf}
 
 -- fewer values are left
 pub fewer : {from : ℕ → List Words} {i : ℕ} {r : Found} → Finds from i r → r .here ≡ true → length (from (r .next)) < length (from i)
@@ -58,6 +58,10 @@ module _ {from : ℕ → List Words} {i : ℕ} {r : Found} (finds : Finds from i
 -- a search for a value
 abbrev pub Searching : (ℕ → List Words) → Words → ℕ → Bool → ℕ → Type 0
 Searching from wanted start some i = Seeking from (λ v. truth (sameWords wanted v)) (amongOf (from start) wanted) some i
+
+-- a search for a left value that is among others, or with `wanted` false, for one that is not
+abbrev pub Finding : (ℕ → List Words) → Bool → List Words → ℕ → Bool → ℕ → Type 0
+Finding from wanted right start some i = Seeking from (λ w. asked wanted (amongOf right w)) (foundOf wanted (from start) right) some i
 
 -- ---- a walk to the greatest or the least
 

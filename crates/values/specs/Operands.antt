@@ -112,6 +112,11 @@ pub record Finds (from : ℕ → List Words) (i : ℕ) (r : Found) : Type 0 wher
   pub more : r .here ≡ true → from i ≡ r .words ∷ from (r .next)
   pub none : r .here ≡ false → from i ≡ []
 
+-- r is the number of the first pair from i on that the session has of attribute k, and no pair's where there is none
+pub record FirstPair (session : List ℕ) (k i r : ℕ) : Type 0 where
+  pub more : r < pairLimit → (pairs : List ℕ) → Finds (wordsFrom pairs session k) i (found (pairWords pairs r) (r + 1))
+  pub none : pairLimit ≤ r → (pairs : List ℕ) → Finds (wordsFrom pairs session k) i nothing
+
 -- an operand stands for these atoms
 pub record Stands (L : Lent) (o : Operand) (atoms : List Atom) : Type 0 where
   pub coded : operandValues L o ≡ map atomWords atoms

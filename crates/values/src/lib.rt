@@ -9,7 +9,7 @@ ghost use Rattle.model.specs.Block.{byteAt, valueAt};
 ghost use Rattle.model.specs.Truth.{NOT};
 ghost use Rattle.truth.specs.Truths.{truthOf};
 ghost use Rattle.text.specs.Values.{words, sameWords};
-ghost use Rattle.values.specs.Operands.{lent, First, wordsFrom, entryWords, entriesFrom, intAt, strAt, constantsFrom, valuesFrom, firstOf};
+ghost use Rattle.values.specs.Operands.{lent, First, wordsFrom, entryWords, entriesFrom, FirstPair, intAt, strAt, constantsFrom};
 ghost use Rattle.values.specs.Operands.{operandValues, Finds, nothing, operand, noValues, rowType, attributeOperand};
 ghost use Rattle.values.specs.Compared.{further, worst, Extreme, isFalse, atEnd, amongOf, asked, foundOf, belowOf, Compared, Lone};
 use codes::AT_LEAST;
@@ -33,6 +33,9 @@ const ENTRIES: u8 = 1;
 
 const CONSTANTS: u8 = 2;
 
+// How many pairs there are.
+const PAIRS: usize = 256;
+
 // The largest int.
 const LARGEST: u64 = 4294967295;
 
@@ -46,7 +49,7 @@ pub struct Operand {
     pub end: usize,
 }
 
-// The first value from a position on, if one is there, and the position behind it.
+// The constant at a position, if one is there, and the position behind it.
 pub struct Found {
     pub here: bool,
     pub words: Words,
@@ -95,30 +98,17 @@ pub fn four(s: &[u8], at: usize) -> u64
     a + 256 * (b + 256 * (c + 256 * d))
 }
 
-// The first pair from number i on that the session has of attribute k.
-fn pair_from(pairs: &[u64], session: &[u64; 128], k: usize, i: usize) -> Found
-    requires { ⌜ length (now pairs) ≡ 1024 ⌝ }
-    ensures { λ r. ⌜ Finds (wordsFrom (now (pairs .entry)) (now (session .entry)) k) i r ⌝ }
+// The number of the first pair from number i on that the session has of attribute k, 256 where there is none.
+fn pair_number(session: &[u64; 128], k: usize, i: usize) -> usize
+    ensures { λ r. ⌜ FirstPair (now (session .entry)) k i r ⌝ }
 {
     if 32 <= k {
-        return nothing();
+        return PAIRS;
     }
     let all = &session[..];
     let start = 4 * k;
     let end = 4 * k + 4;
-    let p = bits::first_from(&all[start..end], i);
-    if 256 <= p {
-        return nothing();
-    }
-    Found {
-        here: true,
-        words: Words {
-            first: pairs[4 * p + 1],
-            second: pairs[4 * p + 2],
-            third: pairs[4 * p + 3],
-        },
-        next: p + 1,
-    }
+    bits::first_from(&all[start..end], i)
 }
 
 // The number of the first entry from number i on that is one of attribute k.
@@ -136,32 +126,17 @@ fn entry_number(entries: &[u8], k: usize, i: usize) -> usize
     n
 }
 
-// "a 32-bit value, low byte first (bool 0 or 1)", by its type.
-fn entry_words(ty: u8, v: u64) -> Words
-    ensures { λ r. ⌜ r ≡ entryWords ty v ⌝ }
+// "a 32-bit value, low byte first (bool 0 or 1)", by its type: the first of its words, the others are 0.
+fn entry_word(ty: u8, v: u64) -> u64
+    ensures { λ r. ⌜ words r 0 0 ≡ entryWords ty v ⌝ }
 {
     if ty != BOOL {
-        return one_word(v);
+        return v;
     }
     if v == 1 {
-        return one_word(1);
+        return 1;
     }
-    one_word(0)
-}
-
-// The first entry from number i on that is one of attribute k.
-fn entry_from(entries: &[u8], ty: u8, k: usize, i: usize) -> Found
-    ensures { λ r. ⌜ Finds (entriesFrom (now (entries .entry)) ty k) i r ⌝ }
-{
-    let j = entry_number(entries, k, i);
-    if entries.len() / 5 <= j {
-        return nothing();
-    }
-    Found {
-        here: true,
-        words: entry_words(ty, four(entries, 5 * j + 1)),
-        next: j + 1,
-    }
+    0
 }
 
 // The int constant at byte i, if it ends before `end`.
@@ -224,46 +199,17 @@ fn constant_from(code: &[u8], ty: u8, end: usize, i: usize) -> Found
     }
 }
 
-// The first value of an operand from position i on.
-fn value_from(
-    code: &[u8],
-    pairs: &[u64],
-    session: &[u64; 128],
-    entries: &[u8],
-    operand: Operand,
-    i: usize,
-) -> Found
-    requires { ⌜ length (now pairs) ≡ 1024 ⌝ }
-    ensures { λ r. ⌜ Finds (valuesFrom (lent (now (code .entry)) (now (pairs .entry)) (now (session .entry)) (now (entries .entry))) operand) i r ⌝ }
+// Whether the words of two values are the same.
+fn same(x: u64, y: u64, z: u64, a: u64, b: u64, c: u64) -> bool
+    ensures { λ r. ⌜ r ≡ sameWords (words x y z) (words a b c) ⌝ }
 {
-    let place = operand.place;
-    match place {
-        WORDS => pair_from(pairs, session, operand.start, i),
-        ENTRIES => entry_from(entries, operand.ty, operand.start, i),
-        _ => constant_from(code, operand.ty, operand.end, i),
-    }
-}
-
-// The position where an operand's values begin.
-fn first(operand: Operand) -> usize
-    ensures { λ r. ⌜ r ≡ firstOf operand ⌝ }
-{
-    if operand.place <= ENTRIES {
-        return 0;
-    }
-    operand.start
-}
-
-fn same(a: Words, b: Words) -> bool
-    ensures { λ r. ⌜ r ≡ sameWords a b ⌝ }
-{
-    if a.first != b.first {
+    if x != a {
         return false;
     }
-    if a.second != b.second {
+    if y != b {
         return false;
     }
-    a.third == b.third
+    z == c
 }
 
 // What a search says that met no answer but FALSE: UNDEF where it met no value.
@@ -273,50 +219,58 @@ fn at_end(some: bool) -> Truth
     if some { Truth::False } else { Truth::Undef }
 }
 
-// Whether a value is among those that the session has of attribute k.
-fn among_pairs(pairs: &[u64], session: &[u64; 128], wanted: Words, k: usize) -> Truth
+// Whether the value x, y, z is among those that the session has of attribute k. Values go by their words, and each place has its own loop: a struct
+// for each value would go through memory.
+fn among_pairs(pairs: &[u64], session: &[u64; 128], x: u64, y: u64, z: u64, k: usize) -> Truth
     requires { ⌜ length (now pairs) ≡ 1024 ⌝ }
-    ensures { λ r. ⌜ truthOf r ≡ amongOf (wordsFrom (now (pairs .entry)) (now (session .entry)) k 0) wanted ⌝ }
+    ensures { λ r. ⌜ truthOf r ≡ amongOf (wordsFrom (now (pairs .entry)) (now (session .entry)) k 0) (words x y z) ⌝ }
 {
     let mut some = false;
     let mut i: usize = 0;
     loop {
-        let f = pair_from(pairs, session, k, i);
-        if !f.here {
+        let p = pair_number(session, k, i);
+        if PAIRS <= p {
             return at_end(some);
         }
-        let words = f.words;
-        if same(wanted, words) {
+        if same(
+            x,
+            y,
+            z,
+            pairs[4 * p + 1],
+            pairs[4 * p + 2],
+            pairs[4 * p + 3],
+        ) {
             return Truth::True;
         }
         some = true;
-        i = f.next;
+        i = p + 1;
     }
 }
 
-// Whether a value is among those that the entries have of attribute k.
-fn among_entries(entries: &[u8], ty: u8, wanted: Words, k: usize) -> Truth
-    ensures { λ r. ⌜ truthOf r ≡ amongOf (entriesFrom (now (entries .entry)) ty k 0) wanted ⌝ }
+// Whether the value is among those that the entries have of attribute k.
+fn among_entries(entries: &[u8], ty: u8, x: u64, y: u64, z: u64, k: usize) -> Truth
+    ensures { λ r. ⌜ truthOf r ≡ amongOf (entriesFrom (now (entries .entry)) ty k 0) (words x y z) ⌝ }
 {
+    let n = entries.len() / 5;
     let mut some = false;
     let mut i: usize = 0;
     loop {
-        let f = entry_from(entries, ty, k, i);
-        if !f.here {
+        let j = entry_number(entries, k, i);
+        if n <= j {
             return at_end(some);
         }
-        let words = f.words;
-        if same(wanted, words) {
+        let word = entry_word(ty, four(entries, 5 * j + 1));
+        if same(x, y, z, word, 0, 0) {
             return Truth::True;
         }
         some = true;
-        i = f.next;
+        i = j + 1;
     }
 }
 
-// Whether a value is among the int constants from byte `start` up to byte `end`.
-fn among_ints(code: &[u8], wanted: Words, start: usize, end: usize) -> Truth
-    ensures { λ r. ⌜ truthOf r ≡ amongOf (constantsFrom 1 (now (code .entry)) end start) wanted ⌝ }
+// Whether the value is among the int constants from byte `start` up to byte `end`.
+fn among_ints(code: &[u8], x: u64, y: u64, z: u64, start: usize, end: usize) -> Truth
+    ensures { λ r. ⌜ truthOf r ≡ amongOf (constantsFrom 1 (now (code .entry)) end start) (words x y z) ⌝ }
 {
     let mut some = false;
     let mut i = start;
@@ -326,7 +280,7 @@ fn among_ints(code: &[u8], wanted: Words, start: usize, end: usize) -> Truth
             return at_end(some);
         }
         let words = f.words;
-        if same(wanted, words) {
+        if same(x, y, z, words.first, words.second, words.third) {
             return Truth::True;
         }
         some = true;
@@ -334,9 +288,9 @@ fn among_ints(code: &[u8], wanted: Words, start: usize, end: usize) -> Truth
     }
 }
 
-// Whether a value is among the str constants from byte `start` up to byte `end`.
-fn among_strs(code: &[u8], wanted: Words, start: usize, end: usize) -> Truth
-    ensures { λ r. ⌜ truthOf r ≡ amongOf (constantsFrom 2 (now (code .entry)) end start) wanted ⌝ }
+// Whether the value is among the str constants from byte `start` up to byte `end`.
+fn among_strs(code: &[u8], x: u64, y: u64, z: u64, start: usize, end: usize) -> Truth
+    ensures { λ r. ⌜ truthOf r ≡ amongOf (constantsFrom 2 (now (code .entry)) end start) (words x y z) ⌝ }
 {
     let mut some = false;
     let mut i = start;
@@ -346,7 +300,7 @@ fn among_strs(code: &[u8], wanted: Words, start: usize, end: usize) -> Truth
             return at_end(some);
         }
         let words = f.words;
-        if same(wanted, words) {
+        if same(x, y, z, words.first, words.second, words.third) {
             return Truth::True;
         }
         some = true;
@@ -354,34 +308,38 @@ fn among_strs(code: &[u8], wanted: Words, start: usize, end: usize) -> Truth
     }
 }
 
-// Whether a value is among the constants from byte `start` up to byte `end`.
-fn among_constants(code: &[u8], ty: u8, wanted: Words, start: usize, end: usize) -> Truth
-    ensures { λ r. ⌜ truthOf r ≡ amongOf (constantsFrom ty (now (code .entry)) end start) wanted ⌝ }
+// Whether the value is among the constants from byte `start` up to byte `end`.
+fn among_constants(code: &[u8], ty: u8, x: u64, y: u64, z: u64, start: usize, end: usize) -> Truth
+    ensures { λ r. ⌜ truthOf r ≡ amongOf (constantsFrom ty (now (code .entry)) end start) (words x y z) ⌝ }
 {
     if ty == STR {
-        among_strs(code, wanted, start, end)
+        among_strs(code, x, y, z, start, end)
     } else {
-        among_ints(code, wanted, start, end)
+        among_ints(code, x, y, z, start, end)
     }
 }
 
-// Whether a value is among those of an operand. Each place has its own loop, so that the compiler sets the finder into it.
+// Whether the value is among those of an operand, which goes by its numbers as the value does.
 fn among(
     code: &[u8],
     pairs: &[u64],
     session: &[u64; 128],
     entries: &[u8],
-    wanted: Words,
-    operand: Operand,
+    x: u64,
+    y: u64,
+    z: u64,
+    ty: u8,
+    place: u8,
+    start: usize,
+    end: usize,
 ) -> Truth
     requires { ⌜ length (now pairs) ≡ 1024 ⌝ }
-    ensures { λ r. ⌜ truthOf r ≡ amongOf (operandValues (lent (now (code .entry)) (now (pairs .entry)) (now (session .entry)) (now (entries .entry))) operand) wanted ⌝ }
+    ensures { λ r. ⌜ truthOf r ≡ amongOf (operandValues (lent (now (code .entry)) (now (pairs .entry)) (now (session .entry)) (now (entries .entry))) (operand ty place start end)) (words x y z) ⌝ }
 {
-    let place = operand.place;
     match place {
-        WORDS => among_pairs(pairs, session, wanted, operand.start),
-        ENTRIES => among_entries(entries, operand.ty, wanted, operand.start),
-        _ => among_constants(code, operand.ty, wanted, operand.start, operand.end),
+        WORDS => among_pairs(pairs, session, x, y, z, start),
+        ENTRIES => among_entries(entries, ty, x, y, z, start),
+        _ => among_constants(code, ty, x, y, z, start, end),
     }
 }
 
@@ -404,7 +362,215 @@ fn is_false(value: Truth) -> bool
     }
 }
 
-// Whether some left value is among the right, or with `wanted` false, whether some is not.
+// Whether some value that the session has of attribute k is among those of another operand of its type, or with `wanted` false, whether some is not.
+fn found_pairs(
+    code: &[u8],
+    pairs: &[u64],
+    session: &[u64; 128],
+    entries: &[u8],
+    ty: u8,
+    k: usize,
+    in_place: u8,
+    in_start: usize,
+    in_end: usize,
+    wanted: bool,
+) -> Truth
+    requires { ⌜ length (now pairs) ≡ 1024 ⌝ }
+    ensures { λ r. ⌜ truthOf r ≡ foundOf wanted (wordsFrom (now (pairs .entry)) (now (session .entry)) k 0) (operandValues (lent (now (code .entry)) (now (pairs .entry)) (now (session .entry)) (now (entries .entry))) (operand ty in_place in_start in_end)) ⌝ }
+{
+    let mut some = false;
+    let mut i: usize = 0;
+    loop {
+        let p = pair_number(session, k, i);
+        if PAIRS <= p {
+            return at_end(some);
+        }
+        let x = pairs[4 * p + 1];
+        let y = pairs[4 * p + 2];
+        let z = pairs[4 * p + 3];
+        let answer = asked(
+            wanted,
+            among(
+                code,
+                pairs,
+                session,
+                entries,
+                x,
+                y,
+                z,
+                ty,
+                in_place,
+                in_start,
+                in_end,
+            ),
+        );
+        if !is_false(answer) {
+            return answer;
+        }
+        some = true;
+        i = p + 1;
+    }
+}
+
+// The same of the values that the entries have of attribute k.
+fn found_entries(
+    code: &[u8],
+    pairs: &[u64],
+    session: &[u64; 128],
+    entries: &[u8],
+    ty: u8,
+    k: usize,
+    in_place: u8,
+    in_start: usize,
+    in_end: usize,
+    wanted: bool,
+) -> Truth
+    requires { ⌜ length (now pairs) ≡ 1024 ⌝ }
+    ensures { λ r. ⌜ truthOf r ≡ foundOf wanted (entriesFrom (now (entries .entry)) ty k 0) (operandValues (lent (now (code .entry)) (now (pairs .entry)) (now (session .entry)) (now (entries .entry))) (operand ty in_place in_start in_end)) ⌝ }
+{
+    let n = entries.len() / 5;
+    let mut some = false;
+    let mut i: usize = 0;
+    loop {
+        let j = entry_number(entries, k, i);
+        if n <= j {
+            return at_end(some);
+        }
+        let word = entry_word(ty, four(entries, 5 * j + 1));
+        let answer = asked(
+            wanted,
+            among(
+                code,
+                pairs,
+                session,
+                entries,
+                word,
+                0,
+                0,
+                ty,
+                in_place,
+                in_start,
+                in_end,
+            ),
+        );
+        if !is_false(answer) {
+            return answer;
+        }
+        some = true;
+        i = j + 1;
+    }
+}
+
+// The same of the constants from byte `start` up to byte `end`.
+fn found_constants(
+    code: &[u8],
+    pairs: &[u64],
+    session: &[u64; 128],
+    entries: &[u8],
+    ty: u8,
+    start: usize,
+    end: usize,
+    in_place: u8,
+    in_start: usize,
+    in_end: usize,
+    wanted: bool,
+) -> Truth
+    requires { ⌜ length (now pairs) ≡ 1024 ⌝ }
+    ensures { λ r. ⌜ truthOf r ≡ foundOf wanted (constantsFrom ty (now (code .entry)) end start) (operandValues (lent (now (code .entry)) (now (pairs .entry)) (now (session .entry)) (now (entries .entry))) (operand ty in_place in_start in_end)) ⌝ }
+{
+    let mut some = false;
+    let mut i = start;
+    loop {
+        let f = constant_from(code, ty, end, i);
+        if !f.here {
+            return at_end(some);
+        }
+        let words = f.words;
+        let answer = asked(
+            wanted,
+            among(
+                code,
+                pairs,
+                session,
+                entries,
+                words.first,
+                words.second,
+                words.third,
+                ty,
+                in_place,
+                in_start,
+                in_end,
+            ),
+        );
+        if !is_false(answer) {
+            return answer;
+        }
+        some = true;
+        i = f.next;
+    }
+}
+
+// Whether some value of an operand is among those of another of its type, or with `wanted` false, whether some is not.
+fn some_among(
+    code: &[u8],
+    pairs: &[u64],
+    session: &[u64; 128],
+    entries: &[u8],
+    ty: u8,
+    place: u8,
+    start: usize,
+    end: usize,
+    in_place: u8,
+    in_start: usize,
+    in_end: usize,
+    wanted: bool,
+) -> Truth
+    requires { ⌜ length (now pairs) ≡ 1024 ⌝ }
+    ensures { λ r. ⌜ truthOf r ≡ foundOf wanted (operandValues (lent (now (code .entry)) (now (pairs .entry)) (now (session .entry)) (now (entries .entry))) (operand ty place start end)) (operandValues (lent (now (code .entry)) (now (pairs .entry)) (now (session .entry)) (now (entries .entry))) (operand ty in_place in_start in_end)) ⌝ }
+{
+    match place {
+        WORDS => found_pairs(
+            code,
+            pairs,
+            session,
+            entries,
+            ty,
+            start,
+            in_place,
+            in_start,
+            in_end,
+            wanted,
+        ),
+        ENTRIES => found_entries(
+            code,
+            pairs,
+            session,
+            entries,
+            ty,
+            start,
+            in_place,
+            in_start,
+            in_end,
+            wanted,
+        ),
+        _ => found_constants(
+            code,
+            pairs,
+            session,
+            entries,
+            ty,
+            start,
+            end,
+            in_place,
+            in_start,
+            in_end,
+            wanted,
+        ),
+    }
+}
+
+// Whether some left value is among the right, or with `wanted` false, whether some is not. A common value is one seen from either side: constants on
+// the right are walked first, so that each is taken out of the code once.
 fn some_found(
     code: &[u8],
     pairs: &[u64],
@@ -414,24 +580,41 @@ fn some_found(
     right: Operand,
     wanted: bool,
 ) -> Truth
-    requires { ⌜ length (now pairs) ≡ 1024 ⌝ }
+    requires { ⌜ (length (now pairs) ≡ 1024) × (left .ty ≡ right .ty) ⌝ }
     ensures { λ r. ⌜ truthOf r ≡ foundOf wanted (operandValues (lent (now (code .entry)) (now (pairs .entry)) (now (session .entry)) (now (entries .entry))) left) (operandValues (lent (now (code .entry)) (now (pairs .entry)) (now (session .entry)) (now (entries .entry))) right) ⌝ }
 {
-    let mut some = false;
-    let mut i = first(left);
-    loop {
-        let f = value_from(code, pairs, session, entries, left, i);
-        if !f.here {
-            return at_end(some);
+    if wanted {
+        if ENTRIES < right.place {
+            return some_among(
+                code,
+                pairs,
+                session,
+                entries,
+                right.ty,
+                right.place,
+                right.start,
+                right.end,
+                left.place,
+                left.start,
+                left.end,
+                true,
+            );
         }
-        let words = f.words;
-        let answer = asked(wanted, among(code, pairs, session, entries, words, right));
-        if !is_false(answer) {
-            return answer;
-        }
-        some = true;
-        i = f.next;
     }
+    some_among(
+        code,
+        pairs,
+        session,
+        entries,
+        left.ty,
+        left.place,
+        left.start,
+        left.end,
+        right.place,
+        right.start,
+        right.end,
+        wanted,
+    )
 }
 
 // Whether no left value is among the right, or with `wanted` false, whether each is.
@@ -444,7 +627,7 @@ fn none_found(
     right: Operand,
     wanted: bool,
 ) -> Truth
-    requires { ⌜ length (now pairs) ≡ 1024 ⌝ }
+    requires { ⌜ (length (now pairs) ≡ 1024) × (left .ty ≡ right .ty) ⌝ }
     ensures { λ r. ⌜ truthOf r ≡ NOT (foundOf wanted (operandValues (lent (now (code .entry)) (now (pairs .entry)) (now (session .entry)) (now (entries .entry))) left) (operandValues (lent (now (code .entry)) (now (pairs .entry)) (now (session .entry)) (now (entries .entry))) right)) ⌝ }
 {
     truth::not(some_found(code, pairs, session, entries, left, right, wanted))
@@ -481,17 +664,16 @@ fn extreme_pairs(pairs: &[u64], session: &[u64; 128], k: usize, greatest: bool) 
     let mut best = start_of(greatest);
     let mut i: usize = 0;
     loop {
-        let f = pair_from(pairs, session, k, i);
-        if !f.here {
+        let p = pair_number(session, k, i);
+        if PAIRS <= p {
             return Bound {
                 here: some,
                 number: best,
             };
         }
-        let words = f.words;
-        best = further(greatest, best, words.first);
+        best = further(greatest, best, pairs[4 * p + 1]);
         some = true;
-        i = f.next;
+        i = p + 1;
     }
 }
 
@@ -499,21 +681,21 @@ fn extreme_pairs(pairs: &[u64], session: &[u64; 128], k: usize, greatest: bool) 
 fn extreme_entries(entries: &[u8], k: usize, greatest: bool) -> Bound
     ensures { λ r. ⌜ Extreme greatest (entriesFrom (now (entries .entry)) 1 k 0) r ⌝ }
 {
+    let n = entries.len() / 5;
     let mut some = false;
     let mut best = start_of(greatest);
     let mut i: usize = 0;
     loop {
-        let f = entry_from(entries, INT, k, i);
-        if !f.here {
+        let j = entry_number(entries, k, i);
+        if n <= j {
             return Bound {
                 here: some,
                 number: best,
             };
         }
-        let words = f.words;
-        best = further(greatest, best, words.first);
+        best = further(greatest, best, four(entries, 5 * j + 1));
         some = true;
-        i = f.next;
+        i = j + 1;
     }
 }
 
@@ -632,7 +814,19 @@ pub fn lone(
     if operand.ty != BOOL {
         return Truth::Undef;
     }
-    among(code, pairs, session, entries, one_word(1), operand)
+    among(
+        code,
+        pairs,
+        session,
+        entries,
+        1,
+        0,
+        0,
+        operand.ty,
+        operand.place,
+        operand.start,
+        operand.end,
+    )
 }
 
 // An operand without a value.

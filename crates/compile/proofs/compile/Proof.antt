@@ -26,9 +26,11 @@ loop-again : tie.Need-loop-again Inv-loop μ-loop
 loop-again c =
     let the-loop = c .before .before .before .before .before .before .before .before .loop in
     let the-token = c .before .before .before .token in
-    let few = c .before .before .before .before .before .before .before .before .before .before .before .before .pre .1 in
-    (the-token .ensures .long ∙ the-loop .inv .0, omega (arith, c .next-row .ensures .1, the-token .ensures .ahead, the-loop .inv .1),
-    compile-goes-on _ _ (the-loop .rows) (the-loop .row) (the-loop .at) (the-loop .inv .2) few (c .before .before .before .before .before .if1 .left) _ (the-token .result) (the-token .ensures) (c .next-row .result) (c .next-row .ensures .0))
+    let few = c .before .before .before .before .before .before .before .before .before .before .before .before .pre .1 in (
+      the-token .ensures .long ∙ the-loop .inv .0,
+      omega (arith, c .next-row .ensures .1, the-token .ensures .ahead, the-loop .inv .1),
+      compile-goes-on _ _ (the-loop .rows) (the-loop .row) (the-loop .at) (the-loop .inv .2) few (c .before .before .before .before .before .if1 .left) _ (the-token .result) (the-token .ensures) (c .next-row .result) (c .next-row .ensures .0),
+    )
 
 returns-2 : tie.Need-returns-2 Inv-loop μ-loop
 returns-2 c =

@@ -18,7 +18,7 @@ returns c =
 returns-2 : tie.Need-returns-2
 returns-2 c =
     let the-put = c .before .before .before .put-row in
-    let the-term = c .before .before .before .before .before .term-at in
+    let the-term = c .before .before .before .before .before .row-at in
     let no = sym (c .before .before .before .before .before .before .before .is-passed .ensures) ∙ c .before .before .before .before .before .before .if1 .left in
     let a = c .before .before .before .before .before .before .before .before .before .before .before .args in
     record {

@@ -1,4 +1,5 @@
 -- `edit::apply` meets its contract. Assumes nothing.
+use mathlib.Core.Path.{_∙_}
 use Rattle.tielines.specs.TieReading.{tieBy}
 use Rattle.edit.proofs.EditTables.{edited-lower, applied}
 use borrow.Author.Needs.{needs}
@@ -13,6 +14,7 @@ returns c =
     let kept = c .before .before .refresh in
     applied (start .args .plus) (tieBy (t .key) (t .lower) (t .upper)) (start .args .book .now) (changed .last .0) (start .args .table .now) (kept .last .0)
     (t .lower) (kept .result) (edited-lower (t .key) (t .lower) (t .upper)) (changed .ensures) (kept .ensures)
+    (kept .kept .0 ∙ start .pre .1) (λ j. c .slice-known4 .given j .fits)
 
 pub apply-spec : {M : Type 1} → statement M
 apply-spec =

@@ -1,27 +1,25 @@
--- `edit::refresh` meets its contract: the sections of ties are lent. Assumes nothing.
-use mathlib.Core.Path.{_≡_}
-use Prim.Native.Nat.{_+_, _≤_}
-use lib.ListN.{length}
+-- `edit::refresh` meets its contract: the first words of table and sections are lent. Assumes nothing.
 use native.Mathlib.Omega.{arith}
-use Rattle.book.specs.Sections as section
-use Rattle.book.proofs.Sections.{part-size}
+use Rattle.edit.proofs.LentTies.{table-kept}
 use borrow.Author.Needs.{needs}
 use Rattle.edit.proofs.refresh.Statement.{statement}
 use Rattle.edit.proofs.refresh.Tie as tie
 
-refresh-requires : tie.Need-refresh-requires
-refresh-requires c κs =
-    let start = c .before .before .before .before .before .before in
-    let size : (s : section.Section) → s .start + s .size ≤ section.bookWords → length (section.sectionWords s (start .args .book .now)) ≡ s .size =
-    λ s f. part-size s (start .args .book .now) (start .pre .0) f in
-    let ups = size section.ups (omega arith) in
-    let own = size section.own (omega arith) in
-    let slots = size section.slots (omega arith) in
-    (record { own-long = omega (arith, ups, own); slots-long = slots; table-long = omega (arith, ups, start .pre .1) }, omega (arith, ups))
+returns : tie.Need-returns
+returns c =
+    let start = c .before .before .before .before .before .before .before .before .before .before .before .before .before .before in
+    let a = start .args in
+    let holders = c .before .before .before .before .before .before .before .before .before .before .at-most in
+    let groups = c .before .before .before .before .before .before .before .before .at-most2 in
+    let called = c .before .before .refresh in
+    table-kept (a .book .now) (a .table .now) (called .last .0) (a .edited) (holders .result) (groups .result) (called .result) (holders .ensures) (groups .ensures)
+    (omega (arith, start .pre .1, holders .ensures)) (called .kept .0) (called .ensures)
 
 pub refresh-spec : {M : Type 1} → statement M
 refresh-spec =
     tie.close
     (tie.spec
+    (λ c. search needs) (λ c κs. search needs) (λ c. search needs) (λ c κs. search needs) (λ c. search needs) (λ c. search needs) (λ c. search needs)
     (λ c. search needs) (λ c. search needs) (λ c. search needs) (λ c. search needs) (λ c. search needs) (λ c. search needs) (λ c. search needs)
-    (λ c. search needs) (λ c. search needs) refresh-requires (λ c. search needs) (λ c. search needs) (λ c. search needs))
+    (λ c. search needs) (λ c. search needs) (λ c. search needs) (λ c. search needs) (λ c. search needs) (λ c. search needs) (λ c. search needs)
+    (λ c. search needs) (λ c. search needs) (λ c κs. search needs) (λ c. search needs) (λ c. search needs) returns)

@@ -17,7 +17,7 @@ fill-requires c κs =
     let ups = size section.ups (omega arith) in
     let own = size section.own (omega arith) in
     let slots = size section.slots (omega arith) in
-    (record { own-long = omega (arith, ups, own); slots-long = slots; table-long = omega (arith, ups, start .pre .1) }, omega (arith, ups))
+    (record { own-long = omega (arith, ups, own); slots-long = omega (arith, slots); table-long = omega (arith, ups, start .pre .1) }, omega (arith, ups))
 
 pub fill-spec : {M : Type 1} → statement M
 fill-spec =

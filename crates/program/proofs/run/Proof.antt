@@ -26,9 +26,11 @@ loop-again : tie.Need-loop-again Inv-loop μ-loop
 loop-again c =
     let the-loop = c .before .before .before .before .before .before .loop in
     let the-next = c .before .next-at in
-    let the-step = c .before .before .step in
-    (omega (arith, c .next-row .ensures .1, the-next .ensures .ahead), run-steps _ _ (the-loop .w) (the-loop .row) (the-loop .at) (the-loop .inv .1) (c .before .before .before .if1 .left) (the-step .result) (the-step .ensures) (the-next .result) (the-next .ensures)
-    (c .next-row .result) (c .next-row .ensures .0))
+    let the-step = c .before .before .step in (
+      omega (arith, c .next-row .ensures .1, the-next .ensures .ahead),
+      run-steps _ _ (the-loop .w) (the-loop .row) (the-loop .at) (the-loop .inv .1) (c .before .before .before .if1 .left) (the-step .result) (the-step .ensures) (the-next .result) (the-next .ensures)
+          (c .next-row .result) (c .next-row .ensures .0),
+    )
 
 returns-2 : tie.Need-returns-2 Inv-loop μ-loop
 returns-2 c =

@@ -30,7 +30,7 @@ returns-3 c = promised
     (λ i. c .before .before .before .before .before .before .before .before .before .before .before .shared-slice-known .given i .fits) (sym (c .before .before .before .before .before .before .before .before .is-block .ensures) ∙ not-false _ (c .before .before .before .before .before .before .before .if2 .left)) (c .before .wrong-number .result) (c .before .wrong-number .ensures) (c .if3 .taken))
 
 answered-requires : tie.Need-answered-requires
-answered-requires c κs = (omega arith, record { targets-long = omega arith; code-long = omega arith; attributes-long = omega arith; pairs-long = omega arith }, block-room (c .before .before .before .before .before .before .before .before .before .before .before .before .before .before .before .args .block .now) (sym (c .before .before .before .before .before .before .before .before .before .before .before .is-block .ensures) ∙ not-false _ (c .before .before .before .before .before .before .before .before .before .before .if2 .left)))
+answered-requires c κs = (omega arith, record { targets-long = omega arith; code-long = omega arith; pairs-long = omega arith }, omega arith, block-room (c .before .before .before .before .before .before .before .before .before .before .before .before .before .before .before .args .block .now) (sym (c .before .before .before .before .before .before .before .before .before .before .before .is-block .ensures) ∙ not-false _ (c .before .before .before .before .before .before .before .before .before .before .if2 .left)))
 
 returns-4 : tie.Need-returns-4
 returns-4 c = promised

@@ -1,14 +1,12 @@
 -- `sets::gather` meets its contract: the sum has the pairs of the groups that the walk has passed. Assumes nothing.
 use mathlib.Core.Path.{_≡_, sym, ap, _∙_}
-use mathlib.Core.Bool.{Bool, _&&_, _||_, or-false}
+use mathlib.Core.Bool.{Bool, _&&_, _||_, or-false, or-assoc}
 use Prim.Native.Nat.{ℕ, _<_}
 use lib.ListN.{getD}
 use Rattle.bits.specs.Bits.{bit, member, holds, anyBelow, countBelow}
 use Rattle.bits.proofs.Sets.{member-none}
 use Rattle.bits.proofs.Walks.{any-left, fewer-left, none-left}
-use Rattle.ties.proofs.Widening.{or-regroup}
 use borrow.Author.Needs.{needs}
-use native.Mathlib.Omega.{arith}
 use Rattle.sets.proofs.gather.Statement.{statement}
 use Rattle.sets.proofs.gather.Tie as tie
 
@@ -24,9 +22,6 @@ loop-holds : tie.Need-loop-holds Inv-loop μ-loop
 loop-holds c p h =
     let a = c .before .before .args in
     ap (λ (b : Bool). b || anyBelow 64 (λ q. bit (a .mask) q && holds (a .table .now) (getD (a .slots .now) q 0) p)) (member-none p h)
-
-holder-at-requires : tie.Need-holder-at-requires Inv-loop μ-loop
-holder-at-requires c κs = omega (arith, c .lowest .ensures .held (c .before .loop-test .taken), c .before .before .before .before .before .pre .1)
 
 without-requires : tie.Need-without-requires Inv-loop μ-loop
 without-requires c κs = c .before .before .lowest .ensures .held (c .before .before .before .loop-test .taken) .0
@@ -45,7 +40,7 @@ loop-again c p h =
     let f : ℕ → Bool = λ q. holds (a .table .now) (getD (a .slots .now) q 0) p in
     let rest : Bool = anyBelow 64 (λ q. bit (c .without .result) q && f q) in
     ap (λ (b : Bool). b || rest) (c .before .inherit .ensures p h ∙ ap (λ (k : ℕ). member (head .loop .sum) p || holds (a .table .now) k p) (c .before .before .holder-at .ensures))
-    ∙ or-regroup (member (head .loop .sum) p) (f q) rest
+    ∙ or-assoc (member (head .loop .sum) p) (f q) rest
     ∙ ap (λ (b : Bool). member (head .loop .sum) p || b) (sym (any-left (head .loop .above) (c .without .result) q (held .1) (c .without .ensures) 64 f (held .0)))
     ∙ head .loop .inv p h
 
@@ -60,4 +55,4 @@ pub gather-spec : {M : Type 1} → statement M
 gather-spec =
     tie.close
     (tie.spec
-    Inv-loop μ-loop loop-holds (λ c κs. search needs) holder-at-requires (λ c κs. search needs) without-requires loop-less loop-again returns)
+    Inv-loop μ-loop loop-holds (λ c κs. search needs) (λ c κs. search needs) (λ c κs. search needs) without-requires loop-less loop-again returns)

@@ -28,7 +28,7 @@ insert-requires c κs =
     let stored = c .before .before .before .before .store in
     let k = c .before .before .before .before .before .before .before .holder-at in
     let on : unlike (start .args .table .now) (stored .last .0) (k .result) ≡ true = sym (stored .ensures .1) ∙ not-false (stored .result) (c .before .if1 .left) in
-    omega (arith, changed-lt (stored .ensures .0) on (stored .kept .0), start .pre .3)
+    omega (arith, changed-lt (stored .ensures .0) on (stored .kept .0), start .pre .2)
 
 returns-2 : tie.Need-returns-2
 returns-2 c =

@@ -13,7 +13,7 @@ insert-requires c κs =
     let stored = c .before .before .before .before in
     let start = c .before .before .before .before .before .before .before .before .before .before in
     let on : unlike (start .args .table .now) (stored .store .last .0) (start .args .k) ≡ true = sym (stored .store .ensures .1) ∙ c .before .if1 .taken in
-    omega (arith, changed-lt (stored .store .ensures .0) on (stored .store .kept .0), start .pre .3)
+    omega (arith, changed-lt (stored .store .ensures .0) on (stored .store .kept .0), start .pre .2)
 
 returns : tie.Need-returns
 returns c =

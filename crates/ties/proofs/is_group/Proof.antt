@@ -1,32 +1,21 @@
 -- `ties::is_group` meets its contract. Assumes nothing.
-use mathlib.Core.Path.{ap, _∙_}
+use mathlib.Core.Path.{refl, sym, ap}
+use mathlib.Core.Bool.{not}
 use Prim.Native.Nat.{ℕ}
 use lib.Dec.{eqb}
-use lib.ListN.{getD}
-use Rattle.bits.specs.Bits.{anyBelow}
-use Rattle.ties.proofs.Keeps.{no-group, group-by}
-use native.Mathlib.Omega.{arith}
+use lib.ListN.{List·getD-eq-default}
 use borrow.Author.Needs.{needs}
+use Rattle.ties.specs.TieArrays.{grouped}
 use Rattle.ties.proofs.is_group.Statement.{statement}
 use Rattle.ties.proofs.is_group.Tie as tie
 
 returns : tie.Need-returns
-returns c =
-    let start = c .before .before in
-    no-group (start .args .n) (start .args .slots .now) (start .args .k) (λ a b. omega arith)
+unfolding grouped
+returns c = sym (ap (λ (w : ℕ). not (eqb w 0)) (List·getD-eq-default (c .before .args .groups .now) 0 (c .if1 .taken)))
 
 returns-2 : tie.Need-returns-2
-returns-2 c =
-    let start = c .before .before .before in
-    no-group (start .args .n) (start .args .slots .now) (start .args .k) (λ a b. omega arith)
-
-returns-3 : tie.Need-returns-3
-returns-3 c =
-    let start = c .before .before .before .before in
-    let slots = start .args .slots .now in
-    let k = start .args .k in
-    c .any-slot .ensures ∙ ap (λ (m : ℕ). anyBelow m (λ q. eqb (getD slots q 0) k)) (start .pre)
-    ∙ group-by (start .args .n) slots k (c .before .before .if1 .left) (omega arith)
+unfolding grouped
+returns-2 c = refl
 
 pub is-group-spec : {M : Type 1} → statement M
-is-group-spec = tie.close (tie.spec returns returns-2 (λ c κs. search needs) returns-3)
+is-group-spec = tie.close (tie.spec returns (λ c. search needs) (λ c. search needs) returns-2)

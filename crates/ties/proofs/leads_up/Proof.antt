@@ -6,7 +6,6 @@ use lib.ListN.{getD}
 use Rattle.bits.specs.Bits.{bit, countBelow}
 use Rattle.ties.proofs.Climbing.{Climbed, climb-start, climb-none, climb-found, climb-less, climb-turn}
 use borrow.Author.Needs.{needs}
-use native.Mathlib.Omega.{arith}
 use Rattle.ties.proofs.leads_up.Statement.{statement}
 use Rattle.ties.proofs.leads_up.Tie as tie
 
@@ -20,9 +19,6 @@ loop-holds : tie.Need-loop-holds Inv-loop μ-loop
 loop-holds c =
     let start = c .before .before .before in
     climb-start (start .args .ups .now) (start .args .slots .now) (start .args .k) (start .args .e) (c .ties-up .result) (c .ties-up .ensures)
-
-holder-at-requires : tie.Need-holder-at-requires Inv-loop μ-loop
-holder-at-requires c κs = omega (arith, c .lowest .ensures .held (c .before .loop-test .taken), c .before .before .before .before .before .before .pre)
 
 returns : tie.Need-returns Inv-loop μ-loop
 returns c =
@@ -63,5 +59,5 @@ pub leads-up-spec : {M : Type 1} → statement M
 leads-up-spec =
     tie.close
     (tie.spec
-    Inv-loop μ-loop (λ c κs. search needs) loop-holds (λ c κs. search needs) holder-at-requires returns (λ c κs. search needs) with-requires
+    Inv-loop μ-loop (λ c κs. search needs) loop-holds (λ c κs. search needs) (λ c κs. search needs) returns (λ c κs. search needs) with-requires
     (λ c κs. search needs) loop-less loop-again returns-2)

@@ -8,6 +8,7 @@ use mathlib.Core.List.{List}
 use lib.ListN.{getD}
 use Rattle.bits.specs.Bits.{bit}
 use Rattle.ties.specs.TieArrays.{HasNumbered, AddsNumbered}
+use Rattle.ties.proofs.Masks.{numbered-lt}
 use Rattle.ties.proofs.numbered.Statement.{statement}
 use Rattle.ties.proofs.numbered.Tie as tie
 
@@ -28,7 +29,7 @@ loop-holds : tie.Need-loop-holds Inv-loop μ-loop
 loop-holds c = (omega arith, λ q l n. absurd (omega arith))
 
 with-numbered-requires : tie.Need-with-numbered-requires Inv-loop μ-loop
-with-numbered-requires c κs = let long = c .before .before .before .pre in (long, omega (arith, long))
+with-numbered-requires c κs = omega (arith, c .before .before .before .pre)
 
 add-q : tie.Need-add-q Inv-loop μ-loop
 add-q c = omega arith
@@ -45,7 +46,8 @@ loop-again c =
     )
 
 returns : tie.Need-returns Inv-loop μ-loop
-returns c = λ q l n. c .before .loop .inv .1 q (omega (arith, c .before .before .before .pre)) n
+returns c = λ q l n.
+    let past = numbered-lt (c .before .before .before .args .slots .now) q n in c .before .loop .inv .1 q (omega (arith, past)) n
 
 pub numbered-spec : {M : Type 1} → statement M
 numbered-spec = tie.close (tie.spec Inv-loop μ-loop loop-holds with-numbered-requires add-q loop-less loop-again returns)

@@ -7,7 +7,6 @@ use Rattle.bits.proofs.Bits.{bit-none}
 use Rattle.bits.proofs.Walks.{fewer-left}
 use Rattle.ties.proofs.Widening.{SlotsPassed, left-of, pass-start, pass-end, pass-on, pass-off}
 use borrow.Author.Needs.{needs}
-use native.Mathlib.Omega.{arith}
 use Rattle.ties.proofs.widened.Statement.{statement}
 use Rattle.ties.proofs.widened.Tie as tie
 
@@ -22,10 +21,7 @@ loop-holds c =
     let start = c .before .before .before in
     let a = start .args in
     pass-start (a .ups .now) (a .slots .now) (a .e) (a .m) _
-    (left-of (a .ups .now) (a .slots .now) (a .e) (a .used) (a .m) (bit (c .still-left .result)) (start .pre .1) (c .still-left .ensures))
-
-joins-requires : tie.Need-joins-requires Inv-loop μ-loop
-joins-requires c κs = omega (arith, c .lowest .ensures .held (c .before .loop-test .taken), c .before .before .before .before .before .before .pre .0)
+    (left-of (a .ups .now) (a .slots .now) (a .e) (a .used) (a .m) (bit (c .still-left .result)) (start .pre) (c .still-left .ensures))
 
 with-requires : tie.Need-with-requires Inv-loop μ-loop
 with-requires c κs = c .before .before .lowest .ensures .held (c .before .before .before .loop-test .taken) .0
@@ -61,4 +57,4 @@ pub widened-spec : {M : Type 1} → statement M
 widened-spec =
     tie.close
     (tie.spec
-    Inv-loop μ-loop (λ c κs. search needs) loop-holds (λ c κs. search needs) joins-requires with-requires without-requires loop-less loop-again returns)
+    Inv-loop μ-loop (λ c κs. search needs) loop-holds (λ c κs. search needs) (λ c κs. search needs) with-requires without-requires loop-less loop-again returns)

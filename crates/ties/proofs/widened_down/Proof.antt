@@ -1,10 +1,11 @@
 -- `ties::widened_down` meets its contract: the slots from q on are passed. Assumes nothing.
 use mathlib.Core.Path.{_≡_, sym, _∙_}
-use mathlib.Core.Bool.{not, _&&_, true≢false}
+use mathlib.Core.Bool.{not, _&&_}
 use Prim.Native.Nat.{ℕ, _-_, _<_, _≤_}
 use native.Mathlib.Decide.{ℕ-discrete, decLt}
 use lib.Dec.{eqb, ltb}
-use borrow.Author.Tests.{eq-eqb, ne-eqb, lt-ltb, le-ltb}
+use borrow.Author.Tests.{eq-eqb, ne-eqb, lt-ltb, le-ltb, ltb-false}
+use Rattle.ties.proofs.Masks.{in-use-lt, numbered-lt}
 use Rattle.ties.proofs.Widening.{SlotsPassed, pass-start, pass-end, pass-on, pass-off}
 use borrow.Author.Needs.{needs}
 use native.Mathlib.Omega.{arith}
@@ -30,11 +31,9 @@ loop-holds : tie.Need-loop-holds Inv-loop μ-loop
 loop-holds c =
     let start = c .before .before in (
       omega (arith, start .pre),
-      pass-start (start .args .ups .now) (start .args .slots .now) (start .args .e) (start .args .m) _ (λ q l off u. absurd (true≢false (sym (lt-ltb q _ (omega (arith, start .pre))) ∙ off))),
+      pass-start (start .args .ups .now) (start .args .slots .now) (start .args .e) (start .args .m) _
+          (λ q l off u. absurd (omega (arith, ltb-false q _ off, numbered-lt (start .args .slots .now) q (in-use-lt _ (start .args .slots .now) q u .0)))),
     )
-
-joins-requires : tie.Need-joins-requires Inv-loop μ-loop
-joins-requires c κs = omega (arith, c .before .before .before .before .pre)
 
 with-requires : tie.Need-with-requires Inv-loop μ-loop
 with-requires c κs = omega arith
@@ -72,4 +71,4 @@ pub widened-down-spec : {M : Type 1} → statement M
 widened-down-spec =
     tie.close
     (tie.spec
-    Inv-loop μ-loop loop-holds (λ c. search needs) joins-requires with-requires loop-less loop-again loop-less-2 loop-again-2 returns)
+    Inv-loop μ-loop loop-holds (λ c. search needs) (λ c κs. search needs) with-requires loop-less loop-again loop-less-2 loop-again-2 returns)

@@ -4,6 +4,7 @@ use lib.ListN.{length}
 use borrow.Author.Tests.{not-true, not-false}
 use borrow.Author.Needs.{needs}
 use Rattle.model.specs.Truth.{truth}
+use Rattle.text.specs.Values.{words}
 use Rattle.values.specs.Operands.{constantsFrom}
 use Rattle.values.specs.Compared.{amongOf}
 use Rattle.values.proofs.Constants.{strs-find}
@@ -12,10 +13,10 @@ use Rattle.values.proofs.among_strs.Statement.{statement}
 use Rattle.values.proofs.among_strs.Tie as tie
 
 abbrev Inv-loop : tie.InvT-loop
-Inv-loop code wanted start end some₀ i₀ some i = Searching (constantsFrom 2 code end) wanted start some i
+Inv-loop code x y z start end some₀ i₀ some i = Searching (constantsFrom 2 code end) (words x y z) start some i
 
 abbrev μ-loop : tie.MeasureT-loop
-μ-loop code wanted start end some₀ i₀ some i = length (constantsFrom 2 code end i)
+μ-loop code x y z start end some₀ i₀ some i = length (constantsFrom 2 code end i)
 
 loop-holds : tie.Need-loop-holds Inv-loop μ-loop
 unfolding amongOf

@@ -12,8 +12,8 @@ returns c =
 
 returns-2 : tie.Need-returns-2
 returns-2 c =
-    let a = c .before .before .before .before .before .before .before .args in
-    some-alone (lent (a .code .now) (a .pairs .now) (a .session .now) (a .entries .now)) (a .operand) (c .before .before .if1 .left) (c .before .one-word .result) (c .before .one-word .ensures) (c .among .result) (c .among .ensures)
+    let a = c .before .before .before .before .before .before .args in
+    some-alone (lent (a .code .now) (a .pairs .now) (a .session .now) (a .entries .now)) (a .operand) (c .before .if1 .left) (c .among .result) (c .among .ensures)
 
 pub lone-spec : {M : Type 1} → statement M
-lone-spec = tie.close (tie.spec returns (λ c κs. search needs) (λ c κs. search needs) returns-2)
+lone-spec = tie.close (tie.spec returns (λ c κs. search needs) returns-2)
