@@ -2,7 +2,8 @@
    program, from standard input, and prints the answers. `calls many` reads many such sessions, each behind a line with its number and its length in
    bytes, and prints a line `session=NUMBER` before the answers of each and, behind them, the file as it stands then: `write=` as in a call list and
    `text=` with its bytes; then `wrong=` with what is amiss about it, if something is. `calls lists` does so with many call lists, which write where they
-   say so. Status 2 for input that is no call list or no such stream. */
+   say so. A line `wrong=` also stands behind the answer to a request that has a rule, a cause or other bits where none belong. Status 2 for input that
+   is no call list or no such stream. */
 #include "zhulmekov.h"
 
 #include <inttypes.h>
@@ -45,13 +46,24 @@ static void put_hex(const char *head, const uint8_t *s, size_t n) {
     puts("");
 }
 
+/* NULL for what is no cause. */
+static const char *cause_word(uint32_t cause) { return cause == ZHUL_ABSENT ? "absent" : cause == ZHUL_UNLIKE ? "unlike" : NULL; }
+
+/* What an answer with the same number, rule and cause has in all its bits: nothing besides. */
+static uint64_t packed(uint64_t r) { return ZHUL_NUMBER(r) | (uint64_t)ZHUL_RULE(r) << 32 | (uint64_t)ZHUL_CAUSE(r) << 40; }
+
 static void put_decision(uint64_t r) {
-    switch (ZHUL_NUMBER(r)) {
-    case ZHUL_PERMIT: printf("try=permit,%" PRIu32 "\n", ZHUL_CARRIED(r)); break;
+    uint32_t number = ZHUL_NUMBER(r), rule = ZHUL_RULE(r), cause = ZHUL_CAUSE(r);
+    const char *word = cause_word(cause);
+    switch (number) {
+    case ZHUL_PERMIT: printf("try=permit,%" PRIu32 "\n", rule); break;
     case ZHUL_DENY: puts("try=deny"); break;
-    case ZHUL_UNDEFINED: puts("try=undefined"); break;
-    default: printf("try=refused,%" PRIu32 "\n", ZHUL_NUMBER(r));
+    case ZHUL_UNDEFINED: printf("try=undefined,%s\n", word != NULL ? word : "(no cause)"); break;
+    default: printf("try=refused,%" PRIu32 "\n", number);
     }
+    if (number != ZHUL_UNDEFINED && cause != 0) puts("wrong=a cause of what is not undefined");
+    if (number != ZHUL_PERMIT && rule != 0) puts("wrong=a rule of what is no permit");
+    if (packed(r) != r) puts("wrong=other bits of the answer are set");
 }
 
 static void put_words(void) {

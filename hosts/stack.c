@@ -69,6 +69,9 @@ static void expect(const char *what, uint64_t answer, uint32_t number, uint32_t 
     exit(1);
 }
 
+/* What an answer to a request carries with a cause: that stands above the eight bits of the rule. */
+static uint32_t of_cause(uint32_t cause) { return cause << 8; }
+
 /* Writes the file as it stands now: it has to load, unless it is too long to be written, and to be as long as was told beforehand. */
 static uint64_t written(const char *what) {
     static uint64_t second[ZHUL_BOOK_WORDS], second_table[ZHUL_TABLE_WORDS];
@@ -121,7 +124,7 @@ static int group(int place, int reversed) { return reversed ? GROUPS - 1 - place
 /* Every table full, all groups in one chain of parents, all users at its end, and values at its head while the limit leaves room for 32 rules. */
 static void largest(int reversed) {
     int head = group(0, reversed), next = group(1, reversed), end = group(GROUPS - 1, reversed);
-    uint8_t block[50] = {1, GROUPS + USERS, GROUPS + USERS + 1, 0, 255, 255, 255, 0, 8, 0};
+    uint8_t block[50] = {1, GROUPS + USERS, GROUPS + USERS + 1, 0, 255, 255, 255, 0, 8, 0}, bare[10] = {1, GROUPS + USERS, GROUPS + USERS + 1};
     for (int e = 0; e < 8; e++) block[10 + 5 * e] = (uint8_t)(OF_USER + OF_OBJECT + e % 4), block[11 + 5 * e] = (uint8_t)e;
     length = lines = 0;
     put("rights=1\n");
@@ -145,6 +148,8 @@ static void largest(int reversed) {
     expect("empty", measured(EMPTY, input, 0, block, 0), 0, 0);
     expect("load", measured(LOAD, input, length, block, 0), 0, (uint32_t)lines);
     expect("decide", measured(DECIDE, block, sizeof block, block, 0), ZHUL_PERMIT, 31);
+    /* With nothing activated, half of the rules are UNDEF, and for each term that is, its operands are asked for values once more. */
+    expect("decide where values are lacking", measured(DECIDE, bare, sizeof bare, block, 0), ZHUL_PERMIT, 31);
     expect("pass", measured(PASS, input, length, block, sizeof block), ZHUL_PERMIT, 0);
     /* Half of the rules have one space that is not written: the one behind a set. */
     expect("write", written("write"), 0, (uint32_t)length - 16);
@@ -192,7 +197,7 @@ static void stray(void) {
     static const uint8_t block[10] = {1, 1, 2};
     expect("load before other rules", measured(LOAD, (const uint8_t *)file, sizeof file - 1, block, 0), 0, 5);
     memset(rules, 5, sizeof rules);
-    expect("decide on other rules", measured(DECIDE, block, sizeof block, block, 0), ZHUL_UNDEFINED, 0);
+    expect("decide on other rules", measured(DECIDE, block, sizeof block, block, 0), ZHUL_UNDEFINED, of_cause(ZHUL_UNLIKE));
     printf("%s on rules that no load leaves %zu\n", names[DECIDE], job.depth);
 }
 
@@ -237,7 +242,8 @@ static void expected(FILE *out, const char *name, uint32_t *number, uint32_t *ca
     *number = *carried = 0;
     if (fgets(line, sizeof line, out) == NULL) printf("%s: no more answers\n", name), exit(1);
     if (strcmp(line, "try=deny\n") == 0) *number = ZHUL_DENY;
-    else if (strcmp(line, "try=undefined\n") == 0) *number = ZHUL_UNDEFINED;
+    else if (strcmp(line, "try=undefined,absent\n") == 0) *number = ZHUL_UNDEFINED, *carried = of_cause(ZHUL_ABSENT);
+    else if (strcmp(line, "try=undefined,unlike\n") == 0) *number = ZHUL_UNDEFINED, *carried = of_cause(ZHUL_UNLIKE);
     else if (sscanf(line, "try=permit,%" SCNu32, carried) != 1 && sscanf(line, "try=refused,%" SCNu32, number) != 1)
         sscanf(strchr(line, '=') + 1, "%" SCNu32 ",%" SCNu32, number, carried);
 }

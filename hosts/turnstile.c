@@ -1,5 +1,6 @@
-/* A turnstile: loads a rights file once, then lets passes through, takes an edit of the ticket office and turns a pass away. Prints each answer.
-   `turnstile FILE`, where FILE is the valley file of document 01 (examples/valley/rights). Status 2 if the file cannot be read. */
+/* A turnstile: loads a rights file once, then lets passes through, takes an edit of the ticket office and turns a pass away. Prints each answer, and for
+   the staff what to do about an undefined one. `turnstile FILE`, where FILE is the valley file of document 01 (examples/valley/rights). Status 2 if the
+   file cannot be read. */
 #include "zhulmekov.h"
 
 #include <stdio.h>
@@ -24,15 +25,20 @@ static void edit(const char *line) {
     printf("edit: number %u, holders changed %u: %s", (unsigned)ZHUL_NUMBER(answer), (unsigned)ZHUL_CARRIED(answer), line);
 }
 
+/* What the staff do where a request is undefined. */
+static const char *advice(uint32_t cause) {
+    return cause == ZHUL_ABSENT ? "a value is lacking, send to the counter that sells it" : "the rule is wrong, call the office";
+}
+
 /* One pass at the gate: kind and zone activated, the hour as the one entry. */
 static void pass(uint8_t hour) {
     const uint8_t block[15] = {1, PASS_17, GATE_2, OPERATION_PASS, ATTRIBUTES_KIND_ZONE, 0, 0, 0, 1, 0, ATTRIBUTE_HOUR, hour, 0, 0, 0};
     uint64_t answer = zhul_decide(block, sizeof block, book, rules, table, ZHUL_TABLE_WORDS);
     printf("pass at %u: ", (unsigned)hour);
     switch (ZHUL_NUMBER(answer)) {
-    case ZHUL_PERMIT: printf("open, by rule %u\n", (unsigned)ZHUL_CARRIED(answer)); break;
+    case ZHUL_PERMIT: printf("open, by rule %u\n", (unsigned)ZHUL_RULE(answer)); break;
     case ZHUL_DENY: puts("closed, denied"); break;
-    case ZHUL_UNDEFINED: puts("closed, undefined"); break;
+    case ZHUL_UNDEFINED: printf("closed, undefined: %s\n", advice(ZHUL_CAUSE(answer))); break;
     default: printf("closed, refused %u\n", (unsigned)ZHUL_NUMBER(answer));
     }
 }

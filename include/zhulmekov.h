@@ -97,14 +97,25 @@ extern "C" {
 #define ZHUL_DENY 64
 #define ZHUL_UNDEFINED 65
 
+/* Why a request is undefined: whom the staff send the skier to, or call. Absent: a value is lacking; the pass, the gate, admin or the entries have none
+   of an attribute that a rule asks for, or the pass does not activate it. Unlike: all that a rule asks for is there, but it compares things of
+   different types, orders what is no integer, takes for true or false what is no bool, or says UNDEF. Of several undefined rules, one that is absent
+   makes the answer absent. */
+#define ZHUL_ABSENT 1
+#define ZHUL_UNLIKE 2
+
 /* The number of an answer, and what it carries: the line of a load (of an accepted one the lines read), the count of an edit (0 of a refused one), the
-   rule of a permit (0 of every other answer to a request), the length in bytes of the file that a write put out (0 of a refused one). zhul_length
-   answers a length and nothing else: it has no such parts. */
+   length in bytes of the file that a write put out (0 of a refused one). zhul_length answers a length and nothing else: it has no such parts. An
+   answer to a request carries two things, which ZHUL_RULE and ZHUL_CAUSE tell apart; ZHUL_CARRIED of a permit is still the rule. */
 #define ZHUL_NUMBER(answer) ((uint32_t)((answer) & 0xffffffffu))
 #define ZHUL_CARRIED(answer) ((uint32_t)((answer) >> 32))
 
-/* Document 01's one call: loads the file, then decides the block. 0 permit, 64 deny, 65 undefined, else the refusal; the table as after the load.
-   It has its book on the stack: see above. */
+/* Of an answer to a request: the rule of a permit, and with ZHUL_UNDEFINED its cause, ZHUL_ABSENT or ZHUL_UNLIKE; 0 with every other number. */
+#define ZHUL_RULE(answer) ((uint32_t)(((answer) >> 32) & 0xffu))
+#define ZHUL_CAUSE(answer) ((uint32_t)(((answer) >> 40) & 3u))
+
+/* Document 01's one call: loads the file, then decides the block. 0 permit, 64 deny, 65 undefined, else the refusal; the table as after the load. It
+   tells neither rule nor cause: 65 is for both causes. It has its book on the stack: see above. */
 uint32_t zhul_pass(const uint8_t *file, size_t file_length, const uint8_t *block, size_t block_length, uint64_t *table, size_t table_words);
 
 /* Loads a file into the host's book: book[ZHUL_BOOK_WORDS], rules[ZHUL_RULES_BYTES]. */
@@ -113,7 +124,8 @@ uint64_t zhul_load(const uint8_t *file, size_t file_length, uint64_t *book, uint
 /* One edit line, with its sign and its byte 10, on the book and the table that the last load or edit left. */
 uint64_t zhul_edit(const uint8_t *line, size_t line_length, uint64_t *book, uint64_t *table, size_t table_words);
 
-/* One pass block, on the book and the table that the last load or edit left and the rules that the last load left. Nothing is written. */
+/* One pass block, on the book and the table that the last load or edit left and the rules that the last load left. The number, the rule of a permit and
+   the cause of undefined: see ZHUL_RULE and ZHUL_CAUSE. Nothing is written. */
 uint64_t zhul_decide(const uint8_t *block, size_t block_length, const uint64_t *book, const uint8_t *rules, const uint64_t *table, size_t table_words);
 
 /* The file as it stands now, into the start of the host's buffer[buffer_length], from the book that the last load or edit left and the rules that the

@@ -4,10 +4,14 @@ use crate::blocks::{block, held_mask};
 use crate::case::{Calls, Case};
 use crate::files;
 use crate::full::{self, FullFile, Size};
-use crate::told::{Told, DENY, UNDEFINED};
+use crate::policies;
+use crate::told::{Told, DENY};
+use reference::Cause;
 
 const LOAD_GOAL: f64 = 3.0;
 const USER_GOAL: f64 = 2.5;
+const VALLEY_REQUEST_GOAL: f64 = 2.3;
+const LARGE_REQUEST_GOAL: f64 = 2.5;
 const REFUSED_REQUEST_GOAL: f64 = 1.5;
 const WRITE_GOAL: f64 = 3.0;
 
@@ -26,6 +30,7 @@ pub fn all() -> Vec<Case> {
     cases.extend(edits_at_the_top(&size, &full));
     cases.extend(refused_edits(&size, &full));
     cases.extend(requests(&size, &full));
+    cases.extend(undefined_requests());
     cases.extend(refused_requests(&size, &full));
     cases.extend(writes(&full));
     cases.extend(lengths(&full));
@@ -102,20 +107,50 @@ fn large_block(size: &Size, file: &[u8]) -> Vec<u8> {
 }
 
 fn requests(size: &Size, full: &FullFile) -> Vec<Case> {
-    let case = |name: &str, file: &[u8], block: Vec<u8>, number: u32, goal: f64| {
-        let calls = Calls::Request(block, Told::new(number, 0));
-        Case::new("request", name, file, calls).with_goal(goal)
+    let case = |name: &str, file: &[u8], block: Vec<u8>, told: Told, goal: f64| {
+        Case::new("request", name, file, Calls::Request(block, told)).with_goal(goal)
     };
     vec![
-        case("valley, permit", &files::valley(), files::valley_block(), 0, 2.3),
+        case("valley, permit", &files::valley(), files::valley_block(), Told::new(0, 0), VALLEY_REQUEST_GOAL),
         case(
             "16 rules of 16 terms, valley values",
             &files::valley_large(16),
             files::valley_block(),
-            UNDEFINED,
-            2.5,
+            Told::undefined(Cause::Unlike),
+            LARGE_REQUEST_GOAL,
         ),
-        case("16 rules of 16 terms, full file", &full.bytes, large_block(size, &full.bytes), DENY, 3.0),
+        case(
+            "16 rules of 16 terms, full file",
+            &full.bytes,
+            large_block(size, &full.bytes),
+            Told::new(DENY, 0),
+            3.0,
+        ),
+    ]
+}
+
+/// A term that is UNDEF is looked at again for its cause: one such term behind others, and nothing but such terms.
+fn undefined_requests() -> Vec<Case> {
+    let case = |name: &str, file: &[u8], block: Vec<u8>, cause: Cause, goal: f64| {
+        let name = format!("{}: {name}", cause.word());
+        let calls = Calls::Request(block, Told::undefined(cause));
+        Case::new("undefined request", name, file, calls).with_goal(goal)
+    };
+    let late = block(4, 5, 0, 3, &[(4, 17)]);
+    let unlike = files::valley_with(&policies::valley_and_unlike());
+    let large = |policy: String| files::valley_with(&vec![policy; 16]);
+    let (absent_terms, unlike_terms) = (large(policies::terms(16)), large(policies::unlike_terms(16)));
+    vec![
+        case("rule 1, valley", &files::valley(), late.clone(), Cause::Absent, VALLEY_REQUEST_GOAL),
+        case("rule 1, valley values", &unlike, late.clone(), Cause::Unlike, VALLEY_REQUEST_GOAL),
+        case(
+            "16 rules of 16 terms, each term",
+            &absent_terms,
+            block(4, 5, 0, 0, &[]),
+            Cause::Absent,
+            LARGE_REQUEST_GOAL,
+        ),
+        case("16 rules of 16 terms, each term", &unlike_terms, late, Cause::Unlike, LARGE_REQUEST_GOAL),
     ]
 }
 

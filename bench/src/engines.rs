@@ -47,7 +47,7 @@ impl Engines {
     }
 
     fn request(&mut self, block: &[u8], wanted: Told) -> Result<(), String> {
-        let ours = Told::of_library(self.ours.request(block));
+        let ours = Told::of_request(self.ours.request(block));
         let reference = Told::of_decision(self.reference.request(block));
         self.compare("request", ours, reference, wanted)
     }

@@ -4,7 +4,8 @@ use crate::case::{Calls, Case};
 use crate::files;
 use crate::full::{self, Size};
 use crate::policies;
-use crate::told::{Told, DENY, UNDEFINED};
+use crate::told::{Told, DENY};
+use reference::Cause;
 
 const NOBODY_BELOW_GOAL: f64 = 1.5;
 
@@ -67,7 +68,7 @@ fn requests_by_terms() -> Vec<Case> {
 
 fn requests_by_rules() -> Vec<Case> {
     let case = |rules: usize| {
-        let calls = Calls::Request(files::valley_block(), Told::new(UNDEFINED, 0));
+        let calls = Calls::Request(files::valley_block(), Told::undefined(Cause::Unlike));
         Case::new(
             "request, by rules of 16 terms",
             format!("{rules} rules, {} terms", 16 * rules),

@@ -1,6 +1,6 @@
 //! Policies that are FALSE or UNDEF, so that all rules of an operation are evaluated.
 
-/// 16 terms over the valley file's names, UNDEF.
+/// 16 terms over the valley file's names, UNDEF by its constant: unlike.
 pub fn sixteen_terms_valley() -> &'static str {
     "user.zone=object.zone AND env.hour<17 AND env.hour>=8 AND user.zone IN{1,2,3}AND(user.kind IN{\"day\",\"season\"}\
      OR NOT user.staff)AND user.zone!=9 AND object.zone SUBSET{2}AND 3<2 OR user.zone=7 OR 1>2 OR{1,2}={3}OR 5=6 \
@@ -14,8 +14,21 @@ pub fn sixteen_terms_full() -> &'static str {
      AND user.a5 AND 3=4"
 }
 
-/// So many terms over the valley file's names, none of them TRUE.
+/// The valley file's rule 0, and a rule that compares a string with a number.
+pub fn valley_and_unlike() -> [String; 2] {
+    ["user.zone = object.zone AND env.hour < 17", "user.kind = env.hour"].map(String::from)
+}
+
+/// So many terms over the valley file's names, none of them TRUE: FALSE with values, else absent.
 pub fn terms(count: usize) -> String {
-    let term = |k: usize| if k.is_multiple_of(2) { "user.zone=9" } else { "env.hour<8" };
-    (0..count).map(term).collect::<Vec<&str>>().join(" OR ")
+    in_turn(count, ["user.zone=9", "env.hour<8"])
+}
+
+/// So many terms over the valley file's names, each of unlike types.
+pub fn unlike_terms(count: usize) -> String {
+    in_turn(count, ["user.kind=9", "env.hour<\"8\""])
+}
+
+fn in_turn(count: usize, terms: [&str; 2]) -> String {
+    (0..count).map(|k| terms[k % 2]).collect::<Vec<&str>>().join(" OR ")
 }

@@ -46,11 +46,27 @@ pub type EditAnswer = Result<usize, Refusal>;
 /// A write: the length of the text, or the writer's only refusal.
 pub type WriteAnswer = Result<usize, Refusal>;
 
+/// Why an answer is undefined: a value is lacking, or anything else.
+#[derive(Clone, Copy, Debug, PartialEq, Eq)]
+pub enum Cause {
+    Absent,
+    Unlike,
+}
+
+impl Cause {
+    pub fn word(self) -> &'static str {
+        match self {
+            Cause::Absent => "absent",
+            Cause::Unlike => "unlike",
+        }
+    }
+}
+
 /// The answer to a pass block.
 #[derive(Clone, Copy, Debug, PartialEq, Eq)]
 pub enum Decision {
     Permit(usize),
     Deny,
-    Undefined,
+    Undefined(Cause),
     Refused(Refusal),
 }

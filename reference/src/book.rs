@@ -1,14 +1,13 @@
 //! The engine that keeps the lent table: load, edit, request, write, length and
 //! the C call.
 
-use crate::answer::{Decision, EditAnswer, LoadAnswer, Refusal, RefusedLine, WriteAnswer};
+use crate::answer::{Cause, Decision, EditAnswer, LoadAnswer, Refusal, RefusedLine, WriteAnswer};
 use crate::block::Block;
 use crate::declarations::{Declarations, ADMIN};
-use crate::evaluate::{held, View};
+use crate::evaluate::{held, Outcome, View};
 use crate::file;
 use crate::graph::TieGraph;
 use crate::pairs::PairSet;
-use crate::policy::Truth;
 use crate::tie::{judge_edit, Change, StandingTies, Tie};
 use crate::{length, writer, TABLE_WORDS};
 
@@ -83,19 +82,24 @@ impl Book {
     }
 
     /// The rules of the operation in their order; the first TRUE one permits.
+    /// Of the causes of UNDEF rules absent is the one that counts.
     fn run_rules(&self, view: &View, operation: usize) -> Decision {
-        let mut decision = Decision::Deny;
+        let mut all = Outcome::False;
         for (number, rule) in self.declared.rules.iter().enumerate() {
             if rule.operation != operation {
                 continue;
             }
-            match view.policy(&rule.policy) {
-                Truth::True => return Decision::Permit(number),
-                Truth::Undef => decision = Decision::Undefined,
-                Truth::False => {}
+            let outcome = view.policy(&rule.policy);
+            if outcome == Outcome::True {
+                return Decision::Permit(number);
             }
+            all = all.max(outcome);
         }
-        decision
+        match all {
+            Outcome::Absent => Decision::Undefined(Cause::Absent),
+            Outcome::Unlike => Decision::Undefined(Cause::Unlike),
+            _ => Decision::Deny,
+        }
     }
 
     /// Writes the file as it stands now over the start of `buffer`. A refusal
@@ -130,7 +134,7 @@ fn edited_holder(tie: &Tie) -> usize {
 }
 
 /// The call for hosts in C: loads, then decides. 0 permit, 64 deny, 65
-/// undefined, else the refusal. The table is as after the load.
+/// undefined of either sort, else the refusal. The table is as after the load.
 pub fn c_call(file: &[u8], block: &[u8], table: &mut [u64]) -> u8 {
     let (book, loaded) = Book::load(file, table);
     if let Err(refused) = loaded {
@@ -139,7 +143,7 @@ pub fn c_call(file: &[u8], block: &[u8], table: &mut [u64]) -> u8 {
     match book.request(block, table) {
         Decision::Permit(_) => 0,
         Decision::Deny => 64,
-        Decision::Undefined => 65,
+        Decision::Undefined(_) => 65,
         Decision::Refused(refusal) => refusal.number(),
     }
 }

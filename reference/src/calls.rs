@@ -80,7 +80,7 @@ impl Shown for LedgerWords {
         match self.request(block) {
             Decision::Permit(_) => 0,
             Decision::Deny => 64,
-            Decision::Undefined => 65,
+            Decision::Undefined(_) => 65,
             Decision::Refused(refusal) => refusal.number(),
         }
     }

@@ -1,6 +1,8 @@
 //! Counts which answers a run of random sessions met. Document 01 says which
 //! can occur; each of these must be met, and no other may be.
 
+mod causes;
+
 use crate::answer::{Decision, Refusal};
 use crate::book::c_call;
 use crate::file::FILE_LIMIT;
@@ -48,6 +50,7 @@ impl Coverage {
             self.meet(name);
             if let (Call::Request(block), Answer::Request(decision)) = (call, &answer) {
                 self.take_term(&engine, block, *decision);
+                self.take_causes(&engine, block, *decision);
             }
             if let Call::Load(file) = call {
                 self.take_c_call(session, place, file);
@@ -82,11 +85,20 @@ impl Coverage {
         };
         if let Some(form) = name_term(&rule.policy) {
             let truth = match decision {
-                Decision::Permit(_) => "TRUE",
-                Decision::Undefined => "UNDEF",
-                _ => "FALSE",
+                Decision::Permit(_) => "TRUE".to_string(),
+                Decision::Undefined(cause) => format!("UNDEF {}", cause.word()),
+                _ => "FALSE".to_string(),
             };
             self.meet(format!("term {form} {truth}"));
+        }
+    }
+
+    fn take_causes(&mut self, engine: &TableEngine, block: &[u8], decision: Decision) {
+        if matches!(decision, Decision::Refused(_)) {
+            return;
+        }
+        for name in causes::names(engine, block, decision).expect("a decided block is read") {
+            self.meet(name);
         }
     }
 
@@ -101,8 +113,12 @@ impl Coverage {
         };
         assert_eq!(pieces(&output).count(), expected, "one answer for each line");
         for line in pieces(&output) {
-            let end = line.iter().position(|byte| matches!(byte, b',' | b'\n'));
-            let shown = String::from_utf8_lossy(&line[..end.unwrap_or(0)]).into_owned();
+            let line = String::from_utf8_lossy(line);
+            // The cause is a word; what follows other commas is a number.
+            let shown = match line.trim_end() {
+                undefined if undefined.starts_with("try=undefined") => undefined,
+                other => other.split(',').next().unwrap_or(other),
+            };
             self.meet(format!("gate {shown}"));
         }
     }
@@ -179,7 +195,7 @@ fn name_decision(decision: Decision) -> String {
     match decision {
         Decision::Permit(rule) => format!("request permit {rule}"),
         Decision::Deny => "request deny".to_string(),
-        Decision::Undefined => "request undefined".to_string(),
+        Decision::Undefined(cause) => format!("request undefined {}", cause.word()),
         Decision::Refused(refusal) => format!("request {}", refusal.number()),
     }
 }
@@ -261,8 +277,10 @@ pub fn possible() -> Vec<String> {
     names.extend((0..32).map(|rule| format!("request permit {rule}")));
     let operators = Operator::ALL.map(Operator::text);
     for form in operators.into_iter().chain(["attribute", "NOT attribute"]) {
-        names.extend(["TRUE", "FALSE", "UNDEF"].map(|truth| format!("term {form} {truth}")));
+        let truths = ["TRUE", "FALSE", "UNDEF absent", "UNDEF unlike"];
+        names.extend(truths.map(|truth| format!("term {form} {truth}")));
     }
+    names.extend(causes::possible());
     names
 }
 
@@ -275,7 +293,7 @@ const FIXED: [(&str, &[&str]); 20] = [
     ("edit -other", &["4"]),
     ("edit without sign", &["4"]),
     ("edit count", &["0", "1", "2 to 9", "10 and more"]),
-    ("request", &["deny", "undefined", "1", "15", "16", "17"]),
+    ("request", &["deny", "undefined absent", "undefined unlike", "1", "15", "16", "17"]),
     ("write", &["0"]),
     ("write short buffer", &["18"]),
     ("write long text", &["18"]),
@@ -315,7 +333,8 @@ const FIXED: [(&str, &[&str]); 20] = [
             "edit=14",
             "try=permit",
             "try=deny",
-            "try=undefined",
+            "try=undefined,absent",
+            "try=undefined,unlike",
             "try=refused",
             "bad=",
         ],

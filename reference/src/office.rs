@@ -118,7 +118,7 @@ fn print_decision(decision: Decision) -> String {
     match decision {
         Decision::Permit(rule) => format!("try=permit,{rule}"),
         Decision::Deny => "try=deny".to_string(),
-        Decision::Undefined => "try=undefined".to_string(),
+        Decision::Undefined(cause) => format!("try=undefined,{}", cause.word()),
         Decision::Refused(refusal) => format!("try=refused,{}", refusal.number()),
     }
 }

@@ -62,7 +62,7 @@ fn by_ledger(file: &[u8], block: &[u8], table_length: usize) -> u8 {
     match ledger.request(block, table_length) {
         Decision::Permit(_) => 0,
         Decision::Deny => 64,
-        Decision::Undefined => 65,
+        Decision::Undefined(_) => 65,
         Decision::Refused(refusal) => refusal.number(),
     }
 }

@@ -1,6 +1,6 @@
 //! Valley cases A to L of document 01, and the example of its office program.
 
-use reference::{Book, Decision, Refusal};
+use reference::{Book, Cause, Decision, Refusal};
 
 const VALLEY: &str = "rights=1;attr=user,kind,str;attr=user,zone,int;attr=user,staff,bool;\
 attr=object,zone,int;attr=env,hour,int;op=pass;atom=user.kind,\"day\";atom=user.kind,\"season\";\
@@ -53,8 +53,9 @@ fn a_first_words_and_all_others() {
 #[test]
 fn b_to_e_decisions() {
     assert_eq!(decide(3, &[16]), Decision::Permit(0));
-    assert_eq!(decide(3, &[17]), Decision::Undefined);
-    assert_eq!(decide(3, &[]), Decision::Undefined);
+    // At 17 the first rule is FALSE, and no staff value is there for the second.
+    assert_eq!(decide(3, &[17]), Decision::Undefined(Cause::Absent));
+    assert_eq!(decide(3, &[]), Decision::Undefined(Cause::Absent));
     assert_eq!(decide(4, &[]), Decision::Refused(Refusal::NotHeld));
 }
 
@@ -84,7 +85,7 @@ fn g_the_other_path_still_gives_the_pair() {
 #[test]
 fn j_to_l_policies() {
     assert_eq!(alone("FALSE AND TRUE OR TRUE"), Ok(Decision::Permit(0)));
-    assert_eq!(alone("\"b\" < \"c\""), Ok(Decision::Undefined));
+    assert_eq!(alone("\"b\" < \"c\""), Ok(Decision::Undefined(Cause::Unlike)));
     assert_eq!(alone("NOT user.kind = \"day\""), Err(Refusal::Malformed));
 }
 

@@ -153,6 +153,11 @@ pub const DENY: u8 = 64;
 
 pub const UNDEFINED: u8 = 65;
 
+// The causes of undefined.
+pub const ABSENT: u8 = 1;
+
+pub const UNLIKE: u8 = 2;
+
 // A byte as a word and as a place, a word as a place: the same number.
 pub fn byte_to_word(b: u8) -> u64
     ensures { λ r. ⌜ (r ≡ b) × (r ≤ 255) ⌝ }

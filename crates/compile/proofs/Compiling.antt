@@ -13,12 +13,13 @@ use borrow.Author.Tests.{ltb-false}
 use Rattle.model.specs.Notation.{if_then_else_, anyOf, allOf}
 use Rattle.model.specs.Limits.{termLimit, depthLimit, setLimit}
 use Rattle.model.specs.Bytes.{Bytes}
-use Rattle.model.specs.Truth as model
+use Rattle.truth.specs.Verdicts.{Verdict, policyVerdict}
+use Rattle.truth.proofs.Verdicts.{rule-read}
 use Rattle.model.specs.Declarations.{Declarations}
 use Rattle.model.specs.Tokens.{Token, Mark, isToken}
 use Rattle.model.specs.Grammar as grammar
 use Rattle.model.specs.Grammar.{Policy, Obeys, readComparison, terms, depth, largestSet, readPolicy, tooLarge}
-use Rattle.model.specs.Meaning.{Values, meaning, meaningOf}
+use Rattle.model.specs.Meaning.{Values}
 use Rattle.model.specs.Refusals.{unknownName}
 use Rattle.model.proofs.WordTables.{false-is-true, none-is-some}
 use Rattle.model.proofs.Lists.{or-none}
@@ -43,7 +44,7 @@ use Rattle.compile.proofs.RowBytes.{row-front, row-before, row-next, ro
 
 -- at a place of the code, with the rows before a byte written: the walk from here over the tokens that are left comes to t, there is room for the rows of
 -- their terms, and with any rows that begin as these do, a run that goes on from here is one from the start
-pub record Here (L : Lent) (rows : Bytes) (row at : ℕ) (A : Asked) (read : Values) (t : model.Truth) : Type 0 where
+pub record Here (L : Lent) (rows : Bytes) (row at : ℕ) (A : Asked) (read : Values) (t : Verdict) : Type 0 where
   pub reached : Walk
   pub left : List Token
   pub count : ℕ
@@ -57,10 +58,10 @@ abbrev pub Compiling : Bytes → List ℕ → Bytes → ℕ → ℕ → Type 0
 Compiling code attributes rows row at =
     (A : Asked) (ts : List Token) (p : Policy) → A .valued ≡ true → From code A 0 ts → Obeys grammar.policy ts p → depth p ≤ depthLimit → rowBytes * terms p ≤ length rows
     → (pairs session : List ℕ) (entries : Bytes) (read : Values) → Reads (lent code pairs session entries) attributes (A .declared) read
-    → Here (lent code pairs session entries) rows row at A read (meaning read p)
+    → Here (lent code pairs session entries) rows row at A read (policyVerdict read p)
 
 -- AND changes nothing
-and-passed : (read : Values) (w : Walk) (us : List Token) (n : ℕ) (t : model.Truth) → Ends read w (Token.mark Mark.AND ∷ us) n t → Ends read w us n t
+and-passed : (read : Values) (w : Walk) (us : List Token) (n : ℕ) (t : Verdict) → Ends read w (Token.mark Mark.AND ∷ us) n t → Ends read w us n t
 unfolding passed readLeaf readComparison
 and-passed read w us n t (walks.past q few e) = e
 and-passed read w us n t (walks.term x q e) = none-is-some q
@@ -87,23 +88,22 @@ module _ (code : Bytes) (attributes : List ℕ) where
 
   module _ (rows : Bytes) (row at : ℕ) (C : Compiling code attributes rows row at) where
     -- what a run from here comes to, if it does, a run from the start does
-    from-here : ((pairs session : List ℕ) (entries : Bytes) (A : Asked) (read : Values) (w : Walk) (us : List Token) (k : ℕ) (t : model.Truth)
+    from-here : ((pairs session : List ℕ) (entries : Bytes) (A : Asked) (read : Values) (w : Walk) (us : List Token) (k : ℕ) (t : Verdict)
         → From code A at us → Ends read w us k t → Runs (lent code pairs session entries) rows w row at t)
         → Compiled code attributes rows
-    unfolding meaningOf
     from-here run D ts p coded written known reads within room pairs session entries read g =
         let A : Asked = record { declared = D; valued = true } in
         let f : From code A 0 ts = record { coded = coded; written = λ _. written; known = λ _. known } in
         let (few, deep) = limits p within in
         let H = C A ts p refl f (sound ts p reads) deep (omega arith) pairs session entries read g in
-        rw (reads, meaningOf)
-        (H .goes-on rows refl refl (run pairs session entries A read (H .reached) (H .left) (H .count) (meaning read p) (H .from) (H .ends)))
+        subst (Runs (lent code pairs session entries) rows (walk fresh []) 0 0) (sym (rule-read read ts p reads))
+        (H .goes-on rows refl refl (run pairs session entries A read (H .reached) (H .left) (H .count) (policyVerdict read p) (H .from) (H .ends)))
 
     -- the end of the tokens
     pub compile-ends : getD code at 0 ≡ 0 → Compiled code attributes rows
     compile-ends z = from-here go
       where
-        go : (pairs session : List ℕ) (entries : Bytes) (A : Asked) (read : Values) (w : Walk) (us : List Token) (k : ℕ) (t : model.Truth)
+        go : (pairs session : List ℕ) (entries : Bytes) (A : Asked) (read : Values) (w : Walk) (us : List Token) (k : ℕ) (t : Verdict)
             → From code A at us → Ends read w us k t → Runs (lent code pairs session entries) rows w row at t
         go pairs session entries A read w us k t f (walks.done) = runs.done (coded-within (f .coded)) z
         go pairs session entries A read w us k t f (walks.past {m = m} q few s) = absurd (omega (arith, mark-range m, told f .kind-is))
@@ -117,12 +117,12 @@ module _ (code : Bytes) (attributes : List ℕ) where
     pub compile-passes : isPassed (getD code at 0) ≡ true → (getD code at 0 ≡ 0 → ⊥) → Compiling code attributes rows row (at + 1)
     compile-passes y n A ts p valued f o deep room pairs session entries read g =
         let H = C A ts p valued f o deep room pairs session entries read g in
-        go (H .reached) (H .left) (H .count) (meaning read p) (H .from) (H .ends) (H .room) (H .goes-on)
+        go (H .reached) (H .left) (H .count) (policyVerdict read p) (H .from) (H .ends) (H .room) (H .goes-on)
       where
         L : Lent
         L = lent code pairs session entries
 
-        go : (w : Walk) (us : List Token) (k : ℕ) (t : model.Truth) → From code A at us → Ends read w us k t → row + rowBytes * k ≤ length rows
+        go : (w : Walk) (us : List Token) (k : ℕ) (t : Verdict) → From code A at us → Ends read w us k t → row + rowBytes * k ≤ length rows
             → ((other : Bytes) → length other ≡ length rows → take row other ≡ take row rows → Runs L other w row at t → Runs L other (walk fresh []) 0 0 t)
             → Here L rows row (at + 1) A read t
         go w us k t f (walks.done) space on = absurd (n (ended f))
@@ -144,12 +144,12 @@ module _ (code : Bytes) (attributes : List ℕ) where
         → length code ≤ 1024 → Compiling code attributes (sets rows row (rowOf t)) (row + rowBytes) next
     compile-puts y n v X next m short A ts p valued f o deep room pairs session entries read g =
         let H = C A ts p valued f o deep (omega (arith, length-sets rows row (rowOf v))) pairs session entries read g in
-        go (H .reached) (H .left) (H .count) (meaning read p) (H .from) (H .ends) (H .room) (H .goes-on)
+        go (H .reached) (H .left) (H .count) (policyVerdict read p) (H .from) (H .ends) (H .room) (H .goes-on)
       where
         L : Lent
         L = lent code pairs session entries
 
-        go : (w : Walk) (us : List Token) (k : ℕ) (t : model.Truth) → From code A at us → Ends read w us k t → row + rowBytes * k ≤ length rows
+        go : (w : Walk) (us : List Token) (k : ℕ) (t : Verdict) → From code A at us → Ends read w us k t → row + rowBytes * k ≤ length rows
             → ((other : Bytes) → length other ≡ length rows → take row other ≡ take row rows → Runs L other w row at t → Runs L other (walk fresh []) 0 0 t)
             → Here L (sets rows row (rowOf v)) (row + rowBytes) next A read t
         go w us k t f (walks.done) space on = absurd (n (ended f))
@@ -161,20 +161,20 @@ module _ (code : Bytes) (attributes : List ℕ) where
             let same-next : next ≡ v .next = omega (arith, T .ahead) in
             let near : v .next < 65536 = omega (arith, coded-within (T .behind .coded)) in
             record {
-              reached = termed (meaning read (x .0)) w;
+              reached = termed (policyVerdict read (x .0)) w;
               left = T .left-over;
               count = rest;
               from = subst (λ (i : ℕ). From code A i (T .left-over)) (sym same-next) (T .behind);
-              ends = ⊎-elim (λ q. subst (λ (us : List Token). Ends read (termed (meaning read (x .0)) w) us rest t) q e)
-                  (λ q. and-passed read (termed (meaning read (x .0)) w) (T .left-over) rest t (subst (λ (us : List Token). Ends read (termed (meaning read (x .0)) w) us rest t) q e)) (T .are);
+              ends = ⊎-elim (λ q. subst (λ (us : List Token). Ends read (termed (policyVerdict read (x .0)) w) us rest t) q e)
+                  (λ q. and-passed read (termed (policyVerdict read (x .0)) w) (T .left-over) rest t (subst (λ (us : List Token). Ends read (termed (policyVerdict read (x .0)) w) us rest t) q e)) (T .are);
               room = omega (arith, length-sets rows row (rowOf v));
               goes-on = λ other l a r.
                   let front = a ∙ row-front rows row v fits in
                   let there = row-next rows row v fits other front near in
                   on other (l ∙ length-sets rows row (rowOf v)) (row-before rows row v fits other front)
                   (runs.term (coded-within (f .coded)) (K .0) (K .1) (omega (arith, l, length-sets rows row (rowOf v)))
-                  (row-value rows row v fits other front L (T .left-near) (T .right-near) (meaning read (x .0)) (T .value pairs session entries read g))
-                  (omega (arith, there, T .ahead)) (subst (λ (i : ℕ). Runs L other (termed (meaning read (x .0)) w) (row + rowBytes) i t) (same-next ∙ sym there) r));
+                  (row-value rows row v fits other front L (T .left-near) (T .right-near) (policyVerdict read (x .0)) (T .value pairs session entries read g))
+                  (omega (arith, there, T .ahead)) (subst (λ (i : ℕ). Runs L other (termed (policyVerdict read (x .0)) w) (row + rowBytes) i t) (same-next ∙ sym there) r));
             }
 
     -- either

@@ -6,7 +6,7 @@ use native.Mathlib.Omega.{arith}
 use lib.ListN.{length, getD, take, drop, length-append}
 use lib.Seq.{sets, sets-eq, take-at, take-take, getD-take, getD-append-add, length-take-le}
 use Rattle.model.specs.Bytes.{Bytes}
-use Rattle.model.specs.Truth as model
+use Rattle.truth.specs.Verdicts.{Verdict}
 use Rattle.values.specs.declared.Operand.{Operand}
 use Rattle.values.specs.Operands.{Lent, operand}
 use Rattle.program.specs.TermRows.{rowBytes, two, operandAt, rowKind, rowLeft, rowRight, rowNext, TermValue, RowValue}
@@ -58,5 +58,5 @@ module _ (rows : Bytes) (row : ℕ) (t : Term) (fits : row + rowBytes ≤ length
         let d = number (row + 7 + 4) 11 (t .right .end) (omega arith) (omega arith) refl refl short in
         λ i. operand (a i) (b i) (c i) (d i)
 
-    pub row-value : (L : Lent) → Near (t .left) → Near (t .right) → (u : model.Truth) → TermValue L (t .kind) (t .left) (t .right) u → RowValue L other row u
+    pub row-value : (L : Lent) → Near (t .left) → Near (t .right) → (u : Verdict) → TermValue L (t .kind) (t .left) (t .right) u → RowValue L other row u
     row-value L n m u v = rw (row-kind, row-left n, row-right m) v

@@ -13,9 +13,10 @@ use Rattle.model.specs.Bytes.{Bytes}
 use Rattle.model.specs.Declarations.{Declarations}
 use Rattle.model.specs.Tokens.{Token, Mark, isToken}
 use Rattle.model.specs.Grammar.{Policy, readPolicy, tooLarge}
-use Rattle.model.specs.Meaning.{Values, meaning}
+use Rattle.model.specs.Meaning.{Values}
 use Rattle.model.specs.Refusals.{unknownName}
 use Rattle.tokens.specs.RuleCode.{Coded}
+use Rattle.truth.specs.Verdicts.{policyVerdict}
 use Rattle.values.specs.declared.Operand.{Operand}
 use Rattle.values.specs.Operands.{lent}
 use Rattle.program.specs.Walks.{isPassed, readLeaf}
@@ -28,14 +29,14 @@ use Rattle.compile.specs.declared.Term.{Term}
 abbrev pub Near : Operand → Type 0
 Near o = (o .start < 65536) × (o .end < 65536)
 
--- r is the term that was read as x.0, and behind it stand the tokens x.1: whatever is lent and read, its value is that of the policy
+-- r is the term that was read as x.0, and behind it stand the tokens x.1: whatever is lent and read, its verdict is that on the policy
 pub record IsTerm (code : Bytes) (attributes : List ℕ) (A : Asked) (at : ℕ) (r : Term) (x : Policy × List Token) : Type 0 where
   pub behind : From code A (r .next) (x .1)
   pub ahead : at < r .next
   pub left-near : Near (r .left)
   pub right-near : Near (r .right)
   pub value : (pairs session : List ℕ) (entries : Bytes) (read : Values) → Reads (lent code pairs session entries) attributes (A .declared) read
-      → TermValue (lent code pairs session entries) (r .kind) (r .left) (r .right) (meaning read (x .0))
+      → TermValue (lent code pairs session entries) (r .kind) (r .left) (r .right) (policyVerdict read (x .0))
 
 -- where a term begins, r is that term
 abbrev pub TermRead : Bytes → List ℕ → ℕ → Term → Type 0
@@ -51,7 +52,7 @@ pub record IsRow (code : Bytes) (attributes : List ℕ) (A : Asked) (at : ℕ) (
   pub left-near : Near (r .left)
   pub right-near : Near (r .right)
   pub value : (pairs session : List ℕ) (entries : Bytes) (read : Values) → Reads (lent code pairs session entries) attributes (A .declared) read
-      → TermValue (lent code pairs session entries) (r .kind) (r .left) (r .right) (meaning read (x .0))
+      → TermValue (lent code pairs session entries) (r .kind) (r .left) (r .right) (policyVerdict read (x .0))
 
 abbrev pub RowRead : Bytes → List ℕ → ℕ → Term → Type 0
 RowRead code attributes at r =

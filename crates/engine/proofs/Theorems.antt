@@ -15,7 +15,9 @@ use Rattle.model.specs.Block.{Block}
 use Rattle.model.specs.Refusals.{editTests, requestTests}
 use Rattle.model.specs.Load.{load}
 use Rattle.model.specs.Edits.{edit}
-use Rattle.model.specs.Decision.{permit, deny, undefined, refused, decide}
+use Rattle.model.specs.Session.{readBy}
+use Rattle.model.specs.Causes.{Cause, absent, absentOf}
+use Rattle.model.specs.Decision.{permit, deny, undefined, refused, cause, decide}
 use Rattle.model.specs.Ledger as ledger
 use Rattle.model.specs.Ledger.{Call, ledger}
 use Rattle.model.proofs.Effective.{Closed}
@@ -23,6 +25,8 @@ use Rattle.model.proofs.Changes.{setChanged}
 use Rattle.model.proofs.Tests.{NoneHolds}
 use Rattle.model.proofs.Decision.{Accepted, Verdict}
 use Rattle.model.proofs.Decision
+use Rattle.model.proofs.PlainDecisions.{withoutCause, plain}
+use Rattle.model.proofs.PlainDecisions
 use Rattle.model.proofs.Refusals.{Wins}
 use Rattle.model.proofs.Refusals
 use Rattle.model.proofs.Loads.{AcceptedFile, RefusedFile}
@@ -64,18 +68,27 @@ sets-closed = Reached.effective-closed
 pub sets-least : {S : State} → Reached S → (F : ℕ → ℕ → Type 0) → Closed (S .ties) F → (h p : ℕ) → effectiveSet (S .declared) (S .ties) h p ≡ true → F h p
 sets-least = Reached.effective-least
 
--- permit with the lowest TRUE rule number; else undefined if some is UNDEF; else deny
+-- permit with the lowest TRUE rule number; else undefined if some is UNDEF, absent if one of these is; else deny
 pub permits : (S : State) (block : Bytes) (k : ℕ)
     → (decide S block ≡ permit k) ↔ ((b : Block) × Accepted S block b × Verdict S b k TRUE × ((j : ℕ) → Verdict S b j TRUE → k ≤ j))
 permits = Decision.permit-exact
 
-pub undefineds : (S : State) (block : Bytes)
-    → (decide S block ≡ undefined) ↔ ((b : Block) × Accepted S block b × ((j : ℕ) → Verdict S b j TRUE → ⊥) × ((j : ℕ) × Verdict S b j UNDEF))
+pub undefineds : (S : State) (block : Bytes) (c : Cause)
+    → (decide S block ≡ undefined c) ↔ ((b : Block) × Accepted S block b × ((j : ℕ) → Verdict S b j TRUE → ⊥) × ((j : ℕ) × Verdict S b j UNDEF) × (cause S b ≡ c))
 undefineds = Decision.undefined-exact
+
+pub undefined-absents : (S : State) (block : Bytes)
+    → (decide S block ≡ undefined absent)
+    ↔ ((b : Block) × Accepted S block b × ((j : ℕ) → Verdict S b j TRUE → ⊥) × ((j : ℕ) × (v : Verdict S b j UNDEF) × (absentOf (readBy S b) (v .rule .tokens) ≡ true)))
+undefined-absents = Decision.absent-exact
 
 pub denials : (S : State) (block : Bytes)
     → (decide S block ≡ deny) ↔ ((b : Block) × Accepted S block b × ((j : ℕ) → Verdict S b j TRUE → ⊥) × ((j : ℕ) → Verdict S b j UNDEF → ⊥))
 denials = Decision.deny-exact
+
+-- without the cause, which document 02 adds, each decision is that of document 01 alone
+pub decisions-as-before : (S : State) (block : Bytes) → withoutCause (decide S block) ≡ plain S block
+decisions-as-before = PlainDecisions.forget-cause
 
 -- ---- Demand 3: lists of calls
 

@@ -28,7 +28,7 @@ use Rattle.book.specs.Calls.{answerNumber, Loads}
 use Rattle.edit.specs.EditSteps.{EditCall}
 use Rattle.engine.specs.Runs.{Memory, Does, endWords}
 use Rattle.engine.proofs.Promises.{file-loaded, line-edited, request-decided}
-use Rattle.host.specs.AnswerNumbers.{high, loadAnswer, editAnswer, carriedValue, RequestNumber}
+use Rattle.host.specs.AnswerNumbers.{high, loadAnswer, editAnswer, ruleIn, causeIn, ruleNumbers, RequestNumber}
 
 -- ---- each call for hosts is one of a run, by what its contract says
 
@@ -42,10 +42,10 @@ pub edit-does : {line : Bytes} (r : ℕ) (before after : Memory) → EditCall li
     → after .code ≡ before .code → Does (Call.edit line) before (editAnswer r) after
 edit-does r before after promise same = line-edited before after promise same
 
--- `zhul_decide`: the decision that the number and the rule are those of
+-- `zhul_decide`: the decision that the number, the rule and the cause are those of
 pub decide-does : {block : Bytes} {r : ℕ} (lent : Memory) → RequestNumber block (lent .book) (lent .code) (lent .words) r
-    → (d : decision.Decision) × Does (Call.request block) lent (decided d) lent × (r % high ≡ numberAndValues d .0) × (r / high ≡ carriedValue (numberAndValues d .1))
-decide-does lent promise = (decisionOf (promise .decision), request-decided lent (promise .decides), promise .number, promise .rule)
+    → (d : decision.Decision) × Does (Call.request block) lent (decided d) lent × (r % high ≡ numberAndValues d .0) × (r / high % ruleNumbers ≡ ruleIn d) × (r / high / ruleNumbers ≡ causeIn d)
+decide-does lent promise = (decisionOf (promise .decision), request-decided lent (promise .decides), promise .number, promise .rule, promise .cause)
 
 -- ---- `zhul_pass` is a load and then a request
 

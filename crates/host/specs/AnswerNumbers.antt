@@ -1,11 +1,13 @@
 -- Answers as one number. Assumes nothing: these are definitions.
 use Prim.Native.Nat.{ℕ, _/_, _%_}
 use mathlib.Core.Path.{_≡_}
-use mathlib.Core.List.{List, [], _∷_}
+use mathlib.Core.List.{List}
 use Rattle.model.specs.Bytes.{Bytes}
 use Rattle.model.specs.Ledger.{Answer, loaded, edited}
-use Rattle.request.specs.declared.Decision.{Decision}
-use Rattle.request.specs.Decisions.{numberAndValuesOf, Decides}
+use Rattle.model.specs.Causes.{causeNumber}
+use Rattle.model.specs.Decision.{Decision, permit, deny, undefined, refused}
+use Rattle.request.specs.declared.Decision as request
+use Rattle.request.specs.Decisions.{decisionOf, numberAndValuesOf, Decides}
 
 -- where the high bits begin: 2 to the power of 32
 abbrev pub high : ℕ
@@ -23,14 +25,28 @@ loadAnswer r = loaded (r % high) (r / high)
 abbrev pub editAnswer : ℕ → Answer
 editAnswer r = edited (r % high) (r / high)
 
--- the value that a decision carries, 0 where it carries none
-abbrev pub carriedValue : List ℕ → ℕ
-carriedValue [] = 0
-carriedValue (v ∷ values) = v
+-- the rule of a permit, 0 of other decisions
+abbrev pub ruleIn : Decision → ℕ
+ruleIn (permit rule) = rule
+ruleIn deny = 0
+ruleIn (undefined c) = 0
+ruleIn (refused n) = 0
 
--- r is the number of the decision on a request, and the rule of a permit
+-- the cause of what is undefined, 0 of other decisions
+abbrev pub causeIn : Decision → ℕ
+causeIn (permit rule) = 0
+causeIn deny = 0
+causeIn (undefined c) = causeNumber c
+causeIn (refused n) = 0
+
+-- where the bits of the cause begin within the high ones: 2 to the power of 8
+abbrev pub ruleNumbers : ℕ
+ruleNumbers = 256
+
+-- r is the number of the decision on a request, the rule of a permit, and the cause of what is undefined
 pub record RequestNumber (block : Bytes) (book : List ℕ) (code : Bytes) (words : List ℕ) (r : ℕ) : Type 0 where
-  pub decision : Decision
+  pub decision : request.Decision
   pub decides : Decides block book code words decision
   pub number : r % high ≡ numberAndValuesOf decision .0
-  pub rule : r / high ≡ carriedValue (numberAndValuesOf decision .1)
+  pub rule : r / high % ruleNumbers ≡ ruleIn (decisionOf decision)
+  pub cause : r / high / ruleNumbers ≡ causeIn (decisionOf decision)

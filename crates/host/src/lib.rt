@@ -3,16 +3,20 @@ ghost use mathlib.Core.Path.{_≡_};
 ghost use Prim.Native.Nat.{_/_, _%_, _≤_};
 ghost use lib.ListN.{length};
 ghost use Rattle.model.specs.Host.{hostCall, hostTable};
-ghost use Rattle.request.specs.Decisions.{numberAndValuesOf};
+ghost use Rattle.model.specs.Causes.{causeNumber};
+ghost use Rattle.request.specs.Decisions.{causeOf, decisionOf, numberAndValuesOf};
 ghost use Rattle.book.specs.Calls.{Loads};
 ghost use Rattle.edit.specs.EditSteps.{EditCall};
 ghost use Rattle.writer.specs.WriteCalls.{WriteCall, LengthCall};
-ghost use Rattle.host.specs.AnswerNumbers.{high, loadAnswer, editAnswer, carriedValue, Packs, RequestNumber};
+ghost use Rattle.host.specs.AnswerNumbers.{high, loadAnswer, editAnswer, ruleIn, causeIn, Packs, RequestNumber};
 use book::BOOK_WORDS;
 use book::RULE_BYTES;
+use codes::ABSENT;
 use codes::DENY;
 use codes::PERMIT;
 use codes::UNDEFINED;
+use codes::UNLIKE;
+use request::Cause;
 use request::Decision;
 
 // "0 permit, 64 deny, 65 undefined, else the refusal."
@@ -22,19 +26,40 @@ fn number_of(d: Decision) -> u32
     match d {
         Decision::Permit(_) => PERMIT as u32,
         Decision::Deny => DENY as u32,
-        Decision::Undefined => UNDEFINED as u32,
+        Decision::Undefined(_) => UNDEFINED as u32,
         Decision::Refused(n) => n as u32,
     }
 }
 
 // The rule of a permit.
 fn rule_of(d: Decision) -> u32
-    ensures { λ r. ⌜ r ≡ carriedValue (numberAndValuesOf d .1) ⌝ }
+    ensures { λ r. ⌜ (r ≡ ruleIn (decisionOf d)) × (r ≤ 255) ⌝ }
 {
     match d {
         Decision::Permit(k) => k as u32,
         Decision::Deny => 0,
-        Decision::Undefined => 0,
+        Decision::Undefined(_) => 0,
+        Decision::Refused(_) => 0,
+    }
+}
+
+fn cause_number(c: Cause) -> u32
+    ensures { λ r. ⌜ (r ≡ causeNumber (causeOf c)) × (r ≤ 2) ⌝ }
+{
+    match c {
+        Cause::Absent => ABSENT as u32,
+        Cause::Unlike => UNLIKE as u32,
+    }
+}
+
+// The cause of what is undefined.
+fn cause_of(d: Decision) -> u32
+    ensures { λ r. ⌜ (r ≡ causeIn (decisionOf d)) × (r ≤ 2) ⌝ }
+{
+    match d {
+        Decision::Permit(_) => 0,
+        Decision::Deny => 0,
+        Decision::Undefined(c) => cause_number(c),
         Decision::Refused(_) => 0,
     }
 }
@@ -84,7 +109,7 @@ pub extern "C" fn zhul_edit(line: &[u8], book: &mut [u64; BOOK_WORDS], table: &m
     pack(edited.number as u32, edited.count)
 }
 
-// Decides a request on the host's own book: the number, and the rule of a permit in the high bits.
+// Decides a request on the host's own book: the number, and in the high bits the rule of a permit, eight of them, and the cause of what is undefined.
 #[no_mangle]
 pub extern "C" fn zhul_decide(
     block: &[u8],
@@ -95,7 +120,7 @@ pub extern "C" fn zhul_decide(
     ensures { λ r. ⌜ RequestNumber (now (block .entry)) (now (book .entry)) (now (rules .entry)) (now (table .entry)) r ⌝ }
 {
     let d = request::decide(block, book, rules, table);
-    pack(number_of(d), rule_of(d))
+    pack(number_of(d), rule_of(d) + 256 * cause_of(d))
 }
 
 // Writes the file as it stands now into the host's own buffer: the number, and the length in the high bits.

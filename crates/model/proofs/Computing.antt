@@ -5,6 +5,7 @@ use Rattle.model.specs.Tokens.{readAttributeName, readWord, readText, re
 use Rattle.model.specs.Grammar.{readComparison, readSet, readTerm, tooLarge, policyWithin, readPolicy}
 use Rattle.model.specs.Comparison.{compareSets, loneValue}
 use Rattle.model.specs.Meaning.{meaningOf}
+use Rattle.model.specs.Causes.{absentOf}
 use Rattle.model.specs.Lines.{namedEdition, readAttr, readOp, readPair, readHolder, readTwo, readValue, readRule, readKeyed, framed, readLine}
 use Rattle.model.specs.Declarations.{attributeNumber, attributeOf, operationNumber, pairNumber, holderNumber, sortOf, holderNumbersOf, groups}
 use Rattle.model.specs.Ties.{isBelow, closesCircle}
@@ -14,7 +15,7 @@ use Rattle.model.specs.State.{after}
 use Rattle.model.specs.Block.{isBlock, readBlock, activated}
 use Rattle.model.specs.Session.{pairsOf, held, entered, userValues, readBy}
 use Rattle.model.specs.Refusals.{wrongTable, tooLong, wrongFirstLine, unframed, outOfOrder, malformed, fits, stands, circular, lineRefusal, otherKey, notStanding, editRefusal, badBlock, entryFits, wrongNumber, isHeld, notHeld, requestRefusal, doesNotFit}
-use Rattle.model.specs.Decision.{verdicts, decisionBy, decide}
+use Rattle.model.specs.Decision.{rulesFor, verdicts, cause, decisionBy, decide}
 use Rattle.model.specs.Load.{readOn, load as load-load}
 use Rattle.model.specs.Edits.{editedTie, differs, changes, edit as edits-edit}
 use Rattle.model.specs.Ledger.{step, tableAfter, ledger}
@@ -23,5 +24,5 @@ use Rattle.model.specs.Gate.{isEnd, hexPairs, callOf, printed, output, g
 use Rattle.model.specs.FileText.{fileLines, fileText, writeText, writeFile}
 
 unfoldable pub computing : Unit {0}
-unfolding isName readInt decimal isText readStr readBool readAtom readAttributeName readWord readText readToken tokensOf spelled readComparison readSet readTerm tooLarge policyWithin readPolicy compareSets loneValue meaningOf readAttr readOp readPair readHolder readTwo readValue readRule readKeyed readLine attributeNumber attributeOf operationNumber pairNumber holderNumber sortOf holderNumbersOf groups isBelow closesCircle effective wordsOf effectiveSet storedSet table after isBlock readBlock activated pairsOf held entered userValues readBy namedEdition wrongTable tooLong wrongFirstLine framed unframed outOfOrder malformed fits stands circular lineRefusal otherKey notStanding editRefusal badBlock entryFits wrongNumber isHeld notHeld requestRefusal verdicts decisionBy decide readOn load-load editedTie differs changes edits-edit step tableAfter ledger hostCall hostTable isEnd hexPairs callOf printed output gate fileLines fileText doesNotFit writeText writeFile
+unfolding isName readInt decimal isText readStr readBool readAtom readAttributeName readWord readText readToken tokensOf spelled readComparison readSet readTerm tooLarge policyWithin readPolicy compareSets loneValue meaningOf absentOf readAttr readOp readPair readHolder readTwo readValue readRule readKeyed readLine attributeNumber attributeOf operationNumber pairNumber holderNumber sortOf holderNumbersOf groups isBelow closesCircle effective wordsOf effectiveSet storedSet table after isBlock readBlock activated pairsOf held entered userValues readBy namedEdition wrongTable tooLong wrongFirstLine framed unframed outOfOrder malformed fits stands circular lineRefusal otherKey notStanding editRefusal badBlock entryFits wrongNumber isHeld notHeld requestRefusal rulesFor verdicts cause decisionBy decide readOn load-load editedTie differs changes edits-edit step tableAfter ledger hostCall hostTable isEnd hexPairs callOf printed output gate fileLines fileText doesNotFit writeText writeFile
 computing = tt

@@ -7,6 +7,7 @@ pub mod Valley
 pub mod CornersOfPolicies
 pub mod CornersOfEdits
 pub mod CornersOfRequests
+pub mod CornersOfCauses
 -- Laws of words, partial results and lists.
 pub mod WordTables
 pub mod Options
@@ -28,6 +29,7 @@ pub mod Sound
 pub mod Complete
 pub mod Grammar
 pub mod Nesting
+pub mod Causes
 -- Sets: chains of ties, effective sets, the table.
 pub mod Ties
 pub mod Chains
@@ -38,6 +40,7 @@ pub mod TableLayout
 pub mod Changes
 -- Requests: the decision and the rules.
 pub mod Decision
+pub mod PlainDecisions
 -- The ledger: what holds of every state.
 pub mod Tests
 pub mod Growing

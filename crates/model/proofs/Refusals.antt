@@ -10,13 +10,14 @@ use lib.Dec.{eqb, ltb}
 use borrow.Author.Tests.{ltb-true, eqb-true, eqb-false, eq-eqb, ne-eqb, not-true}
 use Rattle.model.specs.Notation.{if_then_else_, isNone, anyOf, filter}
 use Rattle.model.specs.Bytes.{Bytes}
-use Rattle.model.specs.Truth.{Truth}
+use Rattle.model.specs.Truth.{Truth, isTrue, isUndef}
 use Rattle.model.specs.Keys.{Key}
 use Rattle.model.specs.Block.{Block, readBlock}
 use Rattle.model.specs.State.{State}
 use Rattle.model.specs.Refusals.{Test, _if_, first, lineTests, lineRefusal, editTests, editRefusal, badBlock, requestTests, requestRefusal}
 use Rattle.model.specs.Edits.{edit}
-use Rattle.model.specs.Decision.{deny, undefined, refused, isTrue, isUndef, permitBy, decisionBy, judged, verdicts, decide}
+use Rattle.model.specs.Causes.{Cause}
+use Rattle.model.specs.Decision.{deny, undefined, refused, permitBy, decisionBy, judged, cause, verdicts, decide}
 use Rattle.model.proofs.Options.{parts, is-there}
 use Rattle.model.proofs.Lists.{or-left, or-right}
 use Rattle.model.proofs.Tests.{NoneHolds, allNumbered, none-holds, accepted}
@@ -192,12 +193,12 @@ pub edit-unmet : (S : State) (line : Bytes) → edit S line .number ≡ 0 → (n
 edit-unmet S line e n = condition-fails (editTests S line) (edit-accepted S line .0 e) n
 
 -- the rules' verdicts never refuse
-decided-not : {C : Type 0} (vs : List (ℕ × Truth)) (n : ℕ) → decisionBy vs ≡ refused n → C
+decided-not : {C : Type 0} (c : Cause) (vs : List (ℕ × Truth)) (n : ℕ) → decisionBy c vs ≡ refused n → C
 unfolding decisionBy
-decided-not vs n e = go (filter (λ (k, t). isTrue t) vs) (anyOf (λ (k, t). isUndef t) vs) e
+decided-not c vs n e = go (filter (λ (k, t). isTrue t) vs) (anyOf (λ (k, t). isUndef t) vs) e
   where
     go : {C : Type 0} (found : List (ℕ × Truth)) (undef : Bool)
-        → permitBy found (if undef then undefined else deny) ≡ refused n → C
+        → permitBy found (if undef then undefined c else deny) ≡ refused n → C
     go [] true e = let z : _≡_ {A = ℕ} 0 1 = cc in absurd (omega (arith, z))
     go [] false e = let z : _≡_ {A = ℕ} 0 1 = cc in absurd (omega (arith, z))
     go (v ∷ rest) undef e = let z : _≡_ {A = ℕ} 0 1 = cc in absurd (omega (arith, z))
@@ -207,8 +208,8 @@ judged-refused : (S : State) (r : ℕ) (o : Option Block) (n : ℕ) → (isNone 
 judged-refused S r none n f = (λ e. let s : r ≡ n = cc in (s, λ z. f refl (s ∙ z)), λ a. ap refused (a .0))
 judged-refused S r (some b) n f = (out (eqb r 0) refl, λ a. rw (ne-eqb r 0 (λ z. a .1 (sym (a .0) ∙ z))) (ap refused (a .0)))
   where
-    out : (c : Bool) → eqb r 0 ≡ c → (if c then decisionBy (verdicts S b) else refused r) ≡ refused n → (r ≡ n) × (n ≡ 0 → ⊥)
-    out true q e = decided-not (verdicts S b) n e
+    out : (c : Bool) → eqb r 0 ≡ c → (if c then decisionBy (cause S b) (verdicts S b) else refused r) ≡ refused n → (r ≡ n) × (n ≡ 0 → ⊥)
+    out true q e = decided-not (cause S b) (verdicts S b) n e
     out false q e = let s : r ≡ n = cc in (s, λ z. eqb-false r 0 q (s ∙ z))
 
 -- what is no block is refused
@@ -236,20 +237,20 @@ request-lower-wins S block n e m l =
 
 -- a request that meets none of them gets the decision of the rules
 pub request-accepted : (S : State) (block : Bytes)
-    → NoneHolds (requestTests S block) ↔ ((b : Block) × (readBlock block ≡ some b) × (decide S block ≡ decisionBy (verdicts S b)))
+    → NoneHolds (requestTests S block) ↔ ((b : Block) × (readBlock block ≡ some b) × (decide S block ≡ decisionBy (cause S b) (verdicts S b)))
 unfolding decide requestRefusal badBlock
 request-accepted S block = (into, λ (b, q, e). out (eqb r 0) refl b (sym (ap (judged S r) q) ∙ e))
   where
     r : ℕ
     r = requestRefusal S block
 
-    into : NoneHolds (requestTests S block) → (b : Block) × (readBlock block ≡ some b) × (decide S block ≡ decisionBy (verdicts S b))
+    into : NoneHolds (requestTests S block) → (b : Block) × (readBlock block ≡ some b) × (decide S block ≡ decisionBy (cause S b) (verdicts S b))
     into h =
         let (b, q) = is-there (readBlock block) (h .0) in
         let zero′ = eq-eqb r 0 (accepted (requestTests S block) h) in
-        (b, q, ap (judged S r) q ∙ ap (λ (c : Bool). if c then decisionBy (verdicts S b) else refused r) zero′)
+        (b, q, ap (judged S r) q ∙ ap (λ (c : Bool). if c then decisionBy (cause S b) (verdicts S b) else refused r) zero′)
 
-    out : (c : Bool) → eqb r 0 ≡ c → (b : Block) → (if c then decisionBy (verdicts S b) else refused r) ≡ decisionBy (verdicts S b)
+    out : (c : Bool) → eqb r 0 ≡ c → (b : Block) → (if c then decisionBy (cause S b) (verdicts S b) else refused r) ≡ decisionBy (cause S b) (verdicts S b)
         → NoneHolds (requestTests S block)
     out true z b e = none-holds (requestTests S block) refl (eqb-true r 0 z)
-    out false z b e = decided-not (verdicts S b) r (sym e)
+    out false z b e = decided-not (cause S b) (verdicts S b) r (sym e)

@@ -11,4 +11,4 @@ session = refl
 pub valley-cases : EachHolds cases
 unfolding computing
 valley-cases =
-    refl also refl also refl also refl also refl also refl also refl also refl also refl also refl also refl also refl also refl also end
+    refl also refl also refl also refl also refl also refl also refl also refl also refl also refl also refl also refl also refl also refl also end

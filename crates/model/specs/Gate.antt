@@ -14,6 +14,7 @@ use Rattle.model.specs.Atoms.{decimal}
 use Rattle.model.specs.Lines.{namedEdition}
 use Rattle.model.specs.State.{State, empty}
 use Rattle.model.specs.Refusals.{signedLine}
+use Rattle.model.specs.Causes.{causeWord}
 use Rattle.model.specs.Decision.{Decision, permit, deny, undefined, refused}
 use Rattle.model.specs.Ledger.{Call, Answer, loaded, edited, decided, step}
 
@@ -52,11 +53,11 @@ callOf line =
     or-else (behind (bytes "try=") (bare line) >>= λ hex. hexPairs hex >>= λ block. some (Call.request block))
 
 -- "Printed: `load=` number, lines read (or refused line); `edit=` number, count (0 if refused); `try=permit,`rule, `try=deny`,
--- `try=undefined` or `try=refused,`number"
+-- `try=undefined` or `try=refused,`number". Document 02, E2: "`gate` prints `try=undefined,absent` or `try=undefined,unlike`"
 abbrev pub printedDecision : Decision → Bytes
 printedDecision (permit rule) = bytes "try=permit," ++ decimal rule
 printedDecision deny = bytes "try=deny"
-printedDecision undefined = bytes "try=undefined"
+printedDecision (undefined c) = bytes "try=undefined," ++ causeWord c
 printedDecision (refused n) = bytes "try=refused," ++ decimal n
 
 unfoldable pub printed : Answer → Bytes

@@ -18,7 +18,7 @@ use Rattle.model.specs.Decision.{Decision, refused, decide}
 pub data Call : Type 0 where
   load edit request : Bytes → Call
 
--- "the answer with all it carries (number, line, count, decision, rule)"
+-- "the answer with all it carries (number, line, count, decision, rule)"; an undefined one carries its cause (document 02, E2)
 pub data Answer : Type 0 where
   loaded : (number line : ℕ) → Answer
   edited : (number count : ℕ) → Answer

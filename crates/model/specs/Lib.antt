@@ -26,6 +26,8 @@ pub mod Grammar
 pub mod Comparison
 pub mod Truth
 pub mod Meaning
+-- Document 02, E2: "Two sorts of undefined"
+pub mod Causes
 -- "The pass block"
 pub mod Block
 pub mod Session

@@ -39,3 +39,14 @@ UNDEF OR TRUE = TRUE
 UNDEF OR UNDEF = UNDEF
 UNDEF OR FALSE = UNDEF
 FALSE OR b = b
+
+-- whether a value is TRUE, and whether it is UNDEF
+abbrev pub isTrue : Truth → Bool
+isTrue TRUE = true
+isTrue UNDEF = false
+isTrue FALSE = false
+
+abbrev pub isUndef : Truth → Bool
+isUndef TRUE = false
+isUndef UNDEF = true
+isUndef FALSE = false

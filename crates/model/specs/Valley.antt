@@ -14,6 +14,7 @@ use Rattle.model.specs.Truth.{Truth, TRUE, UNDEF}
 use Rattle.model.specs.Meaning.{meaning}
 use Rattle.model.specs.State.{State}
 use Rattle.model.specs.Refusals.{lineRefusal}
+use Rattle.model.specs.Causes.{Cause, absent, unlike, isAbsent, causeBy}
 use Rattle.model.specs.Decision.{Decision, permit, undefined, refused, decide}
 use Rattle.model.specs.Load.{load}
 use Rattle.model.specs.Edits.{edit}
@@ -75,17 +76,20 @@ answerTo S line = let e = edit S (lines (line ∷ [])) in (e .number, e .changed
 abbrev pub behindEdit : State → String → State
 behindEdit S line = edit S (lines (line ∷ [])) .state
 
--- the value of a policy where every attribute is absent; none where it is malformed
+-- the value of a policy where every attribute is absent, and the cause if it is UNDEF; none where it is malformed
 abbrev pub alone : String → Option Truth
 alone text = tokensOf (bytes text) >>= readPolicy >>= λ p. some (meaning (λ s n. []) p)
 
--- cases A to L "On the valley file", in order, a line each; G has two
+abbrev pub aloneCause : String → Option Cause
+aloneCause text = tokensOf (bytes text) >>= readPolicy >>= λ p. some (causeBy (isAbsent (λ s n. []) p))
+
+-- cases A to L "On the valley file", in order, a line each; G has two, and K, with its cause
 abbrev pub cases : List Case
 cases =
     map (λ k. getD (table (valley .declared) (valley .ties)) (4 * k) 0) (below 6) gives (0 ∷ 5 ∷ 15 ∷ 16 ∷ 15 ∷ 16 ∷ [])
     ∷ pass 3 (hour 16) gives permit 0
-    ∷ pass 3 (hour 17) gives undefined
-    ∷ pass 3 [] gives undefined
+    ∷ pass 3 (hour 17) gives undefined absent
+    ∷ pass 3 [] gives undefined absent
     ∷ pass 4 (hour 16) gives refused 17
     ∷ answerTo valley "+parent=day,season" gives (12, 0)
     ∷ answerTo valley "+value=day,zone,2" gives (0, 1)
@@ -94,5 +98,6 @@ cases =
     ∷ answerTo valley "-member=p17,day" gives (14, 0)
     ∷ alone "FALSE AND TRUE OR TRUE" gives some TRUE
     ∷ alone "\"b\" < \"c\"" gives some UNDEF
+    ∷ aloneCause "\"b\" < \"c\"" gives some unlike
     ∷ lineRefusal valley none (lines ("rule=pass,NOT user.kind = \"day\"" ∷ [])) gives 6
     ∷ []

@@ -1,15 +1,17 @@
 // Answers as bytes, each laid over the output behind the one before.
 ghost use Prim.Native.Nat.{_+_, _≤_};
 ghost use lib.ListN.{length};
+ghost use Rattle.model.specs.Decision.{undefined};
 ghost use Rattle.model.specs.Ledger.{decided};
 ghost use Rattle.model.specs.Gate.{printed};
 ghost use Rattle.output.specs.Laid.{far};
 ghost use Rattle.file.specs.LoadAnswers.{loadedOf};
-ghost use Rattle.request.specs.Decisions.{decisionOf};
+ghost use Rattle.request.specs.Decisions.{causeOf, decisionOf};
 ghost use Rattle.edit.specs.EditSteps.{editedOf};
 ghost use Rattle.printing.specs.Printing.{answerBytes, PrintedAt, twoNumbersLine, numberLine};
 use edit::Edited;
 use file::Loaded;
+use request::Cause;
 use request::Decision;
 
 // A key and two numbers.
@@ -50,6 +52,17 @@ fn put_number(out: &mut [u8], at: usize, text: &[u8], n: u32) -> usize
     output::put_byte(out, b, b'\n')
 }
 
+// An undefined answer, with its cause.
+fn put_undefined(out: &mut [u8], at: usize, cause: Cause) -> usize
+    requires { ⌜ at + answerBytes ≤ far ⌝ }
+    ensures { λ r. ⌜ PrintedAt (now (out .entry)) at (printed (decided (undefined (causeOf cause)))) (now (out .exit)) r ⌝ }
+{
+    match cause {
+        Cause::Absent => output::put(out, at, b"try=undefined,absent\n"),
+        Cause::Unlike => output::put(out, at, b"try=undefined,unlike\n"),
+    }
+}
+
 // The answer of a request.
 pub fn put_decision(out: &mut [u8], at: usize, decision: Decision) -> usize
     requires { ⌜ at + answerBytes ≤ far ⌝ }
@@ -58,7 +71,7 @@ pub fn put_decision(out: &mut [u8], at: usize, decision: Decision) -> usize
     match decision {
         Decision::Permit(rule) => put_number(out, at, b"try=permit,", rule as u32),
         Decision::Deny => output::put(out, at, b"try=deny\n"),
-        Decision::Undefined => output::put(out, at, b"try=undefined\n"),
+        Decision::Undefined(cause) => put_undefined(out, at, cause),
         Decision::Refused(number) => put_number(out, at, b"try=refused,", number as u32),
     }
 }

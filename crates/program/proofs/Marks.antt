@@ -7,7 +7,7 @@ use borrow.Author.Tests.{le-leb, lt-leb}
 use lib.Dec.{leb}
 use Rattle.model.specs.Truth.{Truth, FALSE, UNDEF, TRUE}
 use Rattle.codes.specs.Codes.{truthCode}
-use Rattle.program.specs.Walks.{isPassed, truthNumber}
+use Rattle.program.specs.Walks.{isPassed}
 
 -- ---- which marks are passed
 
@@ -29,21 +29,6 @@ module _ (kind : ℕ) where
   word h = sym (rw (le-leb 10 kind h, le-leb 5 kind (omega arith), lt-leb kind 6 (omega arith)) refl)
 
 -- ---- truth values
-
-pub numbered-false : (t : Truth) → 0 ≡ truthNumber t → FALSE ≡ t
-numbered-false FALSE e = refl
-numbered-false UNDEF e = absurd (omega arith)
-numbered-false TRUE e = absurd (omega arith)
-
-pub numbered-undef : (t : Truth) → 1 ≡ truthNumber t → UNDEF ≡ t
-numbered-undef FALSE e = absurd (omega arith)
-numbered-undef UNDEF e = refl
-numbered-undef TRUE e = absurd (omega arith)
-
-pub numbered-true : (n : ℕ) (t : Truth) → (n ≡ 0 → ⊥) → (n ≡ 1 → ⊥) → n ≡ truthNumber t → TRUE ≡ t
-numbered-true n FALSE a b e = absurd (a e)
-numbered-true n UNDEF a b e = absurd (b e)
-numbered-true n TRUE a b e = refl
 
 pub spoken-false : (t : Truth) → 13 ≡ truthCode t → FALSE ≡ t
 spoken-false FALSE e = refl

@@ -7,22 +7,19 @@ use native.Mathlib.Omega.{arith}
 use lib.ListN.{length, getD}
 use Rattle.model.specs.Notation.{if_then_else_}
 use Rattle.model.specs.Bytes.{Bytes}
-use Rattle.model.specs.Truth as model
-use Rattle.model.specs.Truth.{_OR_}
 use Rattle.model.proofs.WordTables.{false-is-true}
-use Rattle.truth.specs.declared.Truth.{Truth}
-use Rattle.truth.specs.declared.Truth.the-variants.{Undef}
-use Rattle.truth.specs.Truths.{truthOf}
+use Rattle.truth.specs.declared.verdict.Verdict as truth
+use Rattle.truth.specs.Verdicts.{Verdict, verdictOf, either}
 use Rattle.values.specs.Operands.{Lent}
 use Rattle.program.specs.declared.Walk as code
-use Rattle.program.specs.Walks.{Walk, walk, fresh, valueOf, termed, passed, isPassed, WalkIs}
+use Rattle.program.specs.Walks.{Walk, walk, fresh, Fresh, termed, passed, isPassed, eitherOf, bothOf, WalkIs}
 use Rattle.program.specs.TermRows.{rowBytes, rowNext, RowValue}
 use Rattle.program.specs.Runs.{Runs, done, past, term, NextAt, nextRow, Stepped, Ran}
-use Rattle.program.proofs.Levels.{value-is}
+use Rattle.program.proofs.Levels.{verdict-is}
 
 -- a run from the start goes on from here, with c for its walk
 abbrev pub Running : Lent → Bytes → code.Walk → ℕ → ℕ → Type 0
-Running L rows c row at = (t : model.Truth) → Runs L rows (walk fresh []) 0 0 t → (w : Walk) × Runs L rows w row at t × WalkIs c w
+Running L rows c row at = (t : Verdict) → Runs L rows (walk fresh []) 0 0 t → (w : Walk) × Runs L rows w row at t × WalkIs c w
 
 -- the number of the end is that of no mark
 end-mark : {A : Type 0} (kind : ℕ) → kind ≡ 0 → isPassed kind ≡ true → A
@@ -30,22 +27,22 @@ unfolding isPassed
 end-mark kind e p = false-is-true (ap isPassed (sym e) ∙ p)
 
 module _ (L : Lent) (rows : Bytes) (c : code.Walk) where
-  pub run-starts : WalkIs c (walk fresh []) → Running L rows c 0 0
-  run-starts is t r = (walk fresh [], r, is)
+  pub run-starts : Fresh 0 c → Running L rows c 0 0
+  run-starts begins t r = (walk fresh [], r, begins [] refl)
 
   module _ (row at : ℕ) (R : Running L rows c row at) where
-    pub run-ends : getD (L .code) at 0 ≡ 0 → (v : Truth) → truthOf v ≡ (truthOf (c .either) OR truthOf (c .both)) → Ran L rows v
+    pub run-ends : getD (L .code) at 0 ≡ 0 → (v : truth.Verdict) → verdictOf v ≡ either (eitherOf c) (bothOf c) → Ran L rows v
     run-ends z v e t r = let (w, s, is) = R t r in go w t s is
       where
-        go : (w : Walk) (t : model.Truth) → Runs L rows w row at t → WalkIs c w → truthOf v ≡ t
-        go w t (done h k) is = value-is c w is v e
+        go : (w : Walk) (t : Verdict) → Runs L rows w row at t → WalkIs c w → verdictOf v ≡ t
+        go w t (done h k) is = verdict-is c w is v e
         go w t (past h p few s) is = end-mark (getD (L .code) at 0) z p
         go w t (term h n p fits u ahead s) is = absurd (n z)
 
-    pub run-out : length (L .code) ≤ at → Ran L rows Undef
-    run-out l t r = let (w, s, is) = R t r in go w t s
+    pub run-out : length (L .code) ≤ at → (v : truth.Verdict) → Ran L rows v
+    run-out l v t r = let (w, s, is) = R t r in go w t s
       where
-        go : (w : Walk) (t : model.Truth) → Runs L rows w row at t → model.UNDEF ≡ t
+        go : (w : Walk) (t : Verdict) → Runs L rows w row at t → verdictOf v ≡ t
         go w t (done h k) = absurd (omega arith)
         go w t (past h p few s) = absurd (omega arith)
         go w t (term h n p fits u ahead s) = absurd (omega arith)
@@ -57,7 +54,7 @@ module _ (L : Lent) (rows : Bytes) (c : code.Walk) where
         kind : ℕ
         kind = getD (L .code) at 0
 
-        go : (w : Walk) (t : model.Truth) → Runs L rows w row at t → WalkIs c w → (v : Walk) × Runs L rows v m n t × WalkIs q v
+        go : (w : Walk) (t : Verdict) → Runs L rows w row at t → WalkIs c w → (v : Walk) × Runs L rows v m n t × WalkIs q v
         go w t (done h k) is = absurd (some k)
         go w t (past h p few s) is =
             let x : n ≡ at + 1 = N .mark p in

@@ -9,25 +9,24 @@ use Rattle.model.specs.Limits.{depthLimit}
 use Rattle.model.specs.Bytes.{Bytes}
 use Rattle.model.specs.Attributes.{Source}
 use Rattle.model.specs.Declarations.{Declarations, Attribute, attributeNumber}
-use Rattle.model.specs.Truth as model
 use Rattle.model.specs.Tokens.{Token}
-use Rattle.model.specs.Meaning.{Values, meaningOf}
+use Rattle.model.specs.Meaning.{Values}
 use Rattle.model.specs.Notation.{if_then_else_, nth}
 use Rattle.codes.specs.Codes.{endCode}
 use Rattle.rows.specs.Rows.{AttributeRow}
 use Rattle.values.specs.Operands.{Lent, lent, Stands, attributeOperand}
-use Rattle.truth.specs.declared.Truth.{Truth}
-use Rattle.truth.specs.Truths.{truthOf}
+use Rattle.truth.specs.declared.verdict.Verdict as truth
+use Rattle.truth.specs.Verdicts.{Verdict, verdictOf, ruleVerdict}
 use Rattle.program.specs.declared.Walk as code
-use Rattle.program.specs.Walks.{Walk, walk, fresh, valueOf, termed, passed, isPassed, WalkIs}
+use Rattle.program.specs.Walks.{Walk, walk, fresh, comesTo, termed, passed, isPassed, WalkIs}
 use Rattle.program.specs.TermRows.{rowBytes, rowNext, RowValue}
 
 -- from w on, with the code from byte `at` and the rows from byte `row` on, a run comes to t
-pub data Runs (L : Lent) (rows : Bytes) : Walk → ℕ → ℕ → model.Truth → Type 0 where
-  done : {w : Walk} {row at : ℕ} → at < length (L .code) → getD (L .code) at 0 ≡ endCode → Runs L rows w row at (valueOf (w .inner))
-  past : {w : Walk} {row at : ℕ} {t : model.Truth} → at < length (L .code) → isPassed (getD (L .code) at 0) ≡ true
+pub data Runs (L : Lent) (rows : Bytes) : Walk → ℕ → ℕ → Verdict → Type 0 where
+  done : {w : Walk} {row at : ℕ} → at < length (L .code) → getD (L .code) at 0 ≡ endCode → Runs L rows w row at (comesTo (w .inner))
+  past : {w : Walk} {row at : ℕ} {t : Verdict} → at < length (L .code) → isPassed (getD (L .code) at 0) ≡ true
       → length (passed (getD (L .code) at 0) w .outer) ≤ depthLimit → Runs L rows (passed (getD (L .code) at 0) w) row (at + 1) t → Runs L rows w row at t
-  term : {w : Walk} {row at : ℕ} {u t : model.Truth} → at < length (L .code) → (getD (L .code) at 0 ≡ endCode → ⊥) → isPassed (getD (L .code) at 0) ≡ false
+  term : {w : Walk} {row at : ℕ} {u t : Verdict} → at < length (L .code) → (getD (L .code) at 0 ≡ endCode → ⊥) → isPassed (getD (L .code) at 0) ≡ false
       → row + rowBytes ≤ length rows → RowValue L rows row u → at < rowNext rows row
       → Runs L rows (termed u w) (row + rowBytes) (rowNext rows row) t → Runs L rows w row at t
 
@@ -36,11 +35,11 @@ abbrev pub Reads : Lent → List ℕ → Declarations → Values → Type 0
 Reads L attributes D read =
     (s : Source) (n : Bytes) (k : ℕ) → attributeNumber D s n ≡ some k → Stands L (attributeOperand attributes k) (read s n)
 
--- code and rows are a program of the tokens ts: whatever is lent with them and whatever values are read, a run comes to the value of ts
+-- code and rows are a program of the tokens ts: whatever is lent with them and whatever values are read, a run comes to the verdict on ts
 abbrev pub ProgrammedBy : List ℕ → Declarations → Bytes → Bytes → List Token → Type 0
 ProgrammedBy attributes D code rows ts =
     (pairs session : List ℕ) (entries : Bytes) (read : Values) → Reads (lent code pairs session entries) attributes D read
-    → Runs (lent code pairs session entries) rows (walk fresh []) 0 0 (meaningOf read ts)
+    → Runs (lent code pairs session entries) rows (walk fresh []) 0 0 (ruleVerdict read ts)
 
 -- these rows are those of the attributes of D, among others
 abbrev pub HasRows : List ℕ → Declarations → Type 0
@@ -63,8 +62,8 @@ nextRow kind row = if isPassed kind then row else row + rowBytes
 -- from c to r: a mark passed, or the term of a row, by the kind
 pub record Stepped (L : Lent) (rows : Bytes) (kind row : ℕ) (c r : code.Walk) : Type 0 where
   pub mark : isPassed kind ≡ true → (w : Walk) → WalkIs c w → length (passed kind w .outer) ≤ depthLimit → WalkIs r (passed kind w)
-  pub row-value : isPassed kind ≡ false → row + rowBytes ≤ length rows → (u : model.Truth) → RowValue L rows row u → (w : Walk) → WalkIs c w → WalkIs r (termed u w)
+  pub row-value : isPassed kind ≡ false → row + rowBytes ≤ length rows → (u : Verdict) → RowValue L rows row u → (w : Walk) → WalkIs c w → WalkIs r (termed u w)
 
 -- r is what a run over code and rows comes to
-abbrev pub Ran : Lent → Bytes → Truth → Type 0
-Ran L rows r = (t : model.Truth) → Runs L rows (walk fresh []) 0 0 t → truthOf r ≡ t
+abbrev pub Ran : Lent → Bytes → truth.Verdict → Type 0
+Ran L rows r = (t : Verdict) → Runs L rows (walk fresh []) 0 0 t → verdictOf r ≡ t

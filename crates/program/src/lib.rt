@@ -9,10 +9,10 @@ ghost use Rattle.model.specs.Truth as model;
 ghost use Rattle.model.specs.Notation.{if_then_else_};
 ghost use Rattle.codes.specs.Codes.{truthCode};
 ghost use Rattle.truth.specs.Truths.{truthOf};
+ghost use Rattle.truth.specs.Verdicts.{verdictOf, either};
 ghost use Rattle.values.specs.Operands.{lent};
-ghost use Rattle.model.specs.Truth.{_OR_};
-ghost use Rattle.program.specs.Walks.{walk, fresh, signed, isPassed, truthNumber, signNumber, WalkIs, Termed, Passed, Around};
-ghost use Rattle.program.specs.TermRows.{rowBytes, two, operandAt, RowValue};
+ghost use Rattle.program.specs.Walks.{isPassed, eitherOf, bothOf, Fresh, Termed, Passed, Around};
+ghost use Rattle.program.specs.TermRows.{rowBytes, two, operandAt, RowTruth, RowLacks, RowTold};
 ghost use Rattle.program.specs.Runs.{NextAt, nextRow, Stepped, Ran};
 use codes::AND;
 use codes::END;
@@ -25,87 +25,83 @@ use codes::RPAREN;
 use codes::TRUE;
 use codes::UNDEF;
 use truth::Truth;
+use truth::verdict::Verdict;
 use values::Operand;
 
 // The bytes of a row.
 pub const ROW_BYTES: usize = 16;
 
 // Room for so many levels that none is lost where parentheses are no deeper than is allowed.
-const OUTERMOST: u64 = 576460752303423488;
+const OUTERMOST: u64 = 144115188075855872;
 
-// The policy that is walked over: its conjunctions passed so far, joined by OR; the terms of this one, joined by AND; whether NOT stands before what comes
-// next. Then the policies around it whose parentheses are open, five bits each, the innermost lowest.
+// The policy that is walked over: its conjunctions passed so far, joined by OR; the terms of this one, joined by AND; beside each, whether it is UNDEF for
+// lack of values; whether NOT stands before what comes next. Then the policies around it whose parentheses are open, seven bits each, the innermost lowest.
+// The causes are fields beside the values, since verdicts as fields would be packed and unpacked at each term.
 pub struct Walk {
     either: Truth,
+    absent: bool,
     both: Truth,
+    lacking: bool,
     negated: bool,
     outer: u64,
 }
 
-fn start() -> Walk
-    ensures { λ r. ⌜ WalkIs r (walk fresh []) ⌝ }
+// No conjunction so far, and no term.
+fn fresh(outer: u64) -> Walk
+    ensures { λ r. ⌜ Fresh outer r ⌝ }
 {
     Walk {
         either: Truth::False,
+        absent: false,
         both: Truth::True,
+        lacking: false,
         negated: false,
-        outer: 0,
+        outer,
     }
 }
 
-fn number_of(t: Truth) -> u64
-    ensures { λ r. ⌜ (r ≡ truthNumber (truthOf t)) × (r ≤ 2) ⌝ }
+fn either_of(w: Walk) -> Verdict
+    ensures { λ r. ⌜ verdictOf r ≡ eitherOf w ⌝ }
 {
-    match t {
-        Truth::False => 0,
-        Truth::Undef => 1,
-        Truth::True => 2,
+    let value = w.either;
+    Verdict {
+        value,
+        absent: w.absent,
     }
 }
 
-fn truth_of(n: u64) -> Truth
-    ensures { λ r. ⌜ ((t : model.Truth) → n ≡ truthNumber t → truthOf r ≡ t) ⌝ }
+fn both_of(w: Walk) -> Verdict
+    ensures { λ r. ⌜ verdictOf r ≡ bothOf w ⌝ }
 {
-    match n {
-        0 => Truth::False,
-        1 => Truth::Undef,
-        _ => Truth::True,
+    let value = w.both;
+    Verdict {
+        value,
+        absent: w.lacking,
     }
-}
-
-fn sign_of(negated: bool) -> u64
-    ensures { λ r. ⌜ (r ≡ signNumber negated) × (r ≤ 1) ⌝ }
-{
-    if negated { 1 } else { 0 }
-}
-
-fn signed(negated: bool, t: Truth) -> Truth
-    ensures { λ r. ⌜ truthOf r ≡ signed negated (truthOf t) ⌝ }
-{
-    if negated {
-        return truth::not(t);
-    }
-    t
 }
 
 // What the walk comes to, where it ends.
-fn value_of(w: Walk) -> Truth
-    ensures { λ r. ⌜ truthOf r ≡ (truthOf (w .either) OR truthOf (w .both)) ⌝ }
+fn verdict_of(w: Walk) -> Verdict
+    ensures { λ r. ⌜ verdictOf r ≡ either (eitherOf w) (bothOf w) ⌝ }
 {
-    let either = w.either;
-    let both = w.both;
-    truth::or(either, both)
+    let either = either_of(w);
+    let both = both_of(w);
+    truth::verdict::or(either, both)
 }
 
-fn with_term(w: Walk, t: Truth) -> Walk
-    ensures { λ r. ⌜ Termed w (truthOf t) r ⌝ }
+fn with_term(w: Walk, v: Verdict) -> Walk
+    ensures { λ r. ⌜ Termed w (verdictOf v) r ⌝ }
 {
+    let before = both_of(w);
+    let term = truth::verdict::signed(w.negated, v);
+    let verdict = truth::verdict::and(before, term);
     let either = w.either;
-    let both = w.both;
-    let term = signed(w.negated, t);
+    let both = verdict.value;
     Walk {
         either,
-        both: truth::and(both, term),
+        absent: w.absent,
+        both,
+        lacking: verdict.absent,
         negated: false,
         outer: w.outer,
     }
@@ -118,7 +114,9 @@ fn negated(w: Walk) -> Walk
     let both = w.both;
     Walk {
         either,
+        absent: w.absent,
         both,
+        lacking: w.lacking,
         negated: true,
         outer: w.outer,
     }
@@ -128,10 +126,13 @@ fn negated(w: Walk) -> Walk
 fn joined(w: Walk) -> Walk
     ensures { λ r. ⌜ Passed 11 w r ⌝ }
 {
-    let either = value_of(w);
+    let verdict = verdict_of(w);
+    let either = verdict.value;
     Walk {
         either,
+        absent: verdict.absent,
         both: Truth::True,
+        lacking: false,
         negated: w.negated,
         outer: w.outer,
     }
@@ -141,27 +142,30 @@ fn joined(w: Walk) -> Walk
 fn opened(w: Walk) -> Walk
     ensures { λ r. ⌜ Passed 5 w r ⌝ }
 {
-    let either = w.either;
-    let both = w.both;
-    let level = number_of(either) + 4 * number_of(both) + 16 * sign_of(w.negated);
-    Walk {
-        either: Truth::False,
-        both: Truth::True,
-        negated: false,
-        outer: 32 * (w.outer % OUTERMOST) + level,
-    }
+    let either = either_of(w);
+    let both = both_of(w);
+    let level = truth::verdict::number_of(either)
+        + 8 * truth::verdict::number_of(both)
+        + 64 * truth::verdict::flag_number(w.negated);
+    fresh(128 * (w.outer % OUTERMOST) + level)
 }
 
 // The policy around the innermost one.
 fn around(outer: u64) -> Walk
     ensures { λ r. ⌜ Around outer r ⌝ }
 {
-    let level = outer % 32;
+    let level = outer % 128;
+    let conjunctions = truth::verdict::of_number(level % 8);
+    let terms = truth::verdict::of_number(level / 8 % 8);
+    let either = conjunctions.value;
+    let both = terms.value;
     Walk {
-        either: truth_of(level % 4),
-        both: truth_of(level / 4 % 4),
-        negated: level / 16 == 1,
-        outer: outer / 32,
+        either,
+        absent: conjunctions.absent,
+        both,
+        lacking: terms.absent,
+        negated: level / 64 == 1,
+        outer: outer / 128,
     }
 }
 
@@ -169,8 +173,8 @@ fn around(outer: u64) -> Walk
 fn closed(w: Walk) -> Walk
     ensures { λ r. ⌜ Passed 6 w r ⌝ }
 {
-    let value = value_of(w);
-    with_term(around(w.outer), value)
+    let inside = verdict_of(w);
+    with_term(around(w.outer), inside)
 }
 
 // A mark passed, by its kind. AND changes nothing.
@@ -244,7 +248,7 @@ fn row_value(
     row: usize,
 ) -> Truth
     requires { ⌜ (length (now pairs) ≡ 1024) × (row + rowBytes ≤ length (now rows)) ⌝ }
-    ensures { λ r. ⌜ ((u : model.Truth) → RowValue (lent (now (code .entry)) (now (pairs .entry)) (now (session .entry)) (now (entries .entry))) (now (rows .entry)) row u → truthOf r ≡ u) ⌝ }
+    ensures { λ r. ⌜ RowTruth (lent (now (code .entry)) (now (pairs .entry)) (now (session .entry)) (now (entries .entry))) (now (rows .entry)) row r ⌝ }
 {
     let kind = rows[row];
     let left = operand_at(rows, row + 1);
@@ -255,6 +259,48 @@ fn row_value(
             let right = operand_at(rows, row + 7);
             values::compare(code, pairs, session, entries, kind, left, right)
         }
+    }
+}
+
+// Whether an operand of it lacks values; a word has none, and an attribute that stands alone no second one.
+fn row_lacks(code: &[u8], rows: &[u8], session: &[u64; 128], entries: &[u8], row: usize) -> bool
+    requires { ⌜ row + rowBytes ≤ length (now rows) ⌝ }
+    ensures { λ r. ⌜ RowLacks (now (code .entry)) (now (session .entry)) (now (entries .entry)) (now (rows .entry)) row r ⌝ }
+{
+    let kind = rows[row];
+    let left = operand_at(rows, row + 1);
+    match kind {
+        FALSE..=TRUE => false,
+        NAME => values::lacks(code, session, entries, left),
+        _ => {
+            if values::lacks(code, session, entries, left) {
+                return true;
+            }
+            let right = operand_at(rows, row + 7);
+            values::lacks(code, session, entries, right)
+        }
+    }
+}
+
+// The verdict on it. The row is looked at again for the cause, at one place, so that what is no UNDEF pays nothing.
+fn row_verdict(
+    code: &[u8],
+    rows: &[u8],
+    pairs: &[u64],
+    session: &[u64; 128],
+    entries: &[u8],
+    row: usize,
+) -> Verdict
+    requires { ⌜ (length (now pairs) ≡ 1024) × (row + rowBytes ≤ length (now rows)) ⌝ }
+    ensures { λ r. ⌜ RowTold (lent (now (code .entry)) (now (pairs .entry)) (now (session .entry)) (now (entries .entry))) (now (rows .entry)) row r ⌝ }
+{
+    let value = row_value(code, rows, pairs, session, entries, row);
+    if !truth::verdict::is_undef(value) {
+        return truth::verdict::plain(value);
+    }
+    Verdict {
+        value,
+        absent: row_lacks(code, rows, session, entries, row),
     }
 }
 
@@ -278,7 +324,7 @@ fn step(
     if rows.len() < row + ROW_BYTES {
         return w;
     }
-    with_term(w, row_value(code, rows, pairs, session, entries, row))
+    with_term(w, row_verdict(code, rows, pairs, session, entries, row))
 }
 
 // Where the code goes on.
@@ -309,23 +355,33 @@ pub fn next_row(kind: u8, row: usize) -> usize
     row + ROW_BYTES
 }
 
-// The value of a rule: its code and its rows, on what is lent for a request. UNDEF where they are no program.
-pub fn run(code: &[u8], rows: &[u8], pairs: &[u64], session: &[u64; 128], entries: &[u8]) -> Truth
+// The verdict on a rule: its code and its rows, on what is lent for a request. UNDEF where they are no program.
+pub fn run(code: &[u8], rows: &[u8], pairs: &[u64], session: &[u64; 128], entries: &[u8]) -> Verdict
     requires { ⌜ (length (now pairs) ≡ 1024) × (length (now code) ≤ 65536) ⌝ }
     ensures { λ r. ⌜ Ran (lent (now (code .entry)) (now (pairs .entry)) (now (session .entry)) (now (entries .entry))) (now (rows .entry)) r ⌝ }
 {
-    let mut w = start();
+    let mut w = fresh(0);
     let mut at: usize = 0;
     let mut row: usize = 0;
     while at < code.len() {
         let kind = code[at];
         if kind == END {
-            return value_of(w);
+            return verdict_of(w);
         }
         let next = step(code, rows, pairs, session, entries, kind, row, w);
-        w = next;
+        // field by field: the whole would be copied with the bytes between its fields, at each turn
+        let either = next.either;
+        let both = next.both;
+        w = Walk {
+            either,
+            absent: next.absent,
+            both,
+            lacking: next.lacking,
+            negated: next.negated,
+            outer: next.outer,
+        };
         at = next_at(rows, kind, row, at);
         row = next_row(kind, row);
     }
-    Truth::Undef
+    truth::verdict::plain(Truth::Undef)
 }

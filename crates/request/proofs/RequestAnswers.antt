@@ -18,7 +18,7 @@ use Rattle.model.specs.Standing.{Standing}
 use Rattle.model.specs.Refusals.{_if_, first, badBlock, wrongNumber, notHeld, requestRefusal}
 use Rattle.model.proofs.Table.{table-length}
 use Rattle.model.specs.Decision as model
-use Rattle.model.specs.Decision.{verdicts, judged}
+use Rattle.model.specs.Decision.{verdicts, cause, judged}
 use Rattle.session.specs.Opened.{SessionOf}
 use Rattle.session.specs.Words.{OpenedFirst, unheldIn}
 use Rattle.session.proofs.Opens.{zeros-hold, opens}
@@ -51,10 +51,10 @@ module _ {S : State} {b : Block} {counts targets : List ℕ} {code : Bytes} {att
       ∙ sym unheld
 
   abbrev Answer : model.Decision → Type 0
-  Answer d = d ≡ (if notHeld S b then model.refused refusal.notHeld else model.decisionBy (verdicts S b))
+  Answer d = d ≡ (if notHeld S b then model.refused refusal.notHeld else model.decisionBy (cause S b) (verdicts S b))
 
   pub not-held : r ≡ true → Answer (model.refused refusal.notHeld)
-  not-held on = sym (ap (λ (t : Bool). if t then model.refused refusal.notHeld else model.decisionBy (verdicts S b)) (held-so ∙ on))
+  not-held on = sym (ap (λ (t : Bool). if t then model.refused refusal.notHeld else model.decisionBy (cause S b) (verdicts S b)) (held-so ∙ on))
 
   -- the session that is opened, where zeros stood
   module _ (object : ℕ) (object-is : object ≡ getD block 2 0) (declared : ℕ) (declared-is : getD counts 0 0 ≤ 32 → declared ≡ getD counts 0 0)
@@ -93,7 +93,7 @@ module _ {S : State} {b : Block} {counts targets : List ℕ} {code : Bytes} {att
         g S b attributes
         (record { operation-is = head-of block b (of .read) .operation ∙ sym f; rule-rows = of .rule-rows; session-of = session-of })
         (rules-so rules w)
-        ∙ sym (ap (λ (t : Bool). if t then model.refused refusal.notHeld else model.decisionBy (verdicts S b)) (held-so ∙ off))
+        ∙ sym (ap (λ (t : Bool). if t then model.refused refusal.notHeld else model.decisionBy (cause S b) (verdicts S b)) (held-so ∙ off))
 
 -- ---- a request
 
@@ -115,16 +115,16 @@ module _ (S : State) (block : Bytes) where
     abbrev byTests : Bool → Bool → model.Decision
     byTests wrong unheld =
         let n = first (refusal.badBlock if false ∷ refusal.wrongNumber if wrong ∷ refusal.notHeld if unheld ∷ []) in
-        if eqb n 0 then model.decisionBy (verdicts S b) else model.refused n
+        if eqb n 0 then model.decisionBy (cause S b) (verdicts S b) else model.refused n
 
     pub wrong : true ≡ wrongNumber (S .declared) b → model.refused refusal.wrongNumber ≡ model.decide S block
     wrong e = sym (decide-by (some b) read ∙ ap (λ (t : Bool). byTests t (notHeld S b)) (sym e))
 
     pub right : false ≡ wrongNumber (S .declared) b
-        → (if notHeld S b then model.refused refusal.notHeld else model.decisionBy (verdicts S b)) ≡ model.decide S block
+        → (if notHeld S b then model.refused refusal.notHeld else model.decisionBy (cause S b) (verdicts S b)) ≡ model.decide S block
     right e = go (notHeld S b) ∙ sym (decide-by (some b) read ∙ ap (λ (t : Bool). byTests t (notHeld S b)) (sym e))
       where
-        go : (t : Bool) → (if t then model.refused refusal.notHeld else model.decisionBy (verdicts S b)) ≡ byTests false t
+        go : (t : Bool) → (if t then model.refused refusal.notHeld else model.decisionBy (cause S b) (verdicts S b)) ≡ byTests false t
         go true = refl
         go false = refl
 

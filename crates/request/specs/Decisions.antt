@@ -12,17 +12,24 @@ use Rattle.model.specs.Block.{Block}
 use Rattle.model.specs.Table.{table}
 use Rattle.model.specs.Refusals.{notHeld}
 use Rattle.model.specs.Standing.{Standing}
+use Rattle.model.specs.Causes as causes
 use Rattle.model.specs.Decision as model
 use Rattle.book.specs.Held.{Holds}
 use Rattle.request.specs.declared.Decision.{Decision}
 use Rattle.request.specs.declared.Decision.the-variants.{Permit, Deny, Undefined, Refused}
+use Rattle.request.specs.declared.Cause.{Cause}
+use Rattle.request.specs.declared.Cause.the-variants.{Absent, Unlike}
 use Rattle.request.specs.Requests.{RulesOf, RequestOf}
 
--- "decision enum: Permit with rule number, Deny, Undefined, Refused with number"
+abbrev pub causeOf : Cause → causes.Cause
+causeOf Absent = causes.absent
+causeOf Unlike = causes.unlike
+
+-- "decision enum: Permit with rule number, Deny, Undefined, Refused with number"; undefined with its cause
 abbrev pub decisionOf : Decision → model.Decision
 decisionOf (Permit rule) = model.permit rule
 decisionOf Deny = model.deny
-decisionOf Undefined = model.undefined
+decisionOf (Undefined c) = model.undefined (causeOf c)
 decisionOf (Refused n) = model.refused n
 
 -- this paper's number for each case, and the values that it carries
@@ -33,13 +40,13 @@ numberAndValuesOf r = model.numberAndValues (decisionOf r)
 abbrev pub Decided : List ℕ → Bytes → List ℕ → List ℕ → Bytes → ℕ → ℕ → Decision → Type 0
 Decided targets code pairs session entries operation count r =
     (S : State) (b : Block) (attributes : List ℕ) → RulesOf S b targets code attributes pairs session entries operation → length (S .declared .rules) ≡ count
-    → decisionOf r ≡ model.decisionBy (model.verdicts S b)
+    → decisionOf r ≡ model.decisionBy (model.cause S b) (model.verdicts S b)
 
 -- r is what a request with no wrong number is answered
 abbrev pub Answered : List ℕ → List ℕ → Bytes → List ℕ → List ℕ → List ℕ → Bytes → Bytes → Decision → Type 0
 Answered counts targets code attributes pairs table block entries r =
     (S : State) (b : Block) → RequestOf S b counts targets code attributes pairs table block entries
-    → decisionOf r ≡ (if notHeld S b then model.refused refusal.notHeld else model.decisionBy (model.verdicts S b))
+    → decisionOf r ≡ (if notHeld S b then model.refused refusal.notHeld else model.decisionBy (model.cause S b) (model.verdicts S b))
 
 -- r is what a request is answered: 1 on a table of another length, and as the document says on a book and a table that stand for a state, by its case
 -- and by this paper's number and values. Nothing is written

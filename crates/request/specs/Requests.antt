@@ -1,18 +1,17 @@
 -- What is lent for a request, and what its tests say. Assumes nothing: these are definitions.
 use Prim.Native.Nat.{ℕ, _+_, _*_, _<_}
 use mathlib.Core.Path.{_≡_}
-use mathlib.Core.Bool.{Bool}
+use mathlib.Core.Bool.{Bool, false}
 use mathlib.Core.List.{List}
 use mathlib.Core.Option.{none, some}
 use lib.ListN.{length}
 use Rattle.model.specs.Notation.{if_then_else_, _is_, allOf, nth}
 use Rattle.model.specs.Limits.{pairLimit, entryBytes}
 use Rattle.model.specs.Bytes.{Bytes, same}
-use Rattle.model.specs.Truth as model
+use Rattle.model.specs.Truth.{FALSE}
 use Rattle.model.specs.Declarations.{Declarations}
 use Rattle.model.specs.State.{State}
 use Rattle.model.specs.Block.{Block, readBlock, entriesOf}
-use Rattle.model.specs.Meaning.{meaningOf}
 use Rattle.model.specs.Session.{readBy}
 use Rattle.model.specs.Refusals.{entryFits, wrongNumber}
 use Rattle.model.specs.Standing.{WellDeclared}
@@ -20,8 +19,8 @@ use Rattle.rows.specs.Rows.{AttributeRows, PairRows}
 use Rattle.session.specs.Entries.{EntriesOf}
 use Rattle.session.specs.Opened.{SessionOf}
 use Rattle.session.specs.Words.{SetsOf}
-use Rattle.truth.specs.declared.Truth.{Truth}
-use Rattle.truth.specs.Truths.{truthOf}
+use Rattle.truth.specs.declared.verdict.Verdict as code
+use Rattle.truth.specs.Verdicts.{Verdict, verdict, verdictOf, ruleVerdict}
 use Rattle.index.specs.Index.{chains}
 use Rattle.book.specs.Sections as section
 use Rattle.book.specs.Sections.{Section, ruleBytes}
@@ -53,12 +52,12 @@ abbrev pub WrongNumber : List ℕ → List ℕ → List ℕ → Bytes → Bytes 
 WrongNumber counts sorts attributes block entries r =
     (D : Declarations) (b : Block) → NumbersOf D b counts sorts attributes block entries → r ≡ wrongNumber D b
 
--- the value of rule k for a request; FALSE, which decides nothing, where it is no rule of the operation
-unfoldable pub ruleValue : State → Block → ℕ → model.Truth
-ruleValue S b k =
+-- the verdict on rule k for a request; FALSE, which decides nothing, where it is no rule of the operation
+unfoldable pub verdictOn : State → Block → ℕ → Verdict
+verdictOn S b k =
     elim (nth (S .declared .rules) k) [
-      | none ↦ model.FALSE
-      | some r ↦ if nth (S .declared .operations) (b .operation) is same (r .operation) then meaningOf (readBy S b) (r .tokens) else model.FALSE
+      | none ↦ verdict FALSE false
+      | some r ↦ if nth (S .declared .operations) (b .operation) is same (r .operation) then ruleVerdict (readBy S b) (r .tokens) else verdict FALSE false
     ]
 
 -- the rules, each with the operation that it is for, its target, and what they read
@@ -73,11 +72,11 @@ pub record Sizes (targets : List ℕ) (code : Bytes) (pairs : List ℕ) : Type 0
   pub code-long : length code ≡ ruleBytes
   pub pairs-long : length pairs ≡ pairRows .size
 
--- r is the value of rule k, whatever rows of attributes the session is that of
-abbrev pub RuleValued : List ℕ → Bytes → List ℕ → List ℕ → Bytes → ℕ → ℕ → Truth → Type 0
-RuleValued targets code pairs session entries operation k r =
+-- r is the verdict on rule k, whatever rows of attributes the session is that of
+abbrev pub RuleTold : List ℕ → Bytes → List ℕ → List ℕ → Bytes → ℕ → ℕ → code.Verdict → Type 0
+RuleTold targets code pairs session entries operation k r =
     (S : State) (b : Block) (attributes : List ℕ) → RulesOf S b targets code attributes pairs session entries operation → k < length (S .declared .rules)
-    → truthOf r ≡ ruleValue S b k
+    → verdictOf r ≡ verdictOn S b k
 
 -- what is lent for a request, of a state and a block
 pub record RequestOf (S : State) (b : Block) (counts targets : List ℕ) (code : Bytes) (attributes pairs table : List ℕ) (block entries : Bytes) : Type 0 where

@@ -5,9 +5,9 @@ ghost use Prim.Native.Nat.{_+_, _*_, _≤_, _<_};
 ghost use lib.Dec.{eqb};
 ghost use lib.ListN.{length, getD};
 ghost use Rattle.model.specs.Block.{isBlock};
-ghost use Rattle.model.specs.Decision.{isTrue, isUndef};
+ghost use Rattle.model.specs.Truth.{isTrue};
 ghost use Rattle.truth.specs.Truths.{truthOf};
-ghost use Rattle.request.specs.Requests.{EntryFits, EntriesFit, WrongNumber, Sizes, RuleValued};
+ghost use Rattle.request.specs.Requests.{EntryFits, EntriesFit, WrongNumber, Sizes, RuleTold};
 ghost use Rattle.request.specs.Decisions.{Decided, Answered, Decides};
 use book::ATTRIBUTE_COUNT;
 use book::ATTRIBUTES_AT;
@@ -34,12 +34,19 @@ use codes::NOT_HELD;
 use codes::WRONG_NUMBER;
 use codes::WRONG_TABLE;
 use truth::Truth;
+use truth::verdict::Verdict;
 
-// "decision enum: Permit with rule number, Deny, Undefined, Refused with number."
+// "absent (an operand or that attribute lacks values …) or unlike (all other UNDEF, the constant too)."
+pub enum Cause {
+    Absent,
+    Unlike,
+}
+
+// "decision enum: Permit with rule number, Deny, Undefined, Refused with number"; undefined with its cause.
 pub enum Decision {
     Permit(u8),
     Deny,
-    Undefined,
+    Undefined(Cause),
     Refused(u8),
 }
 
@@ -126,8 +133,8 @@ fn wrong_number(
     !entries_fit(attributes, entries)
 }
 
-// The value of rule k, by a run over its code and its rows; FALSE, which decides nothing, where its target, the operation that it is for, is another.
-fn rule_value(
+// The verdict on rule k, by a run over its code and its rows; FALSE, which decides nothing, where its target, the operation that it is for, is another.
+fn rule_verdict(
     targets: &[u64],
     code: &[u8],
     pairs: &[u64],
@@ -135,12 +142,12 @@ fn rule_value(
     entries: &[u8],
     operation: u8,
     k: usize,
-) -> Truth
+) -> Verdict
     requires { ⌜ Sizes (now targets) (now code) (now pairs) × (k < 32) ⌝ }
-    ensures { λ r. ⌜ RuleValued (now (targets .entry)) (now (code .entry)) (now (pairs .entry)) (now (session .entry)) (now (entries .entry)) operation k r ⌝ }
+    ensures { λ r. ⌜ RuleTold (now (targets .entry)) (now (code .entry)) (now (pairs .entry)) (now (session .entry)) (now (entries .entry)) operation k r ⌝ }
 {
     if targets[k] != operation as u64 {
-        return Truth::False;
+        return truth::verdict::plain(Truth::False);
     }
     let start = CODE_BYTES * k;
     let end = CODE_BYTES * k + CODE_BYTES;
@@ -165,18 +172,17 @@ fn is_true(t: Truth) -> bool
     }
 }
 
-// Whether some value was UNDEF, or this one is.
-fn or_undef(before: bool, t: Truth) -> bool
-    ensures { λ r. ⌜ r ≡ (before || isUndef (truthOf t)) ⌝ }
+// Whether it was so, or is now.
+fn or(before: bool, now: bool) -> bool
+    ensures { λ r. ⌜ r ≡ (before || now) ⌝ }
 {
-    match t {
-        Truth::True => before,
-        Truth::Undef => true,
-        Truth::False => before,
+    if before {
+        return true;
     }
+    now
 }
 
-// "Permit, with the lowest TRUE rule number; else undefined if some is UNDEF; else deny."
+// "Permit, with the lowest TRUE rule number; else undefined if some is UNDEF; else deny." Undefined is absent "if one of its UNDEF rules is".
 fn decided(
     targets: &[u64],
     code: &[u8],
@@ -190,16 +196,22 @@ fn decided(
     ensures { λ r. ⌜ Decided (now (targets .entry)) (now (code .entry)) (now (pairs .entry)) (now (session .entry)) (now (entries .entry)) operation count r ⌝ }
 {
     let mut undefined = false;
+    let mut absent = false;
     for k in 0..count {
-        let value = rule_value(targets, code, pairs, session, entries, operation, k);
+        let verdict = rule_verdict(targets, code, pairs, session, entries, operation, k);
+        let value = verdict.value;
         if is_true(value) {
             let rule = k as u8;
             return Decision::Permit(rule);
         }
-        undefined = or_undef(undefined, value);
+        undefined = or(undefined, truth::verdict::is_undef(value));
+        absent = or(absent, verdict.absent);
+    }
+    if absent {
+        return Decision::Undefined(Cause::Absent);
     }
     if undefined {
-        return Decision::Undefined;
+        return Decision::Undefined(Cause::Unlike);
     }
     Decision::Deny
 }

@@ -50,7 +50,9 @@ pub extern "C" fn zhul_time_run(
     session: &[u64; 128],
     entries: &[u8],
 ) -> u8 {
-    match program::run(code, rows, pairs, session, entries) {
+    let verdict = program::run(code, rows, pairs, session, entries);
+    let value = verdict.value;
+    match value {
         Truth::False => 0,
         Truth::Undef => 1,
         Truth::True => 2,

@@ -1,4 +1,6 @@
 // Kleene's three-valued logic K3.
+pub mod verdict;
+
 ghost use mathlib.Core.Path.{_≡_};
 ghost use Rattle.model.specs.Truth.{truth, NOT, _AND_, _OR_};
 ghost use Rattle.truth.specs.Truths.{truthOf};

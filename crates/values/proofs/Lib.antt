@@ -6,5 +6,6 @@ pub mod AttributeOperands
 pub mod Orders
 pub mod ComparedAtoms
 pub mod Compared
+pub mod Lacking
 pub mod Stands
 pub mod RuleConstants

@@ -6,6 +6,7 @@ use mathlib.Core.List.{List, [], _∷_}
 use lib.Dec.{eqb, leb, ltb}
 use Rattle.model.specs.Notation.{isEmpty, if_then_else_}
 use Rattle.model.specs.Limits.{largestInt}
+use Rattle.model.specs.Bytes.{Bytes}
 use Rattle.model.specs.Atoms.{Atom}
 use Rattle.model.specs.Truth as model
 use Rattle.model.specs.Truth.{truth, NOT}
@@ -18,7 +19,7 @@ use Rattle.text.specs.declared.Words.{Words}
 use Rattle.text.specs.Values.{sameWords}
 use Rattle.values.specs.declared.Operand.{Operand}
 use Rattle.values.specs.declared.Bound.{Bound}
-use Rattle.values.specs.Operands.{Lent, operandValues, Stands}
+use Rattle.values.specs.Operands.{Lent, lent, operandValues, Stands}
 
 -- the greater of two numbers, or the less
 unfoldable pub further : Bool → ℕ → ℕ → ℕ
@@ -103,3 +104,7 @@ pub record Compared (L : Lent) (n : ℕ) (left right : Operand) (r : Truth) : Ty
 -- r is what a lone attribute comes to, with the atoms that an operand stands for
 pub record Lone (L : Lent) (o : Operand) (r : Truth) : Type 0 where
   pub lone-value : (l : List Atom) → Stands L o l → truthOf r ≡ loneValue l
+
+-- r tells whether an operand lacks values, whatever the rows of pairs are
+abbrev pub Lacks : Bytes → List ℕ → Bytes → Operand → Bool → Type 0
+Lacks code session entries o r = (pairs : List ℕ) → r ≡ isEmpty (operandValues (lent code pairs session entries) o)

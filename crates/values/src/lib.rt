@@ -11,7 +11,7 @@ ghost use Rattle.truth.specs.Truths.{truthOf};
 ghost use Rattle.text.specs.Values.{words, sameWords};
 ghost use Rattle.values.specs.Operands.{lent, First, wordsFrom, entryWords, entriesFrom, FirstPair, intAt, strAt, constantsFrom};
 ghost use Rattle.values.specs.Operands.{operandValues, Finds, nothing, operand, noValues, rowType, attributeOperand};
-ghost use Rattle.values.specs.Compared.{further, worst, Extreme, isFalse, atEnd, amongOf, asked, foundOf, belowOf, Compared, Lone};
+ghost use Rattle.values.specs.Compared.{further, worst, Extreme, isFalse, atEnd, amongOf, asked, foundOf, belowOf, Compared, Lone, Lacks};
 use codes::AT_LEAST;
 use codes::AT_MOST;
 use codes::BOOL;
@@ -827,6 +827,21 @@ pub fn lone(
         operand.start,
         operand.end,
     )
+}
+
+// Whether an operand lacks values: whether its first one is not there.
+pub fn lacks(code: &[u8], session: &[u64; 128], entries: &[u8], operand: Operand) -> bool
+    ensures { λ r. ⌜ Lacks (now (code .entry)) (now (session .entry)) (now (entries .entry)) operand r ⌝ }
+{
+    let place = operand.place;
+    match place {
+        WORDS => PAIRS <= pair_number(session, operand.start, 0),
+        ENTRIES => entries.len() / 5 <= entry_number(entries, operand.start, 0),
+        _ => {
+            let first = constant_from(code, operand.ty, operand.end, operand.start);
+            !first.here
+        }
+    }
 }
 
 // An operand without a value.

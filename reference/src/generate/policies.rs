@@ -5,10 +5,10 @@ use super::rng::Rng;
 use crate::atom::Type;
 use crate::policy::Operator;
 
-type Words = Vec<Vec<u8>>;
+pub type Words = Vec<Vec<u8>>;
 
 /// Bytes left for a policy behind `rule=`, an operation and a comma.
-const ROOM: usize = 255 - 5 - 13;
+pub const ROOM: usize = 255 - 5 - 13;
 
 /// A well-formed policy over declared attributes that fits its line.
 pub fn good(rng: &mut Rng, plan: &Plan) -> Vec<u8> {
@@ -132,7 +132,7 @@ fn policy(rng: &mut Rng, plan: &Plan, terms: usize, depth: usize) -> Words {
     words
 }
 
-fn term(rng: &mut Rng, plan: &Plan, depth: usize) -> Words {
+pub fn term(rng: &mut Rng, plan: &Plan, depth: usize) -> Words {
     if rng.chance(60) {
         let mut words = operand(rng, plan);
         words.push(rng.pick(&Operator::ALL).text().as_bytes().to_vec());
@@ -156,7 +156,7 @@ fn term(rng: &mut Rng, plan: &Plan, depth: usize) -> Words {
     words
 }
 
-fn operand(rng: &mut Rng, plan: &Plan) -> Words {
+pub fn operand(rng: &mut Rng, plan: &Plan) -> Words {
     if !plan.attributes.is_empty() && rng.chance(65) {
         return vec![plan.dotted(rng.below(plan.attributes.len()))];
     }
@@ -176,7 +176,7 @@ fn operand(rng: &mut Rng, plan: &Plan) -> Words {
 
 /// Joins words, with spaces where two runs of letters would grow together and
 /// now and then elsewhere.
-fn spaced(rng: &mut Rng, words: &Words) -> Vec<u8> {
+pub fn spaced(rng: &mut Rng, words: &Words) -> Vec<u8> {
     let in_run = |byte: Option<&u8>| {
         byte.is_some_and(|byte| byte.is_ascii_alphanumeric() || matches!(byte, b'_' | b'.'))
     };

@@ -162,22 +162,27 @@ fn several(kit: &mut Kit) {
 fn decisions(kit: &mut Kit) {
     kit.says("\"The rules of the operation are evaluated. Permit, with the lowest TRUE rule number; else undefined if some is UNDEF; else deny.\" Rule numbers run over the whole file.");
     let cases = [
-        ("decide-no-entries", "01 03 04 00 01000000 00 00", "undefined"),
+        ("decide-no-entries", "01 03 04 00 01000000 00 00", "undefined,absent"),
         ("decide-first-rule", "01 03 04 00 01000000 01 00 0408000000", "permit,1"),
-        ("decide-undef-stays", "01 03 04 00 01000000 01 00 0409000000", "undefined"),
+        ("decide-undef-stays", "01 03 04 00 01000000 01 00 0409000000", "undefined,absent"),
         ("decide-second-rule", "01 03 04 00 01000000 02 00 0409000000 0501000000", "permit,2"),
         ("decide-lowest-of-two", "01 03 04 00 01000000 02 00 0408000000 0501000000", "permit,1"),
         ("decide-last-rule", "01 03 04 00 01000000 02 00 0409000000 0500000000", "permit,4"),
         ("decide-other-operation-deny", "01 03 04 01 01000000 01 00 0602000000", "deny"),
         ("decide-other-operation-permit", "01 03 04 01 01000000 01 00 0601000000", "permit,3"),
-        ("decide-other-operation-undefined", "01 03 04 01 01000000 00 00", "undefined"),
+        ("decide-other-operation-undefined", "01 03 04 01 01000000 00 00", "undefined,absent"),
         ("decide-operation-without-rules", "01 03 04 02 01000000 00 00", "deny"),
     ];
     for (name, hex, answer) in cases {
         block(kit, name, hex, answer);
     }
     kit.says("\"`user.` names read the user's effective values of activated attributes only\": one that is not activated is absent, so UNDEF and not FALSE.");
-    block(kit, "not-activated-undefined", "01 03 04 00 00000000 02 00 0408000000 0500000000", "undefined");
+    block(
+        kit,
+        "not-activated-undefined",
+        "01 03 04 00 00000000 02 00 0408000000 0500000000",
+        "undefined,absent",
+    );
     block(kit, "not-activated-other-rule", "01 03 04 00 00000000 02 00 0408000000 0501000000", "permit,2");
 }
 
@@ -190,7 +195,7 @@ fn sets_of_entries(kit: &mut Kit) {
         ("entries-order-over-set", "01 03 04 00 01000000 02 00 0409000000 0408000000", "permit,1"),
         ("entries-300-low-byte-first", "01 03 04 01 00000000 01 00 062c010000", "permit,3"),
         ("entries-300-high-byte-first", "01 03 04 01 00000000 01 00 060000012c", "deny"),
-        ("entries-highest-value", "01 03 04 00 01000000 01 00 04ffffffff", "undefined"),
+        ("entries-highest-value", "01 03 04 00 01000000 01 00 04ffffffff", "undefined,absent"),
     ];
     for (name, hex, answer) in cases {
         block(kit, name, hex, answer);

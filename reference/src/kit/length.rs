@@ -129,7 +129,7 @@ fn other_calls(kit: &mut Kit) {
     told.list.request("00", "try=refused,15");
     told.written(&valley_text());
     told.take(("value=season,zone,2", 20), 2, "4:5,8:7,12:10,16:7,20:10");
-    told.list.request(PERMITTED, "try=undefined");
+    told.list.request(PERMITTED, "try=undefined,absent");
     told.ask();
     told.list.unwritten(100, 0);
     told.ask();

@@ -19,7 +19,7 @@ pub fn kit() -> Kit {
 }
 
 /// A list: lines such as `edit=+parent=a,b` and byte 10, here still as text.
-fn list(kit: &mut Kit, name: &str, table: &str, calls: &[(&str, &[u8])], answers: &str) {
+pub fn list(kit: &mut Kit, name: &str, table: &str, calls: &[(&str, &[u8])], answers: &str) {
     let mut text = format!("table={table}\n");
     for (key, bytes) in calls {
         text += &format!("{key}={}\n", hex(bytes));
@@ -142,7 +142,7 @@ const C_FILE: &str = "rights=1\nattr=user,n,int\nattr=env,e,int\nop=o\natom=user
                       object=t\nmember=u,g\nvalue=g,n,1\nrule=o,user.n = 1 AND env.e < 9\n";
 
 /// One call for hosts in C.
-fn c(kit: &mut Kit, name: &str, table: &str, file: &[u8], block: &str, answers: &str) {
+pub fn c(kit: &mut Kit, name: &str, table: &str, file: &[u8], block: &str, answers: &str) {
     let text = format!("table={table}\nc={},{}\n", hex(file), block.replace(' ', ""));
     kit.case(name, text, answers);
 }

@@ -4,6 +4,8 @@
 //! a file is written.
 
 mod blocks;
+mod cause_rules;
+mod causes;
 mod edits;
 mod files;
 mod length;
@@ -95,13 +97,17 @@ pub fn all() -> Vec<Vector> {
         sets::kit(),
         edits::kit(),
         policies::kit(),
+        causes::kit(),
         blocks::kit(),
+        cause_rules::kit(),
         numbers::kit(),
         office::kit(),
+        cause_rules::office(),
         valley::kit(),
         library::kit(),
         writer::kit(),
         length::kit(),
+        cause_rules::calls(),
         mixed::kit(),
     ];
     kits.into_iter().flat_map(|kit| kit.vectors).collect()

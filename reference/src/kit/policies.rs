@@ -1,5 +1,6 @@
 //! Vectors for "Policies": each is one rule on one book, and one block. What
-//! is typed is the rule's truth (T, F, U) or its refusal (6, 7, 8).
+//! is typed is the rule's truth or its refusal (6, 7, 8): T, F, and for UNDEF
+//! its cause, A absent or U unlike.
 
 use super::files::nine_deep;
 use super::Kit;
@@ -89,7 +90,8 @@ fn policy(kit: &mut Kit, name: &str, policy: &str, outcome: char) {
     let answers = match outcome {
         'T' => format!("load=0,{line} try=permit,0"),
         'F' => format!("load=0,{line} try=deny"),
-        'U' => format!("load=0,{line} try=undefined"),
+        'A' => format!("load=0,{line} try=undefined,absent"),
+        'U' => format!("load=0,{line} try=undefined,unlike"),
         number => format!("load={number},{line} try=refused,16"),
     };
     let input = format!("{BOOK}rule=pass,{policy}\nend=\n{TRY}");
@@ -367,18 +369,18 @@ fn absent(kit: &mut Kit) {
     each(
         kit,
         &[
-            ("absent-equal", "user.x = 1", 'U'),
-            ("absent-unequal", "user.x != 1", 'U'),
-            ("absent-right", "1 = user.x", 'U'),
-            ("absent-itself", "user.x = user.x", 'U'),
-            ("absent-less", "user.x < 1", 'U'),
-            ("absent-subset-left", "user.x SUBSET {1}", 'U'),
-            ("absent-subset-right", "{1} SUBSET user.x", 'U'),
-            ("absent-in", "user.x IN {1}", 'U'),
-            ("absent-lone", "env.wind", 'U'),
-            ("absent-not", "NOT env.wind", 'U'),
-            ("absent-not-activated", "user.idle = 7", 'U'),
-            ("absent-not-activated-unequal", "user.idle != 7", 'U'),
+            ("absent-equal", "user.x = 1", 'A'),
+            ("absent-unequal", "user.x != 1", 'A'),
+            ("absent-right", "1 = user.x", 'A'),
+            ("absent-itself", "user.x = user.x", 'A'),
+            ("absent-less", "user.x < 1", 'A'),
+            ("absent-subset-left", "user.x SUBSET {1}", 'A'),
+            ("absent-subset-right", "{1} SUBSET user.x", 'A'),
+            ("absent-in", "user.x IN {1}", 'A'),
+            ("absent-lone", "env.wind", 'A'),
+            ("absent-not", "NOT env.wind", 'A'),
+            ("absent-not-activated", "user.idle = 7", 'A'),
+            ("absent-not-activated-unequal", "user.idle != 7", 'A'),
             ("types-int-string", "1 = \"1\"", 'U'),
             ("types-int-string-unequal", "1 != \"1\"", 'U'),
             ("types-attributes", "user.n = user.s", 'U'),
@@ -386,7 +388,7 @@ fn absent(kit: &mut Kit) {
             ("types-subset", "user.n SUBSET user.s", 'U'),
             ("types-in", "user.s IN {1,2}", 'U'),
             ("types-order", "1 < \"2\"", 'U'),
-            ("types-and-absent", "user.x = \"a\"", 'U'),
+            ("types-and-absent", "user.x = \"a\"", 'A'),
         ],
     );
 }

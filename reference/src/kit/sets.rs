@@ -106,7 +106,7 @@ fn read_by_blocks(kit: &mut Kit) {
         kit,
         "blocks-between-edits",
         &format!("{TRY}+value=top,z,1\n{TRY}+value=area,z,1\n{TRY}-value=top,z,1\n{TRY}"),
-        "try=refused,17 edit=0,5 try=undefined edit=0,2 try=permit,0 edit=0,5 try=refused,17",
+        "try=refused,17 edit=0,5 try=undefined,absent edit=0,2 try=permit,0 edit=0,5 try=refused,17",
     );
     after(
         kit,
@@ -124,7 +124,7 @@ fn read_by_blocks(kit: &mut Kit) {
     kit.case(
         "admin-values",
         format!("{admin}{lines}"),
-        "load=0,9 try=deny edit=0,1 try=permit,0 edit=0,1 edit=0,1 try=undefined",
+        "load=0,9 try=deny edit=0,1 try=permit,0 edit=0,1 edit=0,1 try=undefined,absent",
     );
 }
 

@@ -68,10 +68,10 @@ fn cases(kit: &mut Kit) {
     kit.says("\"Then `end=`, `try=0104...`, `-parent=season,day`: prints `load=0,27`, `try=permit,0`, `edit=0,2`.\"");
     let example = "try=01040500030000000100040a000000\n-parent=season,day\n";
     after(kit, "office-example", example, "try=permit,0 edit=0,2");
-    kit.says("\"B hour 16 permit. C hour 17 undefined. D no entry undefined. E mask 4: 17.\"");
+    kit.says("\"B hour 16 permit. C hour 17 undefined. D no entry undefined. E mask 4: 17.\" By document 02, E2, C and D are absent: there is no staff value for rule 1, in D no hour for rule 0 either.");
     after(kit, "b-hour-16", HOUR_16, "try=permit,0");
-    after(kit, "c-hour-17", HOUR_17, "try=undefined");
-    after(kit, "d-no-entry", NO_ENTRY, "try=undefined");
+    after(kit, "c-hour-17", HOUR_17, "try=undefined,absent");
+    after(kit, "d-no-entry", NO_ENTRY, "try=undefined,absent");
     after(kit, "e-mask-4", "try=01040500040000000000\n", "try=refused,17");
     kit.says("\"F `+parent=day,season`: 12.\"");
     after(kit, "f-circle", "+parent=day,season\n", "edit=12,0");
@@ -85,18 +85,18 @@ fn cases(kit: &mut Kit) {
 
 fn policies(kit: &mut Kit) {
     kit.says(
-        "\"J `FALSE AND TRUE OR TRUE`: TRUE. K `\"b\" < \"c\"`: UNDEF. L `NOT user.kind = \"day\"`: 6.\"",
+        "\"J `FALSE AND TRUE OR TRUE`: TRUE. K `\"b\" < \"c\"`: UNDEF. L `NOT user.kind = \"day\"`: 6.\" By document 02, E2, K is unlike: both strings are there.",
     );
     let alone = |policy: &str| format!("{DECLARED}rule=pass,{policy}\nend=\n{NO_ENTRY}");
     kit.case("j-and-binds-tighter", alone("FALSE AND TRUE OR TRUE"), "load=0,26 try=permit,0");
-    kit.case("k-order-of-strings", alone("\"b\" < \"c\""), "load=0,26 try=undefined");
+    kit.case("k-order-of-strings", alone("\"b\" < \"c\""), "load=0,26 try=undefined,unlike");
     let malformed = "NOT user.kind = \"day\"";
     kit.case("l-not-before-comparison", alone(malformed), "load=6,26 try=refused,16");
 }
 
 fn look_out(kit: &mut Kit) {
     kit.says("\"Look out for: ... reading an unactivated value; UNDEF AND FALSE as UNDEF.\"");
-    after(kit, "zone-not-activated", "try=010405000100000001000410000000\n", "try=undefined");
+    after(kit, "zone-not-activated", "try=010405000100000001000410000000\n", "try=undefined,absent");
     let alone = format!("{DECLARED}rule=pass,user.staff AND FALSE\nend=\n{NO_ENTRY}");
     kit.case("undef-and-false", alone, "load=0,26 try=deny");
     kit.says("\"Load and edits keep it equal to effective(k).\" A day of edits.");
@@ -104,7 +104,7 @@ fn look_out(kit: &mut Kit) {
         "{HOUR_16}-value=upper,zone,2\n{HOUR_16}+value=g2,zone,2\n{HOUR_16}-member=p17,season\n\
          {HOUR_16}+member=p17,day\n{HOUR_16}+value=day,zone,2\n{HOUR_16}"
     );
-    let answers = "try=permit,0 edit=0,2 try=undefined edit=0,1 try=permit,0 edit=0,1 \
-                   try=refused,17 edit=0,1 try=undefined edit=0,2 try=permit,0";
+    let answers = "try=permit,0 edit=0,2 try=undefined,absent edit=0,1 try=permit,0 edit=0,1 \
+                   try=refused,17 edit=0,1 try=undefined,absent edit=0,2 try=permit,0";
     after(kit, "day-of-edits", &day, answers);
 }

@@ -1,6 +1,7 @@
 //! The ledger: every answer worked out afresh from declarations and ties,
 //! in the words of document 01. Slow, and meant to be obvious.
 
+mod cause;
 mod reading;
 mod writing;
 

@@ -1,7 +1,7 @@
 //! One request worked out on sets of values, in the words of "Policies".
 
 use super::Pairs;
-use crate::answer::Decision;
+use crate::answer::{Cause, Decision};
 use crate::atom::{Atom, Source};
 use crate::block::{Block, Entry};
 use crate::declarations::Declarations;
@@ -30,24 +30,25 @@ impl Reading<'_> {
         };
         match all(Truth::True).min() {
             Some(lowest) => Decision::Permit(lowest),
-            None if all(Truth::Undef).count() > 0 => Decision::Undefined,
-            None => Decision::Deny,
+            None if all(Truth::Undef).count() == 0 => Decision::Deny,
+            None => {
+                let mut undef = all(Truth::Undef).map(|number| &self.declared.rules[number]);
+                let absent = undef.any(|rule| self.policy_is_absent(&rule.policy));
+                Decision::Undefined(if absent { Cause::Absent } else { Cause::Unlike })
+            }
         }
     }
 
     fn policy(&self, policy: &Policy<usize>) -> Truth {
-        let mut any = Truth::False;
-        for terms in &policy.alternatives {
-            let mut all = Truth::True;
-            for term in terms {
-                all = and(all, self.term(term));
-            }
-            any = or(any, all);
-        }
-        any
+        let truths = policy.alternatives.iter().map(|terms| self.alternative(terms));
+        truths.fold(Truth::False, or)
     }
 
-    fn term(&self, term: &Term<usize>) -> Truth {
+    pub fn alternative(&self, terms: &[Term<usize>]) -> Truth {
+        terms.iter().map(|term| self.term(term)).fold(Truth::True, and)
+    }
+
+    pub fn term(&self, term: &Term<usize>) -> Truth {
         match term {
             Term::Plain(lone) => self.lone(lone),
             Term::Not(lone) => not(self.lone(lone)),
@@ -74,7 +75,7 @@ impl Reading<'_> {
         }
     }
 
-    fn operand(&self, operand: &Operand<usize>) -> BTreeSet<Atom> {
+    pub fn operand(&self, operand: &Operand<usize>) -> BTreeSet<Atom> {
         match operand {
             Operand::Constant(atom) => BTreeSet::from([atom.clone()]),
             Operand::Set(atoms) => atoms.iter().cloned().collect(),
@@ -82,7 +83,7 @@ impl Reading<'_> {
         }
     }
 
-    fn values(&self, attribute: usize) -> BTreeSet<Atom> {
+    pub fn values(&self, attribute: usize) -> BTreeSet<Atom> {
         match self.declared.attributes[attribute].source {
             Source::User if !self.block.activates(attribute) => BTreeSet::new(),
             Source::User => self.held(&self.user, attribute),

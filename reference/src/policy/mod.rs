@@ -16,8 +16,8 @@ pub const MOST_ATOMS: usize = 8;
 /// An attribute as a policy names it, before it is looked up.
 pub type Named = (Source, Name);
 
-/// Declared in this order so that AND is the minimum and OR the maximum.
-#[derive(Clone, Copy, Debug, PartialEq, Eq, PartialOrd, Ord, Hash)]
+/// A K3 value.
+#[derive(Clone, Copy, Debug, PartialEq, Eq, Hash)]
 pub enum Truth {
     False,
     Undef,
@@ -30,14 +30,6 @@ impl Truth {
             Truth::True
         } else {
             Truth::False
-        }
-    }
-
-    pub fn negated(self) -> Truth {
-        match self {
-            Truth::True => Truth::False,
-            Truth::Undef => Truth::Undef,
-            Truth::False => Truth::True,
         }
     }
 }

@@ -27,6 +27,10 @@ impl Operator {
         Operator::Subset,
     ];
 
+    /// Those that only integers have.
+    pub const ORDERS: [Operator; 4] =
+        [Operator::Less, Operator::LessEqual, Operator::Greater, Operator::GreaterEqual];
+
     pub fn text(self) -> &'static str {
         match self {
             Operator::Equal => "=",

@@ -26,16 +26,16 @@ returns-2 c = as-decided (c .before .before .before .before .before .enum-told .
 
 returns-3 : tie.Need-returns-3
 unfolding printed
-returns-3 c = as-decided (c .before .before .before .before .before .enum-told2 .given .1) (record { laid = c .before .before .put2 .ensures; short = omega arith })
+returns-3 c = as-decided (c .before .before .before .before .before .decision2 .given .1) (c .before .before .put-undefined .ensures)
 
 returns-4 : tie.Need-returns-4
 unfolding printed
-returns-4 c = as-decided (c .before .before .before .before .before .before .decision2 .given .1) (c .before .before .put-number2 .ensures)
+returns-4 c = as-decided (c .before .before .before .before .before .before .decision3 .given .1) (c .before .before .put-number2 .ensures)
 
 pub put-decision-spec : {M : Type 1} → statement M
 put-decision-spec =
     tie.close
     (tie.spec
     (λ c. search needs) (λ c. search needs) (λ c. search needs) (λ c κs. search needs) (λ c. search needs) (λ c. search needs) (λ c κs. search needs)
-    (λ c. search needs) (λ c. search needs) (λ c κs. search needs) (λ c. search needs) (λ c. search needs) (λ c. search needs) (λ c κs. search needs)
-    (λ c. search needs) returns (λ c. search needs) returns-2 (λ c. search needs) returns-3 (λ c. search needs) returns-4)
+    (λ c. search needs) (λ c κs. search needs) (λ c. search needs) (λ c. search needs) (λ c. search needs) (λ c κs. search needs) (λ c. search needs)
+    returns (λ c. search needs) returns-2 (λ c. search needs) returns-3 (λ c. search needs) returns-4)

@@ -6,7 +6,7 @@ use Rattle.program.proofs.closed.Tie as tie
 
 returns : tie.Need-returns
 returns c = λ w is few.
-    let the-value = c .before .before .value-of in
+    let the-value = c .before .before .verdict-of in
     let the-around = c .before .around in
     closed-is (c .before .before .before .args .w) w is (the-value .result) (the-around .result) (c .with-term .result) (the-value .ensures) (the-around .ensures) (c .with-term .ensures)
 

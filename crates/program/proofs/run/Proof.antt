@@ -15,12 +15,12 @@ abbrev μ-loop : tie.MeasureT-loop
 μ-loop code rows pairs session entries w₀ at₀ row₀ w at row = length code - at
 
 loop-holds : tie.Need-loop-holds Inv-loop μ-loop
-loop-holds c = (omega arith, run-starts _ _ _ (c .start .ensures))
+loop-holds c = (omega arith, run-starts _ _ _ (c .fresh .ensures))
 
 returns : tie.Need-returns Inv-loop μ-loop
 returns c =
     let the-loop = c .before .before .before .before .loop in
-    run-ends _ _ (the-loop .w) (the-loop .row) (the-loop .at) (the-loop .inv .1) (c .before .if1 .taken) (c .value-of .result) (c .value-of .ensures)
+    run-ends _ _ (the-loop .w) (the-loop .row) (the-loop .at) (the-loop .inv .1) (c .before .if1 .taken) (c .verdict-of .result) (c .verdict-of .ensures)
 
 loop-again : tie.Need-loop-again Inv-loop μ-loop
 loop-again c =
@@ -34,11 +34,11 @@ loop-again c =
 
 returns-2 : tie.Need-returns-2 Inv-loop μ-loop
 returns-2 c =
-    let the-loop = c .before .loop in
-    run-out _ _ (the-loop .w) (the-loop .row) (the-loop .at) (the-loop .inv .1) (omega arith)
+    let the-loop = c .before .before .loop in
+    run-out _ _ (the-loop .w) (the-loop .row) (the-loop .at) (the-loop .inv .1) (omega arith) (c .plain .result)
 
 pub run-spec : {M : Type 1} → statement M
 run-spec =
     tie.close
     (tie.spec
-    Inv-loop μ-loop (λ c κs. search needs) loop-holds (λ c. search needs) (λ c κs. search needs) returns (λ c κs. search needs) (λ c κs. search needs) (λ c κs. search needs) (λ c. search needs) loop-again returns-2)
+    Inv-loop μ-loop (λ c κs. search needs) loop-holds (λ c. search needs) (λ c κs. search needs) returns (λ c κs. search needs) (λ c κs. search needs) (λ c κs. search needs) (λ c. search needs) loop-again (λ c κs. search needs) returns-2)

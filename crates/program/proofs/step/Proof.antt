@@ -22,7 +22,7 @@ returns-2 c =
 returns-3 : tie.Need-returns-3
 returns-3 c =
     let no = sym (c .before .before .before .before .is-passed .ensures) ∙ c .before .before .before .if1 .left in
-    record { mark = λ p. false-is-true (sym no ∙ p); row-value = λ p fits u v w is. rw (c .before .row-value .ensures u v) at (c .with-term .ensures w is) }
+    record { mark = λ p. false-is-true (sym no ∙ p); row-value = λ p fits u v w is. rw (c .before .row-verdict .ensures u v) at (c .with-term .ensures w is) }
 
 pub step-spec : {M : Type 1} → statement M
 step-spec =
