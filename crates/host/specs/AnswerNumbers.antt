@@ -1,11 +1,12 @@
 -- Answers as one number. Assumes nothing: these are definitions.
 use Prim.Native.Nat.{ℕ, _/_, _%_}
 use mathlib.Core.Path.{_≡_}
-use mathlib.Core.List.{List}
+use mathlib.Core.List.{List, [], _∷_}
+use lib.Dec.{eqb}
 use Rattle.model.specs.Bytes.{Bytes}
 use Rattle.model.specs.Ledger.{Answer, loaded, edited}
-use Rattle.model.specs.Causes.{causeNumber}
-use Rattle.model.specs.Decision.{Decision, permit, deny, undefined, refused}
+use Rattle.model.specs.Notation.{if_then_else_}
+use Rattle.model.specs.Decision.{Decision, numberAndValues}
 use Rattle.request.specs.declared.Decision as request
 use Rattle.request.specs.Decisions.{decisionOf, numberAndValuesOf, Decides}
 
@@ -25,19 +26,17 @@ loadAnswer r = loaded (r % high) (r / high)
 abbrev pub editAnswer : ℕ → Answer
 editAnswer r = edited (r % high) (r / high)
 
--- the rule of a permit, 0 of other decisions
-abbrev pub ruleIn : Decision → ℕ
-ruleIn (permit rule) = rule
-ruleIn deny = 0
-ruleIn (undefined c) = 0
-ruleIn (refused n) = 0
+-- the value that an answer carries, if it has that number; else 0
+abbrev pub carriedWith : ℕ → ℕ × List ℕ → ℕ
+carriedWith n (m, []) = 0
+carriedWith n (m, v ∷ values) = if eqb m n then v else 0
 
--- the cause of what is undefined, 0 of other decisions
+-- by this paper's number and values: the rule of a permit, 0, and the cause of what is undefined, 65
+abbrev pub ruleIn : Decision → ℕ
+ruleIn d = carriedWith 0 (numberAndValues d)
+
 abbrev pub causeIn : Decision → ℕ
-causeIn (permit rule) = 0
-causeIn deny = 0
-causeIn (undefined c) = causeNumber c
-causeIn (refused n) = 0
+causeIn d = carriedWith 65 (numberAndValues d)
 
 -- where the bits of the cause begin within the high ones: 2 to the power of 8
 abbrev pub ruleNumbers : ℕ

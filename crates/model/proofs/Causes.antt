@@ -1,5 +1,5 @@
 -- Causes: what is absent is UNDEF, and how terms joined by one word nest does not change them. Assumes nothing.
-use mathlib.Core.Path.{_≡_, refl, sym, ap, _∙_}
+use mathlib.Core.Path.{_≡_, refl, sym, ap, ap₂, _∙_}
 use mathlib.Core.Bool.{Bool, true, false, _&&_, _||_}
 use mathlib.Core.List.{List, [], _∷_}
 use mathlib.Core.Option.{Option, none, some}
@@ -91,23 +91,31 @@ module _ (a b c : Bool) where
   AND-causes TRUE TRUE UNDEF f g h = rw (true-not a f, true-not b g) refl
   AND-causes TRUE TRUE TRUE f g h = refl
 
-  pub OR-causes : (t u v : Truth) → OnlyUndef t a → OnlyUndef u b → OnlyUndef v c
-      → built ((t OR u) OR v) (built (t OR u) a b) c ≡ built (t OR (u OR v)) a (built (u OR v) b c)
-  OR-causes TRUE u v f g h = refl
-  OR-causes UNDEF TRUE v f g h = refl
-  OR-causes UNDEF UNDEF TRUE f g h = refl
-  OR-causes UNDEF UNDEF UNDEF f g h = or-associates a b c
-  OR-causes UNDEF UNDEF FALSE f g h = or-associates a b c
-  OR-causes UNDEF FALSE TRUE f g h = refl
-  OR-causes UNDEF FALSE UNDEF f g h = or-associates a b c
-  OR-causes UNDEF FALSE FALSE f g h = rw (false-not b g, false-not c h) (or-associates a false false)
-  OR-causes FALSE TRUE v f g h = refl
-  OR-causes FALSE UNDEF TRUE f g h = refl
-  OR-causes FALSE UNDEF UNDEF f g h = or-associates a b c
-  OR-causes FALSE UNDEF FALSE f g h = or-associates a b c
-  OR-causes FALSE FALSE TRUE f g h = refl
-  OR-causes FALSE FALSE UNDEF f g h = rw (false-not a f, false-not b g) refl
-  OR-causes FALSE FALSE FALSE f g h = refl
+-- "OR is its dual"
+dual : (t u : Truth) → NOT (t OR u) ≡ NOT t AND NOT u
+dual TRUE u = refl
+dual UNDEF TRUE = refl
+dual UNDEF UNDEF = refl
+dual UNDEF FALSE = refl
+dual FALSE u = refl
+
+undef-not : (t : Truth) → isUndef (NOT t) ≡ isUndef t
+undef-not FALSE = refl
+undef-not UNDEF = refl
+undef-not TRUE = refl
+
+-- so what is built by OR has the cause of what AND builds of the negations
+dual-built : (t u : Truth) (a b : Bool) → built (t OR u) a b ≡ built (NOT t AND NOT u) a b
+dual-built t u a b = ap (λ (x : Bool). x && (a || b)) (sym (undef-not (t OR u)) ∙ ap isUndef (dual t u))
+
+pub OR-causes : (a b c : Bool) (t u v : Truth) → OnlyUndef t a → OnlyUndef u b → OnlyUndef v c
+    → built ((t OR u) OR v) (built (t OR u) a b) c ≡ built (t OR (u OR v)) a (built (u OR v) b c)
+OR-causes a b c t u v f g h =
+    dual-built (t OR u) v (built (t OR u) a b) c
+    ∙ ap₂ (λ (x : Truth) (y : Bool). built (x AND NOT v) y c) (dual t u) (dual-built t u a b)
+    ∙ AND-causes a b c (NOT t) (NOT u) (NOT v) (λ e. ap NOT (f e)) (λ e. ap NOT (g e)) (λ e. ap NOT (h e))
+    ∙ sym (dual-built t (u OR v) a (built (u OR v) b c)
+    ∙ ap₂ (λ (x : Truth) (y : Bool). built (NOT t AND x) a y) (dual u v) (dual-built u v b c))
 
 module _ (read : Values) (p q r : Policy) where
   pub and-nests : isAbsent read (and (and p q) r) ≡ isAbsent read (and p (and q r))
