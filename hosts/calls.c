@@ -32,7 +32,7 @@ static long unhex(const uint8_t *s, size_t n, uint8_t *to) {
 }
 
 static void put_load(uint64_t r) { printf("load=%" PRIu32 ",%" PRIu32 "\n", ZHUL_NUMBER(r), ZHUL_CARRIED(r)); }
-static void put_edit(uint64_t r) { printf("edit=%" PRIu32 ",%" PRIu32 "\n", ZHUL_NUMBER(r), ZHUL_CARRIED(r)); }
+static void put_edit(uint64_t r) { printf("edit=%" PRIu32 ",%" PRIu32 ",%" PRIu32 "\n", ZHUL_NUMBER(r), ZHUL_COUNT(r), ZHUL_JOINS(r)); }
 
 static void put_write(uint64_t r) { printf("write=%" PRIu32 ",%" PRIu32 "\n", ZHUL_NUMBER(r), ZHUL_CARRIED(r)); }
 

@@ -72,6 +72,9 @@ static void expect(const char *what, uint64_t answer, uint32_t number, uint32_t 
 /* What an answer to a request carries with a cause: that stands above the eight bits of the rule. */
 static uint32_t of_cause(uint32_t cause) { return cause << 8; }
 
+/* What the answer to an edit carries: the joins stand above the twelve bits of the count. */
+static uint32_t of_edit(uint32_t count, uint32_t joins) { return count | joins << 12; }
+
 /* Writes the file as it stands now: it has to load, unless it is too long to be written, and to be as long as was told beforehand. */
 static uint64_t written(const char *what) {
     static uint64_t second[ZHUL_BOOK_WORDS], second_table[ZHUL_TABLE_WORDS];
@@ -153,12 +156,13 @@ static void largest(int reversed) {
     expect("pass", measured(PASS, input, length, block, sizeof block), ZHUL_PERMIT, 0);
     /* Half of the rules have one space that is not written: the one behind a set. */
     expect("write", written("write"), 0, (uint32_t)length - 16);
-    expect("value at the head", edited("+value=g%011d,a,4294967286\n", head, 0), 0, GROUPS + USERS);
-    expect("chain cut", edited("-parent=g%011d,g%011d\n", next, head), 0, GROUPS - 1 + USERS);
-    expect("chain joined", edited("+parent=g%011d,g%011d\n", next, head), 0, GROUPS - 1 + USERS);
+    /* Of joins the holder at the head takes one, each one below it two: it has one tie up. */
+    expect("value at the head", edited("+value=g%011d,a,4294967286\n", head, 0), 0, of_edit(GROUPS + USERS, 1 + 2 * (GROUPS - 1 + USERS)));
+    expect("chain cut", edited("-parent=g%011d,g%011d\n", next, head), 0, of_edit(GROUPS - 1 + USERS, 1 + 2 * (GROUPS - 2 + USERS)));
+    expect("chain joined", edited("+parent=g%011d,g%011d\n", next, head), 0, of_edit(GROUPS - 1 + USERS, 2 * (GROUPS - 1 + USERS)));
     expect("circle", edited("+parent=g%011d,g%011d\n", head, end), 12, 0);
     expect("decide after edits", measured(DECIDE, block, sizeof block, block, 0), ZHUL_PERMIT, 31);
-    expect("member at the end", edited("-member=u%011d,g%011d\n", USERS - 1, end), 0, 1);
+    expect("member at the end", edited("-member=u%011d,g%011d\n", USERS - 1, end), 0, of_edit(1, 1));
     expect("write after edits", ZHUL_NUMBER(written("write after edits")), 0, 0);
 }
 
@@ -239,11 +243,13 @@ static long unhex(const uint8_t *s, size_t n) {
 /* The next answer of SESSION.out as number and carried. */
 static void expected(FILE *out, const char *name, uint32_t *number, uint32_t *carried) {
     char line[64] = "";
+    uint32_t joins;
     *number = *carried = 0;
     if (fgets(line, sizeof line, out) == NULL) printf("%s: no more answers\n", name), exit(1);
     if (strcmp(line, "try=deny\n") == 0) *number = ZHUL_DENY;
     else if (strcmp(line, "try=undefined,absent\n") == 0) *number = ZHUL_UNDEFINED, *carried = of_cause(ZHUL_ABSENT);
     else if (strcmp(line, "try=undefined,unlike\n") == 0) *number = ZHUL_UNDEFINED, *carried = of_cause(ZHUL_UNLIKE);
+    else if (sscanf(line, "edit=%" SCNu32 ",%" SCNu32 ",%" SCNu32, number, carried, &joins) == 3) *carried = of_edit(*carried, joins);
     else if (sscanf(line, "try=permit,%" SCNu32, carried) != 1 && sscanf(line, "try=refused,%" SCNu32, number) != 1)
         sscanf(strchr(line, '=') + 1, "%" SCNu32 ",%" SCNu32, number, carried);
 }

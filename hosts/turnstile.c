@@ -22,7 +22,7 @@ static void load(size_t length) {
 
 static void edit(const char *line) {
     uint64_t answer = zhul_edit((const uint8_t *)line, strlen(line), book, table, ZHUL_TABLE_WORDS);
-    printf("edit: number %u, holders changed %u: %s", (unsigned)ZHUL_NUMBER(answer), (unsigned)ZHUL_CARRIED(answer), line);
+    printf("edit: number %u, holders changed %u, joins %u: %s", (unsigned)ZHUL_NUMBER(answer), (unsigned)ZHUL_COUNT(answer), (unsigned)ZHUL_JOINS(answer), line);
 }
 
 /* What the staff do where a request is undefined. */

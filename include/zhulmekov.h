@@ -104,11 +104,17 @@ extern "C" {
 #define ZHUL_ABSENT 1
 #define ZHUL_UNLIKE 2
 
-/* The number of an answer, and what it carries: the line of a load (of an accepted one the lines read), the count of an edit (0 of a refused one), the
-   length in bytes of the file that a write put out (0 of a refused one). zhul_length answers a length and nothing else: it has no such parts. An
-   answer to a request carries two things, which ZHUL_RULE and ZHUL_CAUSE tell apart; ZHUL_CARRIED of a permit is still the rule. */
+/* The number of an answer, and what it carries: the line of a load (of an accepted one the lines read), the length in bytes of the file that a write put
+   out (0 of a refused one). zhul_length answers a length and nothing else: it has no such parts. An answer to an edit and one to a request carry two
+   things each, which the macros below tell apart; ZHUL_CARRIED of a permit is still the rule. */
 #define ZHUL_NUMBER(answer) ((uint32_t)((answer) & 0xffffffffu))
 #define ZHUL_CARRIED(answer) ((uint32_t)((answer) >> 32))
+
+/* Of an answer to an edit, both 0 of a refused one: the count, how many holders' sets changed, and the set joins that it took. For the edited holder and
+   each one below it these are one, and one for each parent or group that it has after the edit, summed, whether its set changed or not: at most 65 for
+   each holder, 16,640 in all. They are what an edit's time goes by: see zhul_edit. */
+#define ZHUL_COUNT(answer) ((uint32_t)(((answer) >> 32) & 0xfffu))
+#define ZHUL_JOINS(answer) ((uint32_t)((answer) >> 44))
 
 /* Of an answer to a request: the rule of a permit, and with ZHUL_UNDEFINED its cause, ZHUL_ABSENT or ZHUL_UNLIKE; 0 with every other number. */
 #define ZHUL_RULE(answer) ((uint32_t)(((answer) >> 32) & 0xffu))
@@ -121,7 +127,8 @@ uint32_t zhul_pass(const uint8_t *file, size_t file_length, const uint8_t *block
 /* Loads a file into the host's book: book[ZHUL_BOOK_WORDS], rules[ZHUL_RULES_BYTES]. */
 uint64_t zhul_load(const uint8_t *file, size_t file_length, uint64_t *book, uint8_t *rules, uint64_t *table, size_t table_words);
 
-/* One edit line, with its sign and its byte 10, on the book and the table that the last load or edit left. */
+/* One edit line, with its sign and its byte 10, on the book and the table that the last load or edit left. The number, the count and the joins: see
+   ZHUL_COUNT and ZHUL_JOINS. Time: some 0.1 us and 2.4 to 8 ns for each join, as bench/compare measures it (README.md, "Edits between two skiers"). */
 uint64_t zhul_edit(const uint8_t *line, size_t line_length, uint64_t *book, uint64_t *table, size_t table_words);
 
 /* One pass block, on the book and the table that the last load or edit left and the rules that the last load left. The number, the rule of a permit and

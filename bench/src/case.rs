@@ -1,5 +1,6 @@
 //! One thing that is measured: a file, and the calls that are timed on its book.
 
+use crate::joins;
 use crate::told::Told;
 
 pub struct Case {
@@ -9,6 +10,8 @@ pub struct Case {
     /// How many times faster than the reference the library is to be.
     pub goal: Option<f64>,
     pub file: Vec<u8>,
+    /// Edits that are made once behind the load, and not timed: ties that the file has no room for.
+    pub before: Vec<String>,
     pub calls: Calls,
 }
 
@@ -29,12 +32,26 @@ pub enum Calls {
 
 impl Case {
     pub fn new(part: &'static str, name: impl Into<String>, file: &[u8], calls: Calls) -> Case {
-        Case { part, name: name.into(), goal: None, file: file.to_vec(), calls }
+        Case { part, name: name.into(), goal: None, file: file.to_vec(), before: Vec::new(), calls }
+    }
+
+    pub fn after(mut self, edits: Vec<String>) -> Case {
+        self.before = edits;
+        self
     }
 
     pub fn with_goal(mut self, goal: f64) -> Case {
         self.goal = Some(goal);
         self
+    }
+
+    /// The joins of one edit, of a pair their mean; none where nothing is accepted.
+    pub fn joins(&self) -> Option<f64> {
+        let Calls::Edits(edits) = &self.calls else {
+            return None;
+        };
+        let all: u32 = edits.iter().map(|(_, told)| told.joins).sum();
+        (all > 0).then(|| f64::from(all) / edits.len() as f64)
     }
 
     pub fn lines(&self) -> usize {
@@ -43,10 +60,21 @@ impl Case {
 }
 
 impl Calls {
-    /// A tie that is put and taken again, or taken and put; each edit changes `count` stored sets.
-    pub fn pair(first: char, tie: &str, count: usize) -> Calls {
+    /// A tie that is put into what the file says and taken again, or taken and put; each edit changes `count` stored
+    /// sets. A tie up is a join of its holder's while it stands.
+    pub fn pair(file: &[u8], first: char, tie: &str, count: usize) -> Calls {
         let second = if first == '+' { '-' } else { '+' };
-        let edit = |sign: char| (format!("{sign}{tie}\n"), Told::new(0, count));
+        let (key, fields) = tie.split_once('=').unwrap_or_default();
+        let standing = joins::of_edit(file, fields.split(',').next().unwrap_or_default());
+        let own = usize::from(key != "value");
+        let edit = |sign: char| {
+            let joins = match (first, sign) {
+                ('+', '+') => standing + own,
+                ('-', '-') => standing - own,
+                _ => standing,
+            };
+            (format!("{sign}{tie}\n"), Told::edited(count, joins))
+        };
         Calls::Edits(vec![edit(first), edit(second)])
     }
 

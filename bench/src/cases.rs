@@ -49,7 +49,7 @@ fn loads(full: &FullFile) -> Vec<Case> {
 
 fn edits_of_a_user(size: &Size, full: &FullFile) -> Vec<Case> {
     let case = |name: &str, file: &[u8], first: char, tie: &str| {
-        Case::new("edit of one user", name, file, Calls::pair(first, tie, 1)).with_goal(USER_GOAL)
+        Case::new("edit of one user", name, file, Calls::pair(file, first, tie, 1)).with_goal(USER_GOAL)
     };
     let value = format!("value=p{USER},a0,{}", full.of_nobody);
     let member = format!("member=p{USER},{}", size.last_group());
@@ -62,11 +62,19 @@ fn edits_of_a_user(size: &Size, full: &FullFile) -> Vec<Case> {
 
 fn edits_at_the_top(size: &Size, full: &FullFile) -> Vec<Case> {
     let case = |name: &str, file: &[u8], tie: &str, count: usize, goal: f64| {
-        Case::new("edit at the top", name, file, Calls::pair('+', tie, count)).with_goal(goal)
+        Case::new("edit at the top", name, file, Calls::pair(file, '+', tie, count)).with_goal(goal)
     };
     let (value, parent) = ("value=g0,zone,2", "parent=g0,over");
     let of_full = format!("value=g0,a0,{}", full.of_nobody);
     let under = size.under_first_group();
+    let crowd = files::crowd();
+    let (declared, ties) = files::parted(&crowd);
+    let calls = Calls::pair(&crowd, '+', value, 254);
+    let name = "value tie, 62 groups under all before them, 191 members of all";
+    let otherwise = |order: &str, file: Vec<u8>| {
+        let name = format!("value tie, chain of 62 groups declared {order}, 138 members");
+        Case::new("edit at the top", name, &file, Calls::pair(&file, '+', value, 201))
+    };
     vec![
         case("value tie, 200 members", &files::members(200), value, 201, 2.0),
         case("value tie, chain of 62 groups, 138 members", &files::chain(200), value, 201, 1.5),
@@ -74,6 +82,9 @@ fn edits_at_the_top(size: &Size, full: &FullFile) -> Vec<Case> {
         case("parent tie, 200 members", &files::members(200), parent, 201, 2.0),
         case("parent tie, chain of 62 groups, 138 members", &files::chain(200), parent, 201, 1.5),
         case(&format!("value tie, full file, {} below", under - 1), &full.bytes, &of_full, under, 2.0),
+        otherwise("from below", files::chain_from_below(200)),
+        otherwise("from both ends in turn", files::chain_in_turn(200)),
+        Case::new("edit at the top", name, &declared, calls).after(ties),
     ]
 }
 

@@ -13,11 +13,16 @@ pub struct Engines {
 }
 
 impl Engines {
-    /// Both with the case's file loaded.
+    /// Both with the case's file loaded, and the edits made that come before what is timed.
     pub fn start(case: &Case) -> Result<Engines, String> {
         let reference = TableEngine::new(vec![0; TABLE_WORDS]);
         let mut engines = Engines { ours: Library::new(), reference };
         engines.load(case)?;
+        for line in &case.before {
+            let wanted = Told::of_edit(engines.reference.edit(line.as_bytes()));
+            let ours = Told::of_edit_call(engines.ours.edit(line.as_bytes()));
+            engines.compare(line.trim_end(), ours, wanted, wanted)?;
+        }
         Ok(engines)
     }
 
@@ -41,7 +46,7 @@ impl Engines {
     }
 
     fn edit(&mut self, line: &str, wanted: Told) -> Result<(), String> {
-        let ours = Told::of_library(self.ours.edit(line.as_bytes()));
+        let ours = Told::of_edit_call(self.ours.edit(line.as_bytes()));
         let reference = Told::of_edit(self.reference.edit(line.as_bytes()));
         self.compare(line.trim_end(), ours, reference, wanted)
     }

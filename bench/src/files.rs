@@ -82,6 +82,30 @@ pub fn chain_end() -> String {
     format!("g{CHAIN}")
 }
 
+/// A chain as long as it can be, whose groups were declared in another order: `at` gives the group at each place
+/// below g0.
+fn declared_otherwise(below: usize, at: impl Fn(usize) -> usize) -> Vec<u8> {
+    let mut parents: Parents = vec![Vec::new(); CHAIN];
+    let mut above = 0;
+    for place in 1..=CHAIN {
+        let group = at(place);
+        parents[group - 1] = vec![above];
+        above = group;
+    }
+    topped(&parents, below - CHAIN, |j| vec![1 + j % CHAIN])
+}
+
+/// The lowest group of the chain was declared first, behind g0.
+pub fn chain_from_below(below: usize) -> Vec<u8> {
+    declared_otherwise(below, |place| CHAIN + 1 - place)
+}
+
+/// Groups of the chain were declared from both ends in turn, so that a walk over them in their order finds one more
+/// at a time.
+pub fn chain_in_turn(below: usize) -> Vec<u8> {
+    declared_otherwise(below, |place| if place.is_multiple_of(2) { place / 2 } else { CHAIN - place / 2 })
+}
+
 /// How many groups a lattice has below g0.
 const LATTICE: usize = 56;
 
@@ -94,4 +118,21 @@ pub fn lattice(below: usize) -> Vec<u8> {
     };
     let parents: Parents = (0..LATTICE).map(above).collect();
     topped(&parents, below - LATTICE, |j| [0, 19, 37].map(|step| 1 + (j + step) % LATTICE).to_vec())
+}
+
+/// All users that there can be beside 64 groups.
+const CROWD: usize = 191;
+
+/// Each group under all groups before it, and each user in all of them: more ties than a file has room for.
+pub fn crowd() -> Vec<u8> {
+    let parents: Parents = (0..CHAIN).map(|i| (0..=i).collect()).collect();
+    topped(&parents, CROWD, |_| (0..=CHAIN).collect())
+}
+
+/// The lines of a file without its ties up, and edits that put these.
+pub fn parted(file: &[u8]) -> (Vec<u8>, Vec<String>) {
+    let text = String::from_utf8_lossy(file);
+    let is_tie_up = |line: &&str| line.starts_with("parent=") || line.starts_with("member=");
+    let (ties, others): (Vec<&str>, Vec<&str>) = text.lines().partition(is_tie_up);
+    ((others.join("\n") + "\n").into_bytes(), ties.iter().map(|tie| format!("+{tie}\n")).collect())
 }

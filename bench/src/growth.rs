@@ -46,8 +46,9 @@ fn by_bytes(part: &'static str, calls: fn(usize) -> Calls) -> Vec<Case> {
 
 fn edits(part: &'static str, file: fn(usize) -> Vec<u8>) -> Vec<Case> {
     let case = |below: usize| {
-        let calls = Calls::pair('+', "value=g0,zone,2", below + 1);
-        let case = Case::new(part, format!("{below} below"), &file(below), calls);
+        let file = file(below);
+        let calls = Calls::pair(&file, '+', "value=g0,zone,2", below + 1);
+        let case = Case::new(part, format!("{below} below"), &file, calls);
         if below == 0 {
             case.with_goal(NOBODY_BELOW_GOAL)
         } else {

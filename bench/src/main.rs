@@ -7,6 +7,7 @@ mod engines;
 mod files;
 mod full;
 mod growth;
+mod joins;
 mod library;
 mod measure;
 mod policies;

@@ -9,13 +9,15 @@ struct Row {
     part: String,
     name: String,
     goal: Option<f64>,
+    joins: Option<f64>,
     times: Vec<Times>,
 }
 
-/// A measured case as a line: part, name, goal and both times, parted by tabs.
+/// A measured case as a line: part, name, goal, joins and both times, parted by tabs.
 pub fn line(case: &Case, times: &Times) -> String {
-    let goal = case.goal.map_or("-".to_string(), |goal| goal.to_string());
-    format!("{}\t{}\t{goal}\t{}\t{}", case.part, case.name, times.ours, times.reference)
+    let number = |value: Option<f64>| value.map_or("-".to_string(), |value| value.to_string());
+    let (goal, joins) = (number(case.goal), number(case.joins()));
+    format!("{}\t{}\t{goal}\t{joins}\t{}\t{}", case.part, case.name, times.ours, times.reference)
 }
 
 /// The tables of all lines, in Markdown; runs stand one after another.
@@ -39,12 +41,34 @@ pub fn tables(lines: &str) -> Result<String, String> {
         }
         text += &print(row);
     }
+    text += &by_joins(&rows);
     for (what, of, than) in [("writes", "write", "load"), ("tells the length of", "length", "write")] {
         if let Some((told, verdict)) = share(&rows, of, than) {
             text += &format!("\nThe library {what} the full file in {told} of the time of its {than}. Goal, at most {verdict}\n");
         }
     }
     Ok(text)
+}
+
+/// The library's time of each accepted edit, and what part of it falls on one join.
+fn by_joins(rows: &[Row]) -> String {
+    let mut text =
+        "\n| accepted edit | joins | library, ns | ns for each join |\n|---|---|---|---|\n".to_string();
+    for row in rows {
+        let Some(joins) = row.joins else {
+            continue;
+        };
+        let times: Vec<f64> = row.times.iter().map(|times| times.ours).collect();
+        let each: Vec<f64> = times.iter().map(|time| time / joins).collect();
+        text += &format!(
+            "| {}: {} | {joins} | {} | {} |\n",
+            row.part,
+            row.name,
+            spread(&times, nanoseconds),
+            spread(&each, |time| format!("{time:.1}")),
+        );
+    }
+    text
 }
 
 /// The library's write of the full file is to take at most this part of the time of its load, and its length at
@@ -64,12 +88,13 @@ fn share(rows: &[Row], of: &str, than: &str) -> Option<(String, String)> {
 
 fn read(line: &str) -> Option<Row> {
     let fields: Vec<&str> = line.split('\t').collect();
-    let [part, name, goal, ours, reference] = fields.as_slice() else {
+    let [part, name, goal, joins, ours, reference] = fields.as_slice() else {
         return None;
     };
-    let goal = if *goal == "-" { None } else { Some(goal.parse().ok()?) };
+    let number = |text: &str| if text == "-" { Some(None) } else { text.parse().ok().map(Some) };
+    let (goal, joins) = (number(goal)?, number(joins)?);
     let times = Times { ours: ours.parse().ok()?, reference: reference.parse().ok()? };
-    Some(Row { part: part.to_string(), name: name.to_string(), goal, times: vec![times] })
+    Some(Row { part: part.to_string(), name: name.to_string(), goal, joins, times: vec![times] })
 }
 
 fn print(row: &Row) -> String {

@@ -40,8 +40,18 @@ pub struct RefusedLine {
 /// A load: the lines read, or the refusal.
 pub type LoadAnswer = Result<usize, RefusedLine>;
 
-/// An edit: the number of holders whose stored set changed, or the refusal.
-pub type EditAnswer = Result<usize, Refusal>;
+/// What an accepted edit did.
+#[derive(Clone, Copy, Debug, PartialEq, Eq)]
+pub struct Edited {
+    /// Holders whose stored set changed.
+    pub count: usize,
+    /// Set joins made: for the edited holder and each one below it, one and its
+    /// ties up to a parent or group after the edit.
+    pub joins: usize,
+}
+
+/// An edit: what it did, or the refusal, which reports 0 for both.
+pub type EditAnswer = Result<Edited, Refusal>;
 
 /// A write: the length of the text, or the writer's only refusal.
 pub type WriteAnswer = Result<usize, Refusal>;

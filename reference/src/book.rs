@@ -122,6 +122,10 @@ impl Book {
     pub fn declared(&self) -> &Declarations {
         &self.declared
     }
+
+    pub fn ties(&self) -> &TieGraph {
+        &self.ties
+    }
 }
 
 /// The holder that the line names first.

@@ -16,6 +16,7 @@ use crate::line::pieces;
 use crate::office::{print, print_write, read_hex};
 use crate::session::{Buffer, Call, Engine, LedgerEngine, Session, TableEngine};
 use crate::TABLE_WORDS;
+use std::ops::Range;
 
 /// The longest buffer that a line may ask for.
 pub const LONGEST_BUFFER: usize = 1 << 20;
@@ -40,6 +41,19 @@ impl Shown for TableEngine {
 struct LedgerWords {
     engine: LedgerEngine,
     table: Vec<u64>,
+}
+
+impl LedgerWords {
+    fn new(table: Vec<u64>) -> LedgerWords {
+        LedgerWords { engine: LedgerEngine::new(table.len()), table }
+    }
+
+    /// An accepted edit, for which nothing is printed.
+    fn change(&mut self, line: &[u8]) -> Option<Vec<u8>> {
+        let edit = read_hex(line.strip_prefix(b"edit=")?)?;
+        self.engine.ledger.change(&edit).ok()?;
+        Some(Vec::new())
+    }
 }
 
 impl Engine for LedgerWords {
@@ -88,24 +102,47 @@ impl Shown for LedgerWords {
 
 /// What the list prints, or the number of the line that is not of its form.
 pub fn run(list: &[u8]) -> Result<Vec<u8>, usize> {
-    answer(list, TableEngine::new)
+    answer(list, TableEngine::new, |_, line, engine| answer_with_words(line, engine))
 }
 
 /// The same, told by the ledger.
 pub fn run_by_ledger(list: &[u8]) -> Result<Vec<u8>, usize> {
-    answer(list, |table| LedgerWords { engine: LedgerEngine::new(table.len()), table })
+    run_by_ledger_without(list, &(0..0))
 }
 
-fn answer<E: Shown>(list: &[u8], start: impl Fn(Vec<u64>) -> E) -> Result<Vec<u8>, usize> {
+/// The same without the answers to some edits, given by their places among the calls.
+/// The ledger goes through all ties above each holder for every answer, which takes it
+/// minutes for thousands of edits of a book with many ties. One of these that is
+/// refused, or is no edit, is told as a line that is not of the form.
+pub fn run_by_ledger_without(list: &[u8], unanswered: &Range<usize>) -> Result<Vec<u8>, usize> {
+    answer(list, LedgerWords::new, |place, line, ledger| {
+        if unanswered.contains(&place) {
+            ledger.change(line)
+        } else {
+            answer_with_words(line, ledger)
+        }
+    })
+}
+
+fn answer<E>(
+    list: &[u8],
+    start: impl Fn(Vec<u64>) -> E,
+    call: impl Fn(usize, &[u8], &mut E) -> Option<Vec<u8>>,
+) -> Result<Vec<u8>, usize> {
     let mut lines = pieces(list).map(|line| line.strip_suffix(b"\n").unwrap_or(line));
     let table = lines.next().and_then(read_table).ok_or(1_usize)?;
     let mut engine = start(table);
     let mut output = Vec::new();
     for (place, line) in lines.enumerate() {
-        output.extend(answer_line(line, &mut engine).ok_or(place + 2)?);
-        output.extend(show("words=", &engine.words()).into_bytes());
+        output.extend(call(place, line, &mut engine).ok_or(place + 2)?);
     }
     Ok(output)
+}
+
+fn answer_with_words(line: &[u8], engine: &mut impl Shown) -> Option<Vec<u8>> {
+    let mut output = answer_line(line, engine)?;
+    output.extend(show("words=", &engine.words()).into_bytes());
+    Some(output)
 }
 
 fn answer_line(line: &[u8], engine: &mut impl Shown) -> Option<Vec<u8>> {

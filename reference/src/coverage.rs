@@ -2,6 +2,7 @@
 //! can occur; each of these must be met, and no other may be.
 
 mod causes;
+mod joins;
 
 use crate::answer::{Decision, Refusal};
 use crate::book::c_call;
@@ -55,8 +56,11 @@ impl Coverage {
             if let Call::Load(file) = call {
                 self.take_c_call(session, place, file);
             }
-            if let Answer::Edit(Ok(count)) = answer {
-                self.meet(format!("edit count {}", span(count)));
+            if let (Call::Edit(line), Answer::Edit(Ok(edited))) = (call, answer) {
+                self.meet(format!("edit count {}", span(edited.count)));
+                for name in joins::names(&engine.book, line, edited) {
+                    self.meet(name);
+                }
             }
         }
     }
@@ -281,6 +285,7 @@ pub fn possible() -> Vec<String> {
         names.extend(truths.map(|truth| format!("term {form} {truth}")));
     }
     names.extend(causes::possible());
+    names.extend(joins::possible());
     names
 }
 

@@ -1,6 +1,7 @@
 //! The standing ties of a book, kept so that the holders above and below one
 //! are at hand, and the renewal of stored sets along them.
 
+use crate::answer::Edited;
 use crate::pairs::PairSet;
 use crate::tie::{StandingTies, Tie};
 use std::collections::BTreeSet;
@@ -102,26 +103,35 @@ impl TieGraph {
     }
 
     /// Renews the stored sets of `edited` and of all below it, and counts
-    /// those that changed. Each holder below is visited even if one between
-    /// stayed the same, since another path may reach it.
-    pub fn renew_below(&self, edited: usize, table: &mut [u64]) -> usize {
-        let order = self.highest_first(std::iter::once(edited));
-        let renewed = order.into_iter();
-        renewed.filter(|&holder| self.renew(holder, table)).count()
+    /// those that changed and the joins made for them. Each holder below is
+    /// visited once, even if one between stayed the same, since another path
+    /// may reach it.
+    pub fn renew_below(&self, edited: usize, table: &mut [u64]) -> Edited {
+        let mut all = Edited { count: 0, joins: 0 };
+        for holder in self.highest_first(std::iter::once(edited)) {
+            let one = self.renew(holder, table);
+            all.count += one.count;
+            all.joins += one.joins;
+        }
+        all
     }
 
-    /// Rewrites one stored set from the direct pairs and the stored sets right
-    /// above, which must be right by now. True if it changed.
-    fn renew(&self, holder: usize, table: &mut [u64]) -> bool {
-        let mut set = self.direct[holder];
-        for &above in &self.up[holder] {
-            set.join(&PairSet::stored(table, above));
+    /// Rewrites one stored set: joins the direct pairs and the stored sets right
+    /// above, which must be right by now, to an empty one. The count is 1 if it
+    /// changed.
+    fn renew(&self, holder: usize, table: &mut [u64]) -> Edited {
+        let mut set = PairSet::default();
+        let mut joins = 0;
+        let above = self.up[holder].iter().map(|&above| PairSet::stored(table, above));
+        for part in std::iter::once(self.direct[holder]).chain(above) {
+            set.join(&part);
+            joins += 1;
         }
         let changed = set != PairSet::stored(table, holder);
         if changed {
             set.store(table, holder);
         }
-        changed
+        Edited { count: usize::from(changed), joins }
     }
 
     /// `starts` and all below them, each after every one above it.

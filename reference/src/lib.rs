@@ -1,6 +1,6 @@
 //! Document 01 of Zhulmekov (rights file, edits and pass block) and requests E1
-//! (the file as it stands now), E2 (two sorts of undefined) and E14 (the file's
-//! length told beforehand) of document 02 in plain Rust.
+//! (the file as it stands now), E2 (two sorts of undefined), E3 (what one edit
+//! costs) and E14 (the file's length told beforehand) of document 02 in plain Rust.
 //!
 //! Two engines give the same answers. `book` keeps the effective sets in the
 //! lent table and brings them up to date; `ledger` works every answer out
@@ -29,7 +29,7 @@ pub mod coverage;
 pub mod generate;
 pub mod kit;
 
-pub use answer::{Cause, Decision, EditAnswer, LoadAnswer, Refusal, RefusedLine, WriteAnswer};
+pub use answer::{Cause, Decision, EditAnswer, Edited, LoadAnswer, Refusal, RefusedLine, WriteAnswer};
 pub use book::{c_call, Book};
 pub use ledger::Ledger;
 pub use office::{gate, gate_by_ledger};

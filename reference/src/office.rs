@@ -1,6 +1,6 @@
 //! The office program `gate` as a function from input bytes to output bytes.
 
-use crate::answer::{Decision, EditAnswer, LoadAnswer, WriteAnswer};
+use crate::answer::{Decision, EditAnswer, Edited, LoadAnswer, WriteAnswer};
 use crate::book::Book;
 use crate::line::pieces;
 use crate::session::{Answer, Engine, LedgerEngine, TableEngine};
@@ -102,8 +102,8 @@ fn print_load(answer: LoadAnswer) -> String {
 
 fn print_edit(answer: EditAnswer) -> String {
     match answer {
-        Ok(count) => format!("edit=0,{count}"),
-        Err(refusal) => format!("edit={},0", refusal.number()),
+        Ok(Edited { count, joins }) => format!("edit=0,{count},{joins}"),
+        Err(refusal) => format!("edit={},0,0", refusal.number()),
     }
 }
 

@@ -1,7 +1,7 @@
 //! What the office program cannot show: tables of another length, the frame
 //! of an edit call, what a call leaves in book and table, and the C call.
 
-use reference::{c_call, Book, Decision, Ledger, Refusal, RefusedLine};
+use reference::{c_call, Book, Decision, Edited, Ledger, Refusal, RefusedLine};
 
 const FILE: &[u8] = b"rights=1
 attr=user,n,int
@@ -62,7 +62,7 @@ fn an_edit_on_a_wrong_table_keeps_its_book() {
     let before = book.clone();
     assert!(book.edit(b"-value=g,n,1\n", &mut [0; 3]).is_err());
     assert_eq!(book, before);
-    assert_eq!(book.edit(b"-value=g,n,1\n", &mut table), Ok(2));
+    assert_eq!(book.edit(b"-value=g,n,1\n", &mut table), Ok(Edited { count: 2, joins: 3 }));
 }
 
 #[test]
@@ -82,7 +82,7 @@ fn the_frame_of_an_edit_call() {
     for line in cases {
         assert_eq!(book.edit(line, &mut table), Err(Refusal::LineFrame));
     }
-    assert_eq!(book.edit(b"-value=g,n,1\n", &mut table), Ok(2));
+    assert_eq!(book.edit(b"-value=g,n,1\n", &mut table), Ok(Edited { count: 2, joins: 3 }));
 }
 
 #[test]
@@ -91,10 +91,10 @@ fn load_and_edits_write_the_words_of_effective() {
     let mut expected = vec![0; 1024];
     (expected[4], expected[8]) = (1, 1);
     assert_eq!(table, expected);
-    assert_eq!(book.edit(b"-member=u,g\n", &mut table), Ok(1));
+    assert_eq!(book.edit(b"-member=u,g\n", &mut table), Ok(Edited { count: 1, joins: 1 }));
     expected[8] = 0;
     assert_eq!(table, expected);
-    assert_eq!(book.edit(b"-value=g,n,1\n", &mut table), Ok(1));
+    assert_eq!(book.edit(b"-value=g,n,1\n", &mut table), Ok(Edited { count: 1, joins: 1 }));
     assert_eq!(table, vec![0; 1024]);
 }
 

@@ -1,6 +1,6 @@
 //! Valley cases A to L of document 01, and the example of its office program.
 
-use reference::{Book, Cause, Decision, Refusal};
+use reference::{Book, Cause, Decision, Edited, Refusal};
 
 const VALLEY: &str = "rights=1;attr=user,kind,str;attr=user,zone,int;attr=user,staff,bool;\
 attr=object,zone,int;attr=env,hour,int;op=pass;atom=user.kind,\"day\";atom=user.kind,\"season\";\
@@ -75,10 +75,10 @@ fn f_h_i_refused_edits_change_nothing() {
 #[test]
 fn g_the_other_path_still_gives_the_pair() {
     let (mut book, mut table) = valley();
-    assert_eq!(book.edit(b"+value=day,zone,2\n", &mut table), Ok(1));
+    assert_eq!(book.edit(b"+value=day,zone,2\n", &mut table), Ok(Edited { count: 1, joins: 5 }));
     assert_eq!(table[4], 13);
     let before = table.clone();
-    assert_eq!(book.edit(b"-value=season,zone,2\n", &mut table), Ok(0));
+    assert_eq!(book.edit(b"-value=season,zone,2\n", &mut table), Ok(Edited { count: 0, joins: 4 }));
     assert_eq!(table, before);
 }
 
@@ -92,7 +92,7 @@ fn j_to_l_policies() {
 #[test]
 fn the_example_of_the_office_program() {
     let input = VALLEY.replace(';', "\n") + "end=\ntry=01040500030000000100040a000000\n-parent=season,day\n";
-    let expected = b"load=0,27\ntry=permit,0\nedit=0,2\n";
+    let expected = b"load=0,27\ntry=permit,0\nedit=0,2,3\n";
     assert_eq!(reference::gate(input.as_bytes()), expected);
     assert_eq!(reference::gate_by_ledger(input.as_bytes()), expected);
 }

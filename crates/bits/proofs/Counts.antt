@@ -2,18 +2,23 @@
 use Prim.Native.Nat.{ℕ, zero, suc, _+_, _*_, _/_, _%_, _^_, _≤_, _<_}
 use mathlib.Core.Path.{_≡_, refl, sym, ap, ap₂, _∙_}
 use mathlib.Core.Logic.{_⊎_, ⊎-elim}
-use mathlib.Core.Bool.{Bool, true, false, _||_}
+use mathlib.Core.Bool.{Bool, true, false, _&&_, _||_, or-false}
 use mathlib.Core.List.{List, [], _∷_, _++_}
 use native.Mathlib.Nat.{add-zero, add-suc, suc-add, zero-add, eq-or-lt-of-le}
 use native.Mathlib.Numerals.{add-one}
+use native.Mathlib.Decide.{ℕ-discrete}
 use native.Mathlib.Omega.{arith}
 use lib.Arith.{lt-one}
 use lib.Count.{ones, ones-step}
 use lib.Pow.{shr-lt}
 use lib.Dec.{eqb}
 use lib.ListN.{getD}
-use Rattle.model.specs.Notation.{anyOf, countOf, below}
-use Rattle.model.proofs.Lists.{or-none, any-in, in-any, in-below, below-in}
+use borrow.Author.Tests.{eq-eqb, eqb-true, ne-eqb}
+use Rattle.model.specs.Notation.{if_then_else_, anyOf, countOf, below}
+use Rattle.model.proofs.Options.{parts}
+use Rattle.model.proofs.Lists.{or-none, any-in, in-any, in-below, below-in, count-or as list-or}
+use Rattle.model.proofs.Sums.{sum-none, count-sum}
+use Rattle.model.proofs.Numbered.{sum-split}
 use Rattle.bits.specs.Bits.{odd, bit, member, anyBelow, countBelow}
 use Rattle.bits.proofs.Bits.{bit-zero, bit-suc}
 
@@ -136,6 +141,43 @@ count-rest n (suc m) f l e = ⊎-elim
     (λ h. count-suc m f ∙ ap (λ (b : Bool). countBelow m f + num b) (e m (omega arith) (omega arith)) ∙ add-zero (countBelow m f)
     ∙ count-rest n m f (omega arith) (λ i a b. e i a (omega arith)))
     (eq-or-lt-of-le l)
+
+-- the number x is met once below n
+count-once : (x n : ℕ) → x < n → countBelow n (eqb x) ≡ 1
+unfolding countBelow
+count-once x n l =
+    let rest = sum-none (λ g. if eqb g x then 0 else (if eqb x g then 1 else 0)) (below n) (λ g m. other g (ℕ-discrete g x)) in
+    count-sum (eqb x) (below n) ∙ sum-split (λ g. if eqb x g then 1 else 0) x n l ∙ omega (arith, rest, ap num (eq-eqb x x refl))
+  where
+    other : (g : ℕ) → Dec (g ≡ x) → _≡_ {A = ℕ} (if eqb g x then 0 else (if eqb x g then 1 else 0)) 0
+    other g (yes e) = ap (λ (b : Bool). if b then 0 else (if eqb x g then 1 else 0)) (eq-eqb g x e)
+    other g (no n) = ap₂ (λ (a b : Bool). if a then 0 else (if b then 1 else 0)) (ne-eqb g x n) (ne-eqb x g (λ e. n (sym e)))
+
+-- where the numbers that pass have places below n, each its own, as many places are taken as numbers pass
+pub count-places : (f : ℕ → Bool) (place : ℕ → ℕ) (n m : ℕ) → ((q : ℕ) → q < m → f q ≡ true → place q < n)
+    → ((q r : ℕ) → q < m → r < m → f q ≡ true → f r ≡ true → place q ≡ place r → q ≡ r)
+    → countBelow n (λ g. anyBelow m (λ q. f q && eqb (place q) g)) ≡ countBelow m f
+unfolding countBelow anyBelow
+count-places f place n zero few own = count-rest 0 n (λ g. anyBelow 0 (λ q. f q && eqb (place q) g)) (omega arith) (λ g a l. refl)
+count-places f place n (suc m) few own =
+    count-ext n (λ g. anyBelow (suc m) (λ q. f q && eqb (place q) g)) (λ g. taken g || (f m && eqb (place m) g)) (λ g l. any-suc m (λ q. f q && eqb (place q) g))
+    ∙ go (count-places f place n m (λ q l on. few q (omega arith) on) (λ q r l k on o. own q r (omega arith) (omega arith) on o)) (f m) refl ∙ sym (count-suc m f)
+  where
+    taken : ℕ → Bool
+    taken g = anyBelow m (λ q. f q && eqb (place q) g)
+
+    go : countBelow n taken ≡ countBelow m f → (b : Bool) → f m ≡ b → countBelow n (λ g. taken g || (b && eqb (place m) g)) ≡ countBelow m f + num (f m)
+    go before false off = count-ext n (λ g. taken g || false) taken (λ g l. or-false (taken g)) ∙ omega (arith, before, ap num off)
+    go before true on =
+        list-or taken (eqb (place m)) (below n) (λ g a b. apart g a (eqb-true (place m) g b))
+        ∙ omega (arith, before, count-once (place m) n (few m (omega arith) on), ap num on)
+      where
+        apart : (g : ℕ) → taken g ≡ true → place m ≡ g → ⊥
+        apart g a at =
+            let r = any-find m (λ q. f q && eqb (place q) g) a in
+            let s = parts (f (r .0)) (eqb (place (r .0)) g) (r .2) in
+            let same = own (r .0) m (omega (arith, r .1)) (omega arith) (s .0) on (eqb-true (place (r .0)) g (s .1) ∙ sym at) in
+            omega (arith, same, r .1)
 
 -- ---- the ones of a word
 

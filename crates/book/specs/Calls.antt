@@ -13,12 +13,12 @@ use Rattle.book.specs.Held.{Holds}
 -- the number of an answer
 abbrev pub answerNumber : Answer → ℕ
 answerNumber (loaded number line) = number
-answerNumber (edited number count) = number
+answerNumber (edited number count joins) = number
 answerNumber (decided d) = numberAndValues d .0
 
--- the answer of a refused edit: its count is "0 if refused"
+-- the answer of a refused edit: its count is "0 if refused", and of joins it "reports 0"
 abbrev pub refusedEdit : ℕ → Answer
-refusedEdit number = edited number 0
+refusedEdit number = edited number 0 0
 
 -- a call's outcome: its answer, the words of the table after it, and a book that holds its state
 pub record Gives (o : Outcome) (answer : Answer) (words book : List ℕ) (code : Bytes) : Type 0 where

@@ -4,32 +4,33 @@ use mathlib.Core.Path.{_≡_, refl, sym, ap, ap₂, subst, _∙_}
 use mathlib.Core.Bool.{Bool, not}
 use mathlib.Core.List.{List}
 use mathlib.Core.Option.{Option, some}
+use native.Mathlib.Omega.{arith}
 use lib.ListN.{length}
 use borrow.Author.Tests.{eq-eqb, ne-eqb}
 use Rattle.model.specs.Notation.{if_then_else_}
 use Rattle.model.specs.Limits.{Edition, tableWords}
 use Rattle.model.specs.Numbers as refusal
 use Rattle.model.specs.Bytes.{Bytes}
-use Rattle.model.specs.Ties.{Tie}
+use Rattle.model.specs.Ties.{Tie, editedHolder}
 use Rattle.model.specs.Table.{table}
 use Rattle.model.specs.State.{State}
 use Rattle.model.specs.Refusals.{wrongTable, editRefusal}
 use Rattle.model.specs.Edits as model
-use Rattle.model.specs.Edits.{editedTie, adds, editedTies, changes, accepting, refusing}
+use Rattle.model.specs.Edits.{editedTie, adds, editedTies, changes, setJoins, joinsOf, accepting, refusing}
 use Rattle.model.specs.Ledger.{Call, Answer, edited, tableAfter, Outcome, outcome}
 use Rattle.model.specs.Standing.{Standing}
 use Rattle.model.proofs.Outcomes.{outcome-by}
 use Rattle.book.specs.Held.{Holds}
 use Rattle.book.specs.Calls.{refusedEdit, Gives, Together, Edits}
 use Rattle.tielines.specs.TieSteps.{TieJudged}
-use Rattle.edit.specs.EditSteps.{LineTie, Applied, Untouched, SetsElsewhere, EditCall}
+use Rattle.edit.specs.EditSteps.{LineTie, Applied, Bounded, Untouched, SetsElsewhere, EditCall}
 use Rattle.edit.proofs.EditedSets.{sets-elsewhere}
 use Rattle.edit.proofs.EditRefusals.{SignedLine, tie-refusal, edited-tie, adds-is}
 
 module _ (S : State) (words : List ℕ) (line : Bytes) where
   -- the outcome by the specification's edit
   abbrev after : model.Edited → Outcome
-  after r = record { answer = edited (r .number) (r .changed); words = table (r .state .declared) (r .state .ties); state = r .state }
+  after r = record { answer = edited (r .number) (r .changed) (r .joins); words = table (r .state .declared) (r .state .ties); state = r .state }
 
   on-table : length words ≡ tableWords (S .declared .edition) → {r : model.Edited} → model.edit S line ≡ r → outcome S words (Call.edit line) ≡ after r
   unfolding wrongTable
@@ -47,6 +48,7 @@ module _ (S : State) (words : List ℕ) (line : Bytes) where
       → model.edit S line ≡ record {
         number = 0;
         changed = changes (S .declared) (S .ties) (editedTies plus (some t) (S .ties));
+        joins = setJoins (S .declared) (editedTies plus (some t) (S .ties)) (editedHolder t);
         state = record { declared = S .declared; ties = editedTies plus (some t) (S .ties) };
       }
   unfolding model.edit
@@ -55,6 +57,7 @@ module _ (S : State) (words : List ℕ) (line : Bytes) where
       ∙ ap₂ (λ (b : Bool) (o : Option Tie). record {
         number = 0;
         changed = changes (S .declared) (S .ties) (editedTies b o (S .ties));
+        joins = joinsOf (S .declared) o (editedTies b o (S .ties));
         state = record { declared = S .declared; ties = editedTies b o (S .ties) };
       }) a e
 
@@ -79,6 +82,7 @@ module _ (line : Bytes) (book words : List ℕ) (number : ℕ) where
     elsewhere = elsewhere-by line given;
     wrong-table = λ _. (ap refusedEdit one, untouched);
     refused = λ _. (refl, untouched);
+    bounded = record { few = omega arith; few-joins = omega arith };
     table-long = refl;
     book-long = refl;
   }
@@ -97,6 +101,7 @@ module _ (line : Bytes) (book words : List ℕ) (number : ℕ) where
     elsewhere = elsewhere-by line given;
     wrong-table = λ wrong. absurd (wrong size);
     refused = λ _. (refl, untouched);
+    bounded = record { few = omega arith; few-joins = omega arith };
     table-long = refl;
     book-long = refl;
   }
@@ -110,20 +115,21 @@ module _ (line : Bytes) (book words : List ℕ) (number : ℕ) where
           (record { answered = ap refusedEdit n; table = sym (kept-table S words line right (together .kept)); holds = together .holds })
 
 -- "The answer is 0 and the number of holders whose stored set changed"
-pub accepted-call : (edit : Bytes) (book words words′ book′ : List ℕ) (count : ℕ)
+pub accepted-call : (edit : Bytes) (book words words′ book′ : List ℕ) (count joins : ℕ)
     → length words ≡ tableWords Edition.first → length words′ ≡ length words → length book′ ≡ length book
     → (plus : Bool) (line : Bytes) → SignedLine edit plus line → (n : ℕ) (t : Tie) → LineTie book line n t → n ≡ 0 → (r : ℕ) → TieJudged book t plus r → r ≡ 0
-    → Applied plus t book book′ words words′ count → EditCall edit book words (edited 0 count) words′ book′
-accepted-call edit book words words′ book′ count size long book-long′ plus line signed n t told z r judged y applied = record {
+    → Applied plus t book book′ words words′ count joins → Bounded count joins → EditCall edit book words (edited 0 count joins) words′ book′
+accepted-call edit book words words′ book′ count joins size long book-long′ plus line signed n t told z r judged y applied bounded = record {
   edits = given;
   elsewhere = elsewhere-by edit given;
   wrong-table = λ wrong. absurd (wrong size);
   refused = λ z. absurd (z refl);
+  bounded = bounded;
   table-long = long;
   book-long = book-long′;
 }
   where
-    given : Edits edit book words (edited 0 count) words′ book′
+    given : Edits edit book words (edited 0 count joins) words′ book′
     given S code together =
         let right = size ∙ ap tableWords (sym (together .holds .edition)) in
         let read = told S code (together .standing) (together .holds) in
@@ -132,5 +138,5 @@ accepted-call edit book words words′ book′ count size long book-long′ plus
         let zero′ = tie-refusal S edit plus line signed n t read z ∙ sym passed in
         let is-accepted = accepts S words edit zero′ (adds-is S edit plus line signed) (edited-tie S edit plus line signed n t read z) in
         let done = applied S code (together .standing) (together .holds) (kept-table S words edit right (together .kept)) fits passed in
-        subst (λ (o : Outcome). Gives o (edited 0 count) words′ book′ code) (sym (on-table S words edit right is-accepted))
-        (record { answered = ap (edited 0) (sym (done .counted)); table = sym (done .table-is); holds = done .holds })
+        subst (λ (o : Outcome). Gives o (edited 0 count joins) words′ book′ code) (sym (on-table S words edit right is-accepted))
+        (record { answered = ap₂ (edited 0) (sym (done .counted)) (sym (done .joined)); table = sym (done .table-is); holds = done .holds })

@@ -210,20 +210,20 @@ lent-is s n m book e few =
     ap (λ (x : ℕ). take x (drop (s .start) book)) z ∙ sym (take-take m (s .size) (drop (s .start) book) few)
 
 -- the same lists in other words
-refreshed-as : {ups ups′ own own′ slots slots′ slotOf t t′ u u′ : List ℕ} {e r : ℕ} → ups ≡ ups′ → own ≡ own′ → slots ≡ slots′ → t ≡ t′ → u ≡ u′
-    → Refreshed ups own slots slotOf e t u r → Refreshed ups′ own′ slots′ slotOf e t′ u′ r
-refreshed-as {ups′ = ups′} {own} {own′} {slots} {slots′} {slotOf} {t} {t′} {u} {u′} {e} {r} a b c d f x =
-    subst (λ (l : List ℕ). Refreshed ups′ own′ slots′ slotOf e t′ l r) f
-    (subst (λ (l : List ℕ). Refreshed ups′ own′ slots′ slotOf e l u r) d
-    (subst (λ (l : List ℕ). Refreshed ups′ own′ l slotOf e t u r) c
-    (subst (λ (l : List ℕ). Refreshed ups′ l slots slotOf e t u r) b
-    (subst (λ (l : List ℕ). Refreshed l own slots slotOf e t u r) a x))))
+refreshed-as : {ups ups′ own own′ slots slots′ slotOf t t′ u u′ : List ℕ} {e r j : ℕ} → ups ≡ ups′ → own ≡ own′ → slots ≡ slots′ → t ≡ t′ → u ≡ u′
+    → Refreshed ups own slots slotOf e t u r j → Refreshed ups′ own′ slots′ slotOf e t′ u′ r j
+refreshed-as {ups′ = ups′} {own} {own′} {slots} {slots′} {slotOf} {t} {t′} {u} {u′} {e} {r} {j} a b c d f x =
+    subst (λ (l : List ℕ). Refreshed ups′ own′ slots′ slotOf e t′ l r j) f
+    (subst (λ (l : List ℕ). Refreshed ups′ own′ slots′ slotOf e l u r j) d
+    (subst (λ (l : List ℕ). Refreshed ups′ own′ l slotOf e t u r j) c
+    (subst (λ (l : List ℕ). Refreshed ups′ l slots slotOf e t u r j) b
+    (subst (λ (l : List ℕ). Refreshed l own slots slotOf e t u r j) a x))))
 
-module _ (book words part : List ℕ) (e n g r : ℕ) (is-n : n ≡ holdersIn book) (is-g : g ≡ groupsIn book) (few : 4 * n ≤ length words)
+module _ (book words part : List ℕ) (e n g r j : ℕ) (is-n : n ≡ holdersIn book) (is-g : g ≡ groupsIn book) (few : 4 * n ≤ length words)
     (same : length part ≡ length (midOf 0 (4 * n - 0) words))
     (b : Refreshed (take (section.ups .start + n - section.ups .start) (drop (section.ups .start) book))
     (take (section.own .start + 4 * n - section.own .start) (drop (section.own .start) book))
-    (take (section.slots .start + g - section.slots .start) (drop (section.slots .start) book)) (sectionWords section.slotOf book) e (midOf 0 (4 * n - 0) words) part r) where
+    (take (section.slots .start + g - section.slots .start) (drop (section.slots .start) book)) (sectionWords section.slotOf book) e (midOf 0 (4 * n - 0) words) part r j) where
   part-long : length part ≡ 4 * n
   part-long = same ∙ length-take-le (4 * n - 0) words (omega arith) ∙ (let z : 4 * n - 0 ≡ 4 * n = omega arith in z)
 
@@ -239,7 +239,7 @@ module _ (book words part : List ℕ) (e n g r : ℕ) (is-n : n ≡ holdersIn bo
       ∙ getD-drop (4 * n) words (j - 4 * n) 0
       ∙ ap (λ (i : ℕ). getD words i 0) z
 
-  pub table-kept : TableKept book e words (putMid 0 (4 * n - 0) words part) r
+  pub table-kept : TableKept book e words (putMid 0 (4 * n - 0) words part) r j
   table-kept =
       let four : 4 * n ≡ 4 * holdersIn book = omega arith in
       let whole : 4 * n - 0 ≡ 4 * holdersIn book = omega arith in
@@ -251,5 +251,5 @@ module _ (book words part : List ℕ) (e n g r : ℕ) (is-n : n ≡ holdersIn bo
             (ap (λ (x : ℕ). take x words) whole)
             (sym front ∙ ap (λ (x : ℕ). take x (putMid 0 (4 * n - 0) words part)) four)
             b;
-        behind = λ j l. behind j (omega arith);
+        behind = λ i l. behind i (omega arith);
       }

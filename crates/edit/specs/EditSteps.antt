@@ -7,7 +7,7 @@ use mathlib.Core.List.{List, [], _∷_}
 use mathlib.Core.Option.{some}
 use lib.ListN.{length, getD, take}
 use Rattle.model.specs.Notation.{_is_}
-use Rattle.model.specs.Limits.{Edition, tableWords, holderNumbers, groupLimit}
+use Rattle.model.specs.Limits.{Edition, tableWords, holderNumbers, groupLimit, joinLimit}
 use Rattle.model.specs.Numbers as refusal
 use Rattle.model.specs.Bytes.{Bytes}
 use Rattle.model.specs.Lines.{readLine}
@@ -15,8 +15,8 @@ use Rattle.model.specs.Ties.{Tie, editedHolder, Below}
 use Rattle.model.specs.Table.{table, setIn}
 use Rattle.model.specs.State.{State}
 use Rattle.model.specs.Refusals.{Test, _if_, first, unframed, otherKey, malformed, undeclared, wrongSort}
-use Rattle.model.specs.Edits.{editedTie, editedTies, changes}
-use Rattle.model.specs.Ledger.{Answer, edited}
+use Rattle.model.specs.Edits.{editedTie, editedTies, changes, setJoins}
+use Rattle.model.specs.Ledger.{Answer, loaded, edited, decided}
 use Rattle.model.specs.Standing.{Standing, TieFits}
 use Rattle.sets.specs.Refreshed.{Refreshed}
 use Rattle.book.specs.Sections as section
@@ -48,23 +48,34 @@ abbrev pub groupsIn : List ℕ → ℕ
 groupsIn book = min groupLimit (getD book 4 0)
 
 -- the table after an edit of holder e, by the sections of the book: the sets of so many holders are refreshed, and the words behind them stay
-pub record TableKept (book : List ℕ) (e : ℕ) (words words′ : List ℕ) (r : ℕ) : Type 0 where
+pub record TableKept (book : List ℕ) (e : ℕ) (words words′ : List ℕ) (r j : ℕ) : Type 0 where
   pub refreshed :
       Refreshed (take (holdersIn book) (sectionWords section.ups book)) (take (4 * holdersIn book) (sectionWords section.own book))
       (take (groupsIn book) (sectionWords section.slots book)) (sectionWords section.slotOf book)
-      e (take (4 * holdersIn book) words) (take (4 * holdersIn book) words′) r
+      e (take (4 * holdersIn book) words) (take (4 * holdersIn book) words′) r j
   pub behind : (j : ℕ) → 4 * holdersIn book ≤ j → getD words′ j 0 ≡ getD words j 0
 
 -- a tie of which nothing is refused, on the table of the state: the book then holds the state with the change, and the table is that state's
-pub record Changed (S : State) (code : Bytes) (plus : Bool) (t : Tie) (book′ words′ : List ℕ) (count : ℕ) : Type 0 where
+pub record Changed (S : State) (code : Bytes) (plus : Bool) (t : Tie) (book′ words′ : List ℕ) (count joins : ℕ) : Type 0 where
   pub holds : Holds book′ code (record { declared = S .declared; ties = editedTies plus (some t) (S .ties) })
   pub table-is : words′ ≡ table (S .declared) (editedTies plus (some t) (S .ties))
   pub counted : count ≡ changes (S .declared) (S .ties) (editedTies plus (some t) (S .ties))
+  pub joined : joins ≡ setJoins (S .declared) (editedTies plus (some t) (S .ties)) (editedHolder t)
 
-abbrev pub Applied : Bool → Tie → List ℕ → List ℕ → List ℕ → List ℕ → ℕ → Type 0
-Applied plus t book book′ words words′ count =
+abbrev pub Applied : Bool → Tie → List ℕ → List ℕ → List ℕ → List ℕ → ℕ → ℕ → Type 0
+Applied plus t book book′ words words′ count joins =
     (S : State) (code : Bytes) → Standing S → Holds book code S → words ≡ table (S .declared) (S .ties) → TieFits (S .declared) t
-    → 0 ≡ first (signTests S t plus) → Changed S code plus t book′ words′ count
+    → 0 ≡ first (signTests S t plus) → Changed S code plus t book′ words′ count joins
+
+-- no more sets than a book has room for holders, and no more joins than document 02, E3, has for these: "at most 16,640"
+pub record Bounded (count joins : ℕ) : Type 0 where
+  pub few : count ≤ bookHolders
+  pub few-joins : joins ≤ joinLimit Edition.first
+
+abbrev pub AnswerBounded : Answer → Type 0
+AnswerBounded (loaded number line) = Unit {0}
+AnswerBounded (edited number count joins) = Bounded count joins
+AnswerBounded (decided d) = Unit {0}
 
 -- what is left as it was
 pub record Untouched (book words words′ book′ : List ℕ) : Type 0 where
@@ -79,13 +90,14 @@ SetsElsewhere S line words words′ =
 
 -- what the code answers, as the ledger has it
 abbrev pub editedOf : Edited → Answer
-editedOf r = edited (r .number) (r .count)
+editedOf r = edited (r .number) (r .count) (r .joins)
 
--- the call. The last four hold of every book and table
+-- the call. The last five hold of every book and table
 pub record EditCall (line : Bytes) (book words : List ℕ) (a : Answer) (words′ book′ : List ℕ) : Type 0 where
   pub edits : Edits line book words a words′ book′
   pub elsewhere : (S : State) (code : Bytes) → Together S book code words → SetsElsewhere S line words words′
   pub wrong-table : (length words ≡ tableWords Edition.first → ⊥) → (a ≡ refusedEdit refusal.wrongTable) × Untouched book words words′ book′
   pub refused : (answerNumber a ≡ 0 → ⊥) → (a ≡ refusedEdit (answerNumber a)) × Untouched book words words′ book′
+  pub bounded : AnswerBounded a
   pub table-long : length words′ ≡ length words
   pub book-long : length book′ ≡ length book

@@ -6,7 +6,7 @@ ghost use Rattle.model.specs.Limits.{Edition, tableWords};
 ghost use Rattle.book.specs.Sections.{bookWords};
 ghost use Rattle.book.specs.Calls.{refusedEdit};
 ghost use Rattle.tielines.specs.TieReading.{tieBy};
-ghost use Rattle.edit.specs.EditSteps.{LineTie, TableKept, Applied, editedOf, EditCall};
+ghost use Rattle.edit.specs.EditSteps.{LineTie, TableKept, Applied, Bounded, editedOf, EditCall};
 use book::BOOK_WORDS;
 use book::GROUP_COUNT;
 use book::HOLDER_COUNT;
@@ -21,6 +21,7 @@ use codes::KEY_RULE;
 use codes::OTHER_KEY;
 use codes::UNFRAMED;
 use codes::WRONG_TABLE;
+use sets::Tally;
 use tielines::Tie;
 
 // The sign of an edit that adds.
@@ -29,16 +30,22 @@ const PLUS: u8 = 1;
 // How many groups a book has room for.
 const GROUPS: usize = 64;
 
-// "The answer is 0 and the number of holders whose stored set changed": 0 holders where the number is a refusal.
+// "The answer is 0 and the number of holders whose stored set changed", and "carries also the number of set joins made": both 0 where the number is a
+// refusal.
 pub struct Edited {
     pub number: u8,
     pub count: u32,
+    pub joins: u32,
 }
 
 fn refused(number: u8) -> Edited
     ensures { λ r. ⌜ editedOf r ≡ refusedEdit number ⌝ }
 {
-    Edited { number, count: 0 }
+    Edited {
+        number,
+        count: 0,
+        joins: 0,
+    }
 }
 
 // The tie of a whole line, as it stands behind the sign. The keys of declarations come before those of ties, and that of rules behind them.
@@ -73,11 +80,11 @@ fn at_most(room: usize, count: u64) -> usize
     n
 }
 
-// The table refreshed after an edit of holder `edited`, by the book's sections of ties; answers how many sets changed. Only as many words are lent as
-// there are holders and groups, so that no walk goes further.
-fn refresh(table: &mut [u64], book: &[u64], edited: usize) -> u32
+// The table refreshed after an edit of holder `edited`, by the book's sections of ties. Only as many words are lent as there are holders and groups, so that
+// no walk goes further.
+fn refresh(table: &mut [u64], book: &[u64], edited: usize) -> Tally
     requires { ⌜ (length (now book) ≡ bookWords) × (length (now table) ≡ tableWords Edition.first) ⌝ }
-    ensures { λ r. ⌜ TableKept (now (book .entry)) edited (now (table .entry)) (now (table .exit)) r ⌝ }
+    ensures { λ r. ⌜ TableKept (now (book .entry)) edited (now (table .entry)) (now (table .exit)) (r .changed) (r .joins) ⌝ }
 {
     let holders = at_most(HOLDERS, book[HOLDER_COUNT]);
     let groups = at_most(GROUPS, book[GROUP_COUNT]);
@@ -85,21 +92,20 @@ fn refresh(table: &mut [u64], book: &[u64], edited: usize) -> u32
     let own = OWN_AT + words;
     let ups = UPS_AT + holders;
     let slots = SLOTS_AT + groups;
-    let changed = sets::refresh(
+    sets::refresh(
         &mut table[0..words],
         &book[OWN_AT..own],
         &book[UPS_AT..ups],
         &book[SLOTS_AT..slots],
         &book[SLOT_OF_AT..SLOTS_AT],
         edited,
-    );
-    changed as u32
+    )
 }
 
-// An edit that is not refused: the tie more or less, and the table refreshed; answers how many sets changed.
-fn apply(book: &mut [u64], table: &mut [u64], plus: bool, t: Tie) -> u32
+// An edit that is not refused: the tie more or less, and the table refreshed.
+fn apply(book: &mut [u64], table: &mut [u64], plus: bool, t: Tie) -> Tally
     requires { ⌜ (length (now book) ≡ bookWords) × (length (now table) ≡ tableWords Edition.first) ⌝ }
-    ensures { λ r. ⌜ Applied plus (tieBy (t .key) (t .lower) (t .upper)) (now (book .entry)) (now (book .exit)) (now (table .entry)) (now (table .exit)) r ⌝ }
+    ensures { λ r. ⌜ Applied plus (tieBy (t .key) (t .lower) (t .upper)) (now (book .entry)) (now (book .exit)) (now (table .entry)) (now (table .exit)) (r .changed) (r .joins) × Bounded (r .changed) (r .joins) ⌝ }
 {
     tielines::change(book, t, plus);
     refresh(table, book, t.lower)
@@ -126,6 +132,10 @@ pub fn edit(line: &[u8], book: &mut [u64; BOOK_WORDS], table: &mut [u64]) -> Edi
     if number != 0 {
         return refused(number);
     }
-    let count = apply(book, table, plus, t);
-    Edited { number: 0, count }
+    let done = apply(book, table, plus, t);
+    Edited {
+        number: 0,
+        count: done.changed as u32,
+        joins: done.joins as u32,
+    }
 }

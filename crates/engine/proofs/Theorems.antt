@@ -4,24 +4,27 @@ use mathlib.Core.Path.{_≡_}
 use mathlib.Core.Logic.{_↔_}
 use mathlib.Core.Bool.{true}
 use mathlib.Core.List.{List, _∷_}
+use mathlib.Core.Option.{some}
 use lib.ListN.{length}
 use Rattle.model.specs.Notation.{map, countOf, below}
-use Rattle.model.specs.Limits.{holderNumbers}
+use Rattle.model.specs.Limits.{Edition, holderNumbers, joinLimit}
 use Rattle.model.specs.Bytes.{Bytes}
 use Rattle.model.specs.Truth.{TRUE, UNDEF}
+use Rattle.model.specs.Ties.{Tie, editedHolder}
 use Rattle.model.specs.Table.{effectiveSet}
 use Rattle.model.specs.State.{State}
 use Rattle.model.specs.Block.{Block}
 use Rattle.model.specs.Refusals.{editTests, requestTests}
 use Rattle.model.specs.Load.{load}
-use Rattle.model.specs.Edits.{edit}
+use Rattle.model.specs.Edits.{edit, editedTie, setJoins}
 use Rattle.model.specs.Session.{readBy}
 use Rattle.model.specs.Causes.{Cause, absent, absentOf}
 use Rattle.model.specs.Decision.{permit, deny, undefined, refused, cause, decide}
 use Rattle.model.specs.Ledger as ledger
-use Rattle.model.specs.Ledger.{Call, ledger}
+use Rattle.model.specs.Ledger.{Call, outcome, ledger}
 use Rattle.model.proofs.Effective.{Closed}
 use Rattle.model.proofs.Changes.{setChanged}
+use Rattle.model.proofs.Joins
 use Rattle.model.proofs.Tests.{NoneHolds}
 use Rattle.model.proofs.Decision.{Accepted, Verdict}
 use Rattle.model.proofs.Decision
@@ -97,8 +100,8 @@ pub lists-of-calls : (lent : Memory) (file : Bytes) (calls : List Call) (results
     → map seen results ≡ map posted (ledger (lent .words) file calls)
 lists-of-calls = Runs.runs-are-the-ledger
 
-module _ {first : Memory} {calls : List Call} {S : State} {before after : Memory} {line : Bytes} {number changed : ℕ}
-    (run : Leads first calls S before) (does : Does (Call.edit line) before (ledger.edited number changed) after) where
+module _ {first : Memory} {calls : List Call} {S : State} {before after : Memory} {line : Bytes} {number changed joins : ℕ}
+    (run : Leads first calls S before) (does : Does (Call.edit line) before (ledger.edited number changed joins) after) where
   -- an edit in such a list changes the words of no holder that is neither the edited one nor below it
   pub edits-elsewhere : SetsElsewhere S line (before .words) (after .words)
   edits-elsewhere = EditsInRuns.elsewhere-stays run does
@@ -110,3 +113,20 @@ module _ {first : Memory} {calls : List Call} {S : State} {before after : Memory
   -- and its count is exact
   pub edits-counted : changed ≡ countOf (setChanged (before .words) (after .words)) (below (holderNumbers (S .declared .edition)))
   edits-counted = EditsInRuns.count-in-run run does
+
+  -- document 02, E3: its joins are the sum over the edited holder and each one below it, by the ties after the edit, whether a set changed or not
+  pub edits-joined : number ≡ 0 → (t : Tie) → editedTie S line ≡ some t
+      → joins ≡ setJoins (S .declared) (outcome S (before .words) (Call.edit line) .state .ties) (editedHolder t)
+  edits-joined = EditsInRuns.joins-in-run run does
+
+  -- refused, it reports none
+  pub edits-refused-joins : (number ≡ 0 → ⊥) → joins ≡ 0
+  edits-refused-joins = EditsInRuns.refused-joins-in-run run does
+
+  -- and they are at most 65 for each holder of the edition
+  pub edits-joins-most : joins ≤ joinLimit (S .declared .edition)
+  edits-joins-most = EditsInRuns.joins-most-in-run run does
+
+-- of document 01's edition that is 16,640
+pub joins-most-first : joinLimit Edition.first ≡ 16640
+joins-most-first = Joins.first-edition-joins

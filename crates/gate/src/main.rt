@@ -13,7 +13,7 @@ use libc::STDOUT_FILENO;
 const READ: usize = 65537;
 
 // The room that the output of so many bytes may need.
-const WRITTEN: usize = 2097216;
+const WRITTEN: usize = 2621520;
 
 fn input_buffer() -> [u8; READ]
     ensures { λ r. ⌜ 65537 ≡ length r ⌝ }

@@ -19,12 +19,17 @@ pub record Packs (number carried r : ℕ) : Type 0 where
   pub low-bits : r % high ≡ number
   pub high-bits : r / high ≡ carried
 
--- the answer of a load and that of an edit: the number in the low bits, the line or the count in the high ones
+-- the answer of a load: the number in the low bits, the line in the high ones
 abbrev pub loadAnswer : ℕ → Answer
 loadAnswer r = loaded (r % high) (r / high)
 
+-- where the bits of the joins begin within the high ones: 2 to the power of 12
+abbrev pub countNumbers : ℕ
+countNumbers = 4096
+
+-- the answer of an edit: the number in the low bits; in the high ones the count, and above it the joins
 abbrev pub editAnswer : ℕ → Answer
-editAnswer r = edited (r % high) (r / high)
+editAnswer r = edited (r % high) (r / high % countNumbers) (r / high / countNumbers)
 
 -- the value that an answer carries, if it has that number; else 0
 abbrev pub carriedWith : ℕ → ℕ × List ℕ → ℕ

@@ -100,13 +100,13 @@ pub extern "C" fn zhul_load(
     pack(loaded.number as u32, loaded.line)
 }
 
-// An edit of the host's own book: the number, and the count in the high bits.
+// An edit of the host's own book: the number, and in the high bits the count, twelve of them, and the joins.
 #[no_mangle]
 pub extern "C" fn zhul_edit(line: &[u8], book: &mut [u64; BOOK_WORDS], table: &mut [u64]) -> u64
     ensures { λ r. ⌜ EditCall (now (line .entry)) (now (book .entry)) (now (table .entry)) (editAnswer r) (now (table .exit)) (now (book .exit)) ⌝ }
 {
     let edited = edit::edit(line, book, table);
-    pack(edited.number as u32, edited.count)
+    pack(edited.number as u32, edited.count + 4096 * edited.joins)
 }
 
 // Decides a request on the host's own book: the number, and in the high bits the rule of a permit, eight of them, and the cause of what is undefined.

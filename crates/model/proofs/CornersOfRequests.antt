@@ -65,7 +65,7 @@ small-blocks-agree = refl
 abbrev pub calls : List ((ℕ × Call) × Answer)
 calls =
     (1023, Call.load valleyFile) yields loaded 1 0
-    ∷ (1025, Call.edit (bytes "x")) yields edited 1 0
+    ∷ (1025, Call.edit (bytes "x")) yields edited 1 0 0
     ∷ (0, Call.request []) yields decided (refused 1)
     ∷ (1024, Call.load valleyFile) yields loaded 0 27
     ∷ (1024, Call.load (bytes "rights=1\nfoo\n")) yields loaded 4 2
@@ -80,8 +80,8 @@ abbrev pub secondCalls : List ((ℕ × Call) × Answer)
 secondCalls =
     (1024, Call.request []) yields decided (refused 1)
     ∷ (4096, Call.request []) yields decided (refused 15)
-    ∷ (1024, Call.edit (bytes "x")) yields edited 1 0
-    ∷ (4096, Call.edit (bytes "x")) yields edited 4 0
+    ∷ (1024, Call.edit (bytes "x")) yields edited 1 0 0
+    ∷ (4096, Call.edit (bytes "x")) yields edited 4 0 0
     ∷ (4096, Call.load (bytes "rights=1\n")) yields loaded 1 0
     ∷ (1024, Call.load (bytes "rights=1\n")) yields loaded 0 1
     ∷ (4096, Call.load (bytes "rights=2\n")) yields loaded 1 0

@@ -110,7 +110,7 @@ module _ (S : State) (line : Bytes) where
       (some-not (plusLine line >>= readLine) (circular S) (c .1) l (plus-line line l a (r .1))) t (r .2))
 
   -- an edit, accepted or refused
-  edit-cases : (P : Edited → Type 0)
+  pub edit-cases : (P : Edited → Type 0)
       → (editRefusal S line ≡ 0 → P (accepting S line))
       → ((editRefusal S line ≡ 0 → ⊥) → P (refusing S line))
       → P (Edits.edit S line)
@@ -129,9 +129,9 @@ module _ (S : State) (line : Bytes) where
   pub edit-number : Edits.edit S line .number ≡ editRefusal S line
   edit-number = edit-cases (λ r. r .number ≡ editRefusal S line) (λ e. sym e) (λ n. refl)
 
-  -- "a refused edit … changes nothing", and its count is 0
-  pub refused-edit : (Edits.edit S line .number ≡ 0 → ⊥) → (Edits.edit S line .state ≡ S) × (Edits.edit S line .changed ≡ 0)
-  refused-edit = edit-cases (λ r. (r .number ≡ 0 → ⊥) → (r .state ≡ S) × (r .changed ≡ 0)) (λ e n. absurd (n refl)) (λ n m. (refl, refl))
+  -- "a refused edit … changes nothing", and its count and its joins are 0
+  pub refused-edit : (Edits.edit S line .number ≡ 0 → ⊥) → (Edits.edit S line .state ≡ S) × (Edits.edit S line .changed ≡ 0) × (Edits.edit S line .joins ≡ 0)
+  refused-edit = edit-cases (λ r. (r .number ≡ 0 → ⊥) → (r .state ≡ S) × (r .changed ≡ 0) × (r .joins ≡ 0)) (λ e n. absurd (n refl)) (λ n m. (refl, refl, refl))
 
 -- ---- an edit changes ties of the edited holder alone
 

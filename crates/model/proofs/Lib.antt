@@ -13,6 +13,7 @@ pub mod WordTables
 pub mod Options
 pub mod Results
 pub mod Lists
+pub mod Sums
 pub mod Numbered
 -- Lines: reading is the inverse of writing.
 pub mod Cuts
@@ -47,6 +48,7 @@ pub mod Growing
 pub mod Declared
 pub mod Standing
 pub mod Ledger
+pub mod Joins
 pub mod Editions
 pub mod Outcomes
 pub mod Reached

@@ -110,14 +110,30 @@ module _ {A : Type 0} where
       go true h = omega arith
       go false h = omega arith
 
-  pub count-grows : (p q : A → Bool) (xs : List A) → ((x : A) → p x ≡ true → q x ≡ true) → countOf p xs ≤ countOf q xs
-  count-grows p q [] f = omega arith
-  count-grows p q (x ∷ xs) f = go (p x) refl (q x) refl (count-grows p q xs f)
+  pub count-within : (p q : A → Bool) (xs : List A) → ((x : A) → x ∈ xs → p x ≡ true → q x ≡ true) → countOf p xs ≤ countOf q xs
+  count-within p q [] f = omega arith
+  count-within p q (x ∷ xs) f = go (p x) refl (q x) refl (count-within p q xs (λ y m. f y (there m)))
     where
       go : (s : Bool) → p x ≡ s → (t : Bool) → q x ≡ t → countOf p xs ≤ countOf q xs
           → (elim s as (λ _. ℕ) [ true ↦ suc (countOf p xs) | false ↦ countOf p xs ]) ≤ (elim t as (λ _. ℕ) [ true ↦ suc (countOf q xs) | false ↦ countOf q xs ])
       go true a true b h = omega arith
-      go true a false b h = absurd (true≢false (sym (f x a) ∙ b))
+      go true a false b h = absurd (true≢false (sym (f x (here refl) a) ∙ b))
+      go false a true b h = omega arith
+      go false a false b h = h
+
+  pub count-grows : (p q : A → Bool) (xs : List A) → ((x : A) → p x ≡ true → q x ≡ true) → countOf p xs ≤ countOf q xs
+  count-grows p q xs f = count-within p q xs (λ x m. f x)
+
+  -- those of either, where none passes both
+  pub count-or : (p q : A → Bool) (xs : List A) → ((x : A) → p x ≡ true → q x ≡ true → ⊥) → countOf (λ x. p x || q x) xs ≡ countOf p xs + countOf q xs
+  count-or p q [] f = omega arith
+  count-or p q (x ∷ xs) f = go (p x) refl (q x) refl (count-or p q xs f)
+    where
+      go : (s : Bool) → p x ≡ s → (t : Bool) → q x ≡ t → countOf (λ x. p x || q x) xs ≡ countOf p xs + countOf q xs
+          → (if s || t then suc (countOf (λ x. p x || q x) xs) else countOf (λ x. p x || q x) xs)
+          ≡ (if s then suc (countOf p xs) else countOf p xs) + (if t then suc (countOf q xs) else countOf q xs)
+      go true a true b h = absurd (f x a b)
+      go true a false b h = omega arith
       go false a true b h = omega arith
       go false a false b h = h
 
@@ -230,6 +246,10 @@ module _ {A B : Type 0} (f : A → B) where
   map-in (there m) = there (map-in m)
 
 -- the numbers below n
+pub count-map : {A B : Type 0} (f : A → B) (p : B → Bool) (xs : List A) → countOf p (map f xs) ≡ countOf (λ x. p (f x)) xs
+count-map f p [] = refl
+count-map f p (x ∷ xs) = ap (λ (n : ℕ). if p (f x) then suc n else n) (count-map f p xs)
+
 pub in-below : (n : ℕ) {k : ℕ} → k ∈ below n → k < n
 in-below zero m = elim m [ ]
 in-below (suc n) {k} m = ⊎-elim (λ a. omega (arith, in-below n a)) (λ a. omega (arith, List·Memᴰ·eq-of-singleton a)) (List·Memᴰ·append-cases (below n) m)

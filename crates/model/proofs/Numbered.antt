@@ -10,11 +10,12 @@ use native.Mathlib.Omega.{arith}
 use lib.ListN.{length, length-append}
 use lib.Dec.{eqb, ltb}
 use borrow.Author.Tests.{eq-eqb, ne-eqb, eqb-true, eqb-false, ltb-true, ltb-false, lt-ltb, le-ltb}
-use Rattle.model.specs.Notation.{if_then_else_, isNone, allOf, countOf, find, inserted, map, each, listed, below}
+use Rattle.model.specs.Notation.{if_then_else_, isNone, allOf, countOf, sumOf, find, inserted, map, each, listed, below}
 use Rattle.model.specs.Standing.{rising}
 use Rattle.model.proofs.WordTables.{none-is-some, false-is-true}
 use Rattle.model.proofs.Options.{parts, both}
 use Rattle.model.proofs.Lists.{_∈_, true-or-false, all-parts, all-in, all-cons, all-by, count-last, count-ext, in-map, map-in, in-below, below-in}
+use Rattle.model.proofs.Sums.{sum-last, sum-ext, sum-none, count-sum}
 
 -- ---- the first that passes
 
@@ -146,87 +147,69 @@ pub length-map : {A B : Type 0} (f : A → B) (xs : List A) → length (map f xs
 length-map f [] = refl
 length-map f (x ∷ xs) = ap suc (length-map f xs)
 
--- ---- counting by numbers
+-- ---- sums and counts by numbers
 
--- one number of those below n counted by itself
-count-split : (p : ℕ → Bool) (x n : ℕ) → x < n → countOf p (below n) ≡ (if p x then 1 else 0) + countOf (λ k. p k && not (eqb k x)) (below n)
-count-split p x zero l = absurd (omega arith)
-count-split p x (suc n) l = go (ℕ-discrete x n) (count-split p x n)
+-- one number of those below n taken by itself
+pub sum-split : (w : ℕ → ℕ) (x n : ℕ) → x < n → sumOf w (below n) ≡ w x + sumOf (λ k. if eqb k x then 0 else w k) (below n)
+sum-split w x zero l = absurd (omega arith)
+sum-split w x (suc n) l = go (ℕ-discrete x n) (sum-split w x n)
   where
-    go : Dec (x ≡ n) → (x < n → countOf p (below n) ≡ (if p x then 1 else 0) + countOf (λ k. p k && not (eqb k x)) (below n)) → countOf p (below n ++ n ∷ []) ≡ (if p x then 1 else 0) + countOf (λ k. p k && not (eqb k x)) (below n ++ n ∷ [])
-    go (yes z) rest =
-        let off : (p n && not (eqb n x)) ≡ false = rw (eq-eqb n x (sym z)) (none (p n)) in
-        let same : countOf p (below n) ≡ countOf (λ k. p k && not (eqb k x)) (below n) =
-        count-ext p (λ k. p k && not (eqb k x)) (below n) (λ k m. keep (p k) (eqb k x) (ne-eqb k x (λ e. let f = in-below n m in omega arith))) in
-        let a = count-last p (below n) n in
-        let b = count-last (λ k. p k && not (eqb k x)) (below n) n in
-        a ∙ ap (λ (k : ℕ). countOf p (below n) + (if p k then 1 else 0)) (sym z)
-        ∙ omega (arith, same, b ∙ ap (λ (t : Bool). countOf (λ k. p k && not (eqb k x)) (below n) + (if t then 1 else 0)) off)
-      where
-        none : (t : Bool) → (t && false) ≡ false
-        none true = refl
-        none false = refl
+    others : ℕ → ℕ
+    others k = if eqb k x then 0 else w k
 
-        keep : (t u : Bool) → u ≡ false → t ≡ (t && not u)
-        keep true u e = ap not (sym e)
-        keep false u e = refl
+    last : sumOf w (below n ++ n ∷ []) ≡ sumOf w (below n) + w n
+    last = sum-last w (below n) n
+
+    last-other : sumOf others (below n ++ n ∷ []) ≡ sumOf others (below n) + others n
+    last-other = sum-last others (below n) n
+
+    go : Dec (x ≡ n) → (x < n → sumOf w (below n) ≡ w x + sumOf others (below n)) → sumOf w (below n ++ n ∷ []) ≡ w x + sumOf others (below n ++ n ∷ [])
+    go (yes z) rest =
+        let off : others n ≡ 0 = ap (λ (b : Bool). if b then 0 else w n) (eq-eqb n x (sym z)) in
+        let same : sumOf w (below n) ≡ sumOf others (below n) =
+        sum-ext w others (below n) (λ k m. ap (λ (b : Bool). if b then 0 else w k) (sym (ne-eqb k x (λ e. let f = in-below n m in omega arith)))) in
+        omega (arith, last, last-other, off, same, ap w z)
     go (no z) rest =
-        let on : (p n && not (eqb n x)) ≡ p n = rw (ne-eqb n x (λ e. z (sym e))) (keep (p n)) in
-        let a = count-last p (below n) n in
-        let b = count-last (λ k. p k && not (eqb k x)) (below n) n ∙ ap (λ (t : Bool). countOf (λ k. p k && not (eqb k x)) (below n) + (if t then 1 else 0)) on in
-        let more = rest (omega arith) in
-        omega (arith, a, b, more)
-      where
-        keep : (t : Bool) → (t && true) ≡ t
-        keep true = refl
-        keep false = refl
+        let on : others n ≡ w n = ap (λ (b : Bool). if b then 0 else w n) (ne-eqb n x (λ e. z (sym e))) in
+        omega (arith, last, last-other, on, rest (omega arith))
 
 module _ {A : Type 0} (number : A → ℕ) where
-  -- where numbers rise and are below n, counting among them is counting below n what only they meet
-  pub count-numbers : (p : ℕ → Bool) (xs : List A) (n : ℕ) → rising number xs ≡ true → ((k : ℕ) → k ∈ map number xs → k < n)
-      → ((k : ℕ) → k < n → (k ∈ map number xs → ⊥) → p k ≡ false) → countOf p (map number xs) ≡ countOf p (below n)
-  count-numbers p [] n r few off = sym (none (below n) (λ k m. off k (in-below n m) nobody))
+  -- where numbers rise and are below n, the sum over them is that over all below n, if the others give nothing
+  pub sum-numbers : (w : ℕ → ℕ) (xs : List A) (n : ℕ) → rising number xs ≡ true → ((k : ℕ) → k ∈ map number xs → k < n)
+      → ((k : ℕ) → k < n → (k ∈ map number xs → ⊥) → w k ≡ 0) → sumOf w (map number xs) ≡ sumOf w (below n)
+  sum-numbers w [] n r few off = sym (sum-none w (below n) (λ k m. off k (in-below n m) nobody))
     where
       nobody : {k : ℕ} → k ∈ [] → ⊥
       nobody m = elim m [ ]
-
-      none : (l : List ℕ) → ((k : ℕ) → k ∈ l → p k ≡ false) → countOf p l ≡ 0
-      none [] f = refl
-      none (k ∷ l) f = rw (f k (here refl)) (none l (λ j m. f j (there m)))
-  count-numbers p (x ∷ xs) n r few off =
+  sum-numbers w (x ∷ xs) n r few off =
       let (above, rest) = parts (allOf (λ z. ltb (number x) (number z)) xs) (rising number xs) r in
-      let q : ℕ → Bool = λ k. p k && not (eqb k (number x)) in
-      let more = count-numbers q xs n rest (λ k m. few k (there m)) (λ k l out. clear k l out (ℕ-discrete k (number x))) in
-      let same : countOf p (map number xs) ≡ countOf q (map number xs) = count-ext p q (map number xs) (λ k m. keep k m above) in
-      let split = count-split p (number x) n (few (number x) (here refl)) in
-      first (p (number x)) refl (omega (arith, more, same)) split
+      let more = sum-numbers others xs n rest (λ k m. few k (there m)) (λ k l out. clear k l out (ℕ-discrete k (number x))) in
+      let same : sumOf w (map number xs) ≡ sumOf others (map number xs) = sum-ext w others (map number xs) (λ k m. keep k m above) in
+      omega (arith, more, same, sum-split w (number x) n (few (number x) (here refl)))
     where
-      first : (b : Bool) → p (number x) ≡ b → countOf p (map number xs) ≡ countOf (λ k. p k && not (eqb k (number x))) (below n)
-          → countOf p (below n) ≡ (if p (number x) then 1 else 0) + countOf (λ k. p k && not (eqb k (number x))) (below n) → countOf p (number x ∷ map number xs) ≡ countOf p (below n)
-      first true e f g = rw e (omega (arith, f, rw e at g))
-      first false e f g = rw e (omega (arith, f, rw e at g))
+      others : ℕ → ℕ
+      others k = if eqb k (number x) then 0 else w k
 
-      clear : (k : ℕ) → k < n → (k ∈ map number xs → ⊥) → Dec (k ≡ number x) → (p k && not (eqb k (number x))) ≡ false
-      clear k l out (yes z) = rw (eq-eqb k (number x) z) (none (p k))
-        where
-          none : (t : Bool) → (t && false) ≡ false
-          none true = refl
-          none false = refl
-      clear k l out (no z) = rw (off k l (λ m. not-here k m z out)) refl
+      clear : (k : ℕ) → k < n → (k ∈ map number xs → ⊥) → Dec (k ≡ number x) → others k ≡ 0
+      clear k l out (yes z) = ap (λ (b : Bool). if b then 0 else w k) (eq-eqb k (number x) z)
+      clear k l out (no z) = ap (λ (b : Bool). if b then 0 else w k) (ne-eqb k (number x) z) ∙ off k l (λ m. not-here k m z out)
         where
           not-here : (k : ℕ) → k ∈ number x ∷ map number xs → (k ≡ number x → ⊥) → (k ∈ map number xs → ⊥) → ⊥
           not-here k (here e) a b = a e
           not-here k (there m) a b = b m
 
-      keep : (k : ℕ) → k ∈ map number xs → allOf (λ z. ltb (number x) (number z)) xs ≡ true → p k ≡ (p k && not (eqb k (number x)))
+      keep : (k : ℕ) → k ∈ map number xs → allOf (λ z. ltb (number x) (number z)) xs ≡ true → w k ≡ others k
       keep k m above =
           let (y, i, e) = in-map number xs m in
           let l = ltb-true (number x) (number y) (all-in (λ z. ltb (number x) (number z)) xs above i) in
-          rw (ne-eqb k (number x) (λ z. omega arith)) (same (p k))
-        where
-          same : (t : Bool) → t ≡ (t && true)
-          same true = refl
-          same false = refl
+          ap (λ (b : Bool). if b then 0 else w k) (sym (ne-eqb k (number x) (λ z. omega arith)))
+
+  -- and counting among them is counting below n what only they meet
+  pub count-numbers : (p : ℕ → Bool) (xs : List A) (n : ℕ) → rising number xs ≡ true → ((k : ℕ) → k ∈ map number xs → k < n)
+      → ((k : ℕ) → k < n → (k ∈ map number xs → ⊥) → p k ≡ false) → countOf p (map number xs) ≡ countOf p (below n)
+  count-numbers p xs n r few off =
+      count-sum p (map number xs)
+      ∙ sum-numbers (λ k. if p k then 1 else 0) xs n r few (λ k l out. ap (λ (b : Bool). if b then 1 else 0) (off k l out)) ∙ sym (count-sum p (below n))
 
   -- where numbers rise and are below n, there are at most n
   rising-from : (xs : List A) (a n : ℕ) → rising number xs ≡ true → a ≤ n → ((x : A) → x ∈ xs → a ≤ number x) → ((x : A) → x ∈ xs → number x < n) → a + length xs ≤ n

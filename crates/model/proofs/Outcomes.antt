@@ -35,8 +35,8 @@ module _ (S : State) (words : List ℕ) (line : Bytes) (kept : tableAfter words 
   abbrev edited : Bool → Outcome
   edited wrong = outcomeBy wrong S words (Call.edit line)
 
-  pub edit-by-table : (P : Answer → List ℕ → List ℕ → State → Type 0) → P (Answer.edited refusal.wrongTable 0) words words S
-      → P (Answer.edited (edit S line .number) (edit S line .changed)) (table (S .declared) (S .ties))
+  pub edit-by-table : (P : Answer → List ℕ → List ℕ → State → Type 0) → P (Answer.edited refusal.wrongTable 0 0) words words S
+      → P (Answer.edited (edit S line .number) (edit S line .changed) (edit S line .joins)) (table (S .declared) (S .ties))
       (table (edit S line .state .declared) (edit S line .state .ties)) (edit S line .state)
       → P (outcome S words (Call.edit line) .answer) words (outcome S words (Call.edit line) .words) (outcome S words (Call.edit line) .state)
   unfolding tableAfter

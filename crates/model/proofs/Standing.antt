@@ -142,7 +142,7 @@ member-no-group Sort.object u e = refl
 
 module _ {S : State} (standing : Standing S) where
   -- a holder up to which a tie leads is a group
-  above-group : (h g : ℕ) (s : Sort) → up (S .ties) h g ≡ true → sortOf (S .declared) g ≡ some s → isGroup s ≡ true
+  pub above-group : (h g : ℕ) (s : Sort) → up (S .ties) h g ≡ true → sortOf (S .declared) g ≡ some s → isGroup s ≡ true
   above-group h g s e q =
       ⊎-elim (λ f. of f (upper-group (f .lower-sort) (f .upper-sort) (inl (f .one-above)))) (λ f. of f (upper-group (f .lower-sort) (f .upper-sort) (inr (f .one-above)))) (up-fits standing h g e)
     where

@@ -53,7 +53,8 @@ callOf line =
     or-else (behind (bytes "try=") (bare line) >>= λ hex. hexPairs hex >>= λ block. some (Call.request block))
 
 -- "Printed: `load=` number, lines read (or refused line); `edit=` number, count (0 if refused); `try=permit,`rule, `try=deny`,
--- `try=undefined` or `try=refused,`number". Document 02, E2: "`gate` prints `try=undefined,absent` or `try=undefined,unlike`"
+-- `try=undefined` or `try=refused,`number". Document 02, E2: "`gate` prints `try=undefined,absent` or `try=undefined,unlike`"; E3, of the joins: "`gate`
+-- prints it as a third number on `edit=` lines"
 abbrev pub printedDecision : Decision → Bytes
 printedDecision (permit rule) = bytes "try=permit," ++ decimal rule
 printedDecision deny = bytes "try=deny"
@@ -62,7 +63,7 @@ printedDecision (refused n) = bytes "try=refused," ++ decimal n
 
 unfoldable pub printed : Answer → Bytes
 printed (loaded number line) = bytes "load=" ++ decimal number ++ bytes "," ++ decimal line ++ bytes "\n"
-printed (edited number count) = bytes "edit=" ++ decimal number ++ bytes "," ++ decimal count ++ bytes "\n"
+printed (edited number count joins) = bytes "edit=" ++ decimal number ++ bytes "," ++ decimal count ++ bytes "," ++ decimal joins ++ bytes "\n"
 printed (decided d) = printedDecision d ++ bytes "\n"
 
 -- the answers to the commands on a table of so many words, from a state on; "`bad=` for other lines, bad hex among them"

@@ -18,10 +18,11 @@ use Rattle.model.specs.Decision.{Decision, refused, decide}
 pub data Call : Type 0 where
   load edit request : Bytes → Call
 
--- "the answer with all it carries (number, line, count, decision, rule)"; an undefined one carries its cause (document 02, E2)
+-- "the answer with all it carries (number, line, count, decision, rule)"; an undefined one carries its cause (document 02, E2), an edit's the set joins
+-- (E3: "The ledger compares it too")
 pub data Answer : Type 0 where
   loaded : (number line : ℕ) → Answer
-  edited : (number count : ℕ) → Answer
+  edited : (number count joins : ℕ) → Answer
   decided : Decision → Answer
 
 -- what a call answers, and the state it leaves
@@ -32,13 +33,13 @@ pub record Step : Type 0 where
 -- "1: table not 1,024 words, any call. … a load gives the empty book, an edit keeps its own"; "2 has line 0, as has 1"
 abbrev pub withoutTable : State → Call → Step
 withoutTable S (load file) = record { answer = loaded refusal.wrongTable 0; state = empty (namedEdition file) }
-withoutTable S (edit line) = record { answer = edited refusal.wrongTable 0; state = S }
+withoutTable S (edit line) = record { answer = edited refusal.wrongTable 0 0; state = S }
 withoutTable S (request block) = record { answer = decided (refused refusal.wrongTable); state = S }
 
 -- "A load gives both anew, or the empty D and T when refused"; "a refused edit or a request changes nothing"
 abbrev pub withTable : State → Call → Step
 withTable S (load file) = let l = Load.load file in record { answer = loaded (l .number) (l .line); state = l .state }
-withTable S (edit line) = let e = Edits.edit S line in record { answer = edited (e .number) (e .changed); state = e .state }
+withTable S (edit line) = let e = Edits.edit S line in record { answer = edited (e .number) (e .changed) (e .joins); state = e .state }
 withTable S (request block) = record { answer = decided (decide S block); state = S }
 
 -- the edition whose table a call is tested for. Document 02, E5: "refusal 1 tests the length of the book's edition (a load: of its first line, else

@@ -38,6 +38,10 @@ groupLimit = 64
 abbrev pub holderNumbers : Edition → ℕ
 holderNumbers e = holderLimit e + 1
 
+-- document 02, E3: "at most 16,640, which is 256 times 65"; E5: "In the bound of E3, 256 becomes the edition's number of holders"
+abbrev pub joinLimit : Edition → ℕ
+joinLimit e = holderNumbers e * (groupLimit + 1)
+
 -- "NAME: 1 to 12 bytes", "str in double quotes, 0 to 12 bytes", "int 0 to 4294967295"
 abbrev pub nameBytes : ℕ
 nameBytes = 12

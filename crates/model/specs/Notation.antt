@@ -1,6 +1,6 @@
 -- Notation: choice, partial results and lists. Nothing here comes from document 01; the definitions that do are written with these words. Of the words
 -- before a definition, `pub` says that other files use it; `abbrev`, `unfoldable` and `unfolding` matter to proofs alone.
-use Prim.Native.Nat.{ℕ, zero, suc}
+use Prim.Native.Nat.{ℕ, zero, suc, _+_}
 use mathlib.Core.Bool.{Bool, true, false}
 use mathlib.Core.List.{List, [], _∷_, _++_}
 use mathlib.Core.Option.{Option, none, some}
@@ -61,6 +61,11 @@ module _ {A : Type 0} where
   abbrev pub countOf : (A → Bool) → List A → ℕ
   countOf p [] = 0
   countOf p (x ∷ xs) = if p x then suc (countOf p xs) else countOf p xs
+
+  -- the sum of what f gives for each element
+  abbrev pub sumOf : (A → ℕ) → List A → ℕ
+  sumOf f [] = 0
+  sumOf f (x ∷ xs) = f x + sumOf f xs
 
   -- the elements before the first that passes
   abbrev pub before : (A → Bool) → List A → List A

@@ -42,9 +42,9 @@ valleyFile = lines valleyLines
 abbrev pub valleyInput : Bytes
 valleyInput = valleyFile ++ lines ("end=" ∷ "try=01040500030000000100040a000000" ∷ "-parent=season,day" ∷ [])
 
--- "prints `load=0,27`, `try=permit,0`, `edit=0,2`"
+-- "prints `load=0,27`, `try=permit,0`, `edit=0,2`", and by document 02, E3, a third number on the last: season joins once, p17 once and for its one group
 abbrev pub valleyPrinted : Bytes
-valleyPrinted = lines ("load=0,27" ∷ "try=permit,0" ∷ "edit=0,2" ∷ [])
+valleyPrinted = lines ("load=0,27" ∷ "try=permit,0" ∷ "edit=0,2,3" ∷ [])
 
 -- what a definition gives, and what the document says that it gives
 infix 70 _gives_
@@ -69,9 +69,9 @@ pass mask entries = decide valley (1 ∷ 4 ∷ 5 ∷ 0 ∷ mask ∷ 0 ∷ 0 ∷ 
 abbrev pub hour : ℕ → List ℕ
 hour h = 4 ∷ h ∷ 0 ∷ 0 ∷ 0 ∷ []
 
--- the number and the count of an edit, and the state behind it
-abbrev pub answerTo : State → String → ℕ × ℕ
-answerTo S line = let e = edit S (lines (line ∷ [])) in (e .number, e .changed)
+-- the number of an edit, its count and its joins, and the state behind it
+abbrev pub answerTo : State → String → ℕ × ℕ × ℕ
+answerTo S line = let e = edit S (lines (line ∷ [])) in (e .number, e .changed, e .joins)
 
 abbrev pub behindEdit : State → String → State
 behindEdit S line = edit S (lines (line ∷ [])) .state
@@ -83,7 +83,7 @@ alone text = tokensOf (bytes text) >>= readPolicy >>= λ p. some (meaning (λ s 
 abbrev pub aloneCause : String → Option Cause
 aloneCause text = tokensOf (bytes text) >>= readPolicy >>= λ p. some (causeBy (isAbsent (λ s n. []) p))
 
--- cases A to L "On the valley file", in order, a line each; G has two, and K, with its cause
+-- cases A to L "On the valley file", in order, a line each; G has two, and K, with its cause. Edits have the joins of document 02, E3, too
 abbrev pub cases : List Case
 cases =
     map (λ k. getD (table (valley .declared) (valley .ties)) (4 * k) 0) (below 6) gives (0 ∷ 5 ∷ 15 ∷ 16 ∷ 15 ∷ 16 ∷ [])
@@ -91,11 +91,11 @@ cases =
     ∷ pass 3 (hour 17) gives undefined absent
     ∷ pass 3 [] gives undefined absent
     ∷ pass 4 (hour 16) gives refused 17
-    ∷ answerTo valley "+parent=day,season" gives (12, 0)
-    ∷ answerTo valley "+value=day,zone,2" gives (0, 1)
-    ∷ answerTo (behindEdit valley "+value=day,zone,2") "-value=season,zone,2" gives (0, 0)
-    ∷ answerTo valley "+member=p17,upper" gives (9, 0)
-    ∷ answerTo valley "-member=p17,day" gives (14, 0)
+    ∷ answerTo valley "+parent=day,season" gives (12, 0, 0)
+    ∷ answerTo valley "+value=day,zone,2" gives (0, 1, 5)
+    ∷ answerTo (behindEdit valley "+value=day,zone,2") "-value=season,zone,2" gives (0, 0, 4)
+    ∷ answerTo valley "+member=p17,upper" gives (9, 0, 0)
+    ∷ answerTo valley "-member=p17,day" gives (14, 0, 0)
     ∷ alone "FALSE AND TRUE OR TRUE" gives some TRUE
     ∷ alone "\"b\" < \"c\"" gives some UNDEF
     ∷ aloneCause "\"b\" < \"c\"" gives some unlike

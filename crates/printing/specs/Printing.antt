@@ -8,16 +8,16 @@ use Rattle.output.specs.Laid.{Laid}
 
 -- no answer is longer
 abbrev pub answerBytes : ℕ
-answerBytes = 32
+answerBytes = 40
 
 -- an answer's text is laid at a place of the output
 pub record PrintedAt (before : Bytes) (at : ℕ) (text after : Bytes) (r : ℕ) : Type 0 where
   pub laid : Laid before at text after r
   pub short : length text ≤ answerBytes
 
--- a key with two numbers, and a text with one
-abbrev pub twoNumbersLine : Bytes → ℕ → ℕ → Bytes
-twoNumbersLine key number other = key ++ decimal number ++ bytes "," ++ decimal other ++ bytes "\n"
+-- a key with two numbers, and a line of a text with one
+abbrev pub numbersBehind : Bytes → ℕ → ℕ → Bytes
+numbersBehind key number other = key ++ decimal number ++ bytes "," ++ decimal other
 
 abbrev pub numberLine : Bytes → ℕ → Bytes
 numberLine text n = text ++ decimal n ++ bytes "\n"

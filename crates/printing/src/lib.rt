@@ -4,26 +4,25 @@ ghost use lib.ListN.{length};
 ghost use Rattle.model.specs.Decision.{undefined};
 ghost use Rattle.model.specs.Ledger.{decided};
 ghost use Rattle.model.specs.Gate.{printed};
-ghost use Rattle.output.specs.Laid.{far};
+ghost use Rattle.output.specs.Laid.{Laid, far};
 ghost use Rattle.file.specs.LoadAnswers.{loadedOf};
 ghost use Rattle.request.specs.Decisions.{causeOf, decisionOf};
 ghost use Rattle.edit.specs.EditSteps.{editedOf};
-ghost use Rattle.printing.specs.Printing.{answerBytes, PrintedAt, twoNumbersLine, numberLine};
+ghost use Rattle.printing.specs.Printing.{answerBytes, PrintedAt, numbersBehind, numberLine};
 use edit::Edited;
 use file::Loaded;
 use request::Cause;
 use request::Decision;
 
-// A key and two numbers.
+// A key and two numbers, without a line's end.
 fn put_pair(out: &mut [u8], at: usize, key: &[u8], number: u32, other: u32) -> usize
-    requires { ⌜ (at + answerBytes ≤ far) × (length (now key) ≤ 10) ⌝ }
-    ensures { λ r. ⌜ PrintedAt (now (out .entry)) at (twoNumbersLine (now (key .entry)) number other) (now (out .exit)) r ⌝ }
+    requires { ⌜ (at + answerBytes ≤ far) × (length (now key) ≤ 5) ⌝ }
+    ensures { λ r. ⌜ Laid (now (out .entry)) at (numbersBehind (now (key .entry)) number other) (now (out .exit)) r × (r ≤ at + 26) ⌝ }
 {
     let a = output::put(out, at, key);
     let b = output::put_decimal(out, a, number);
     let c = output::put_byte(out, b, b',');
-    let d = output::put_decimal(out, c, other);
-    output::put_byte(out, d, b'\n')
+    output::put_decimal(out, c, other)
 }
 
 // The answer of a load.
@@ -31,7 +30,8 @@ pub fn put_load(out: &mut [u8], at: usize, loaded: Loaded) -> usize
     requires { ⌜ at + answerBytes ≤ far ⌝ }
     ensures { λ r. ⌜ PrintedAt (now (out .entry)) at (printed (loadedOf loaded)) (now (out .exit)) r ⌝ }
 {
-    put_pair(out, at, b"load=", loaded.number as u32, loaded.line)
+    let a = put_pair(out, at, b"load=", loaded.number as u32, loaded.line);
+    output::put_byte(out, a, b'\n')
 }
 
 // The answer of an edit.
@@ -39,7 +39,10 @@ pub fn put_edit(out: &mut [u8], at: usize, edited: Edited) -> usize
     requires { ⌜ at + answerBytes ≤ far ⌝ }
     ensures { λ r. ⌜ PrintedAt (now (out .entry)) at (printed (editedOf edited)) (now (out .exit)) r ⌝ }
 {
-    put_pair(out, at, b"edit=", edited.number as u32, edited.count)
+    let a = put_pair(out, at, b"edit=", edited.number as u32, edited.count);
+    let b = output::put_byte(out, a, b',');
+    let c = output::put_decimal(out, b, edited.joins);
+    output::put_byte(out, c, b'\n')
 }
 
 // A text and one number.

@@ -15,7 +15,7 @@ use Rattle.model.proofs.Lists.{or-cases}
 use Rattle.bits.specs.Bits.{bit, holds, anyBelow}
 use Rattle.bits.proofs.Counts.{any-ext, any-find, find-any}
 use Rattle.bits.proofs.Bits.{bit-none}
-use Rattle.ties.specs.TieArrays.{inUse, grouped, tiedUp, meets, Distinct, TellsGroups}
+use Rattle.ties.specs.TieArrays.{inUse, grouped, tiedUp, under, Distinct, TellsGroups}
 use Rattle.ties.proofs.Masks.{in-use-lt}
 use Rattle.sets.specs.Settled.{Solves, RightAt, Right, Stored, ShortChains, Chain, one, more, Deep, Settled, Spared, AllDeep, GroupsRight, partyBelow, MarksChanged, PartiesStored, StoredTied}
 use Rattle.sets.proofs.LentSets.{holds-kept}
@@ -223,33 +223,33 @@ module _ {ups own slots t t₁ t₂ m m₁ m₂ : List ℕ} {d d₁ : ℕ} {deep
 
 -- ---- the parties below, one after another
 
-pub parties-none : (ups own slots slotOf : List ℕ) (below : ℕ) (t m : List ℕ) → PartiesStored ups own slots slotOf below t t m m 0
-parties-none ups own slots slotOf below t m = record { right = λ f s r tells i l on. absurd (omega arith); others = λ j out. refl; told = told-none m t }
+pub parties-none : (ups own slots slotOf : List ℕ) (below e : ℕ) (t m : List ℕ) → PartiesStored ups own slots slotOf below e t t m m 0
+parties-none ups own slots slotOf below e t m = record { right = λ f s r tells i l on. absurd (omega arith); others = λ j out. refl; told = told-none m t }
 
--- neither a group nor a holder with no tie into the mask is a party below; any other is
-module _ (ups slotOf : List ℕ) (below k : ℕ) where
-  pub group-no-party : grouped slotOf k ≡ true → partyBelow ups slotOf below k ≡ true → ⊥
+-- neither a group nor a holder that is not under e is a party below; any other is
+module _ (ups slotOf : List ℕ) (below e k : ℕ) where
+  pub group-no-party : grouped slotOf k ≡ true → partyBelow ups slotOf below e k ≡ true → ⊥
   unfolding partyBelow
-  group-no-party g on = true≢false (sym g ∙ not-true (grouped slotOf k) (parts (meets (getD ups k 0) below) (not (grouped slotOf k)) on .1))
+  group-no-party g on = true≢false (sym g ∙ not-true (grouped slotOf k) (parts (under ups below e k) (not (grouped slotOf k)) on .1))
 
-  pub apart-no-party : meets (getD ups k 0) below ≡ false → partyBelow ups slotOf below k ≡ true → ⊥
+  pub apart-no-party : under ups below e k ≡ false → partyBelow ups slotOf below e k ≡ true → ⊥
   unfolding partyBelow
-  apart-no-party off on = true≢false (sym (parts (meets (getD ups k 0) below) (not (grouped slotOf k)) on .0) ∙ off)
+  apart-no-party off on = true≢false (sym (parts (under ups below e k) (not (grouped slotOf k)) on .0) ∙ off)
 
-  pub party-by : meets (getD ups k 0) below ≡ true → grouped slotOf k ≡ false → partyBelow ups slotOf below k ≡ true
+  pub party-by : under ups below e k ≡ true → grouped slotOf k ≡ false → partyBelow ups slotOf below e k ≡ true
   unfolding partyBelow
   party-by on off = both on (ap not off)
 
-module _ {ups own slots slotOf t t₁ m m₁ : List ℕ} {below k : ℕ} (a : PartiesStored ups own slots slotOf below t t₁ m m₁ k) where
-  pub party-passed : (partyBelow ups slotOf below k ≡ true → ⊥) → PartiesStored ups own slots slotOf below t t₁ m m₁ (k + 1)
+module _ {ups own slots slotOf t t₁ m m₁ : List ℕ} {below e k : ℕ} (a : PartiesStored ups own slots slotOf below e t t₁ m m₁ k) where
+  pub party-passed : (partyBelow ups slotOf below e k ≡ true → ⊥) → PartiesStored ups own slots slotOf below e t t₁ m m₁ (k + 1)
   party-passed off = record {
     right = λ f s r tells i l on. a .right f s r tells i (before i l on (ℕ-discrete i k)) on;
     others = λ j out. a .others j (λ on l. out on (omega arith));
     told = a .told;
   }
     where
-      before : (i : ℕ) → i < k + 1 → partyBelow ups slotOf below i ≡ true → Dec (i ≡ k) → i < k
-      before i l on (yes e) = absurd (off (ap (partyBelow ups slotOf below) (sym e) ∙ on))
+      before : (i : ℕ) → i < k + 1 → partyBelow ups slotOf below e i ≡ true → Dec (i ≡ k) → i < k
+      before i l on (yes at) = absurd (off (ap (partyBelow ups slotOf below e) (sym at) ∙ on))
       before i l on (no n) = omega arith
 
   -- the groups' words have stayed
@@ -257,14 +257,14 @@ module _ {ups own slots slotOf t t₁ m m₁ : List ℕ} {below k : ℕ} (a : Pa
   unfolding GroupsRight RightAt
   groups-stay f r tells g l u p h =
       holds-kept t t₁ (getD slots g 0) p h
-      (λ j e. a .others j (λ on few. group-no-party ups slotOf below (getD slots g 0) (tells .told g l u) (ap (partyBelow ups slotOf below) (sym e) ∙ on))) ∙ r g l u p h
+      (λ j at. a .others j (λ on few. group-no-party ups slotOf below e (getD slots g 0) (tells .told g l u) (ap (partyBelow ups slotOf below e) (sym at) ∙ on))) ∙ r g l u p h
 
-  pub party-stored : {t₂ m₂ : List ℕ} (mask : ℕ) → k < length ups → length t₁ ≡ 4 * length ups → mask ≡ getD ups k 0 → partyBelow ups slotOf below k ≡ true
-      → Stored own slots k mask t₁ t₂ → MarksChanged m₁ m₂ t₁ t₂ → PartiesStored ups own slots slotOf below t t₂ m m₂ (k + 1)
+  pub party-stored : {t₂ m₂ : List ℕ} (mask : ℕ) → k < length ups → length t₁ ≡ 4 * length ups → mask ≡ getD ups k 0 → partyBelow ups slotOf below e k ≡ true
+      → Stored own slots k mask t₁ t₂ → MarksChanged m₁ m₂ t₁ t₂ → PartiesStored ups own slots slotOf below e t t₂ m m₂ (k + 1)
   unfolding GroupsRight
   party-stored {t₂} mask few long by party b c = record {
     right = λ f s r tells i l on. go f s (groups-stay f r tells) i (ℕ-discrete i k) (λ n. a .right f s r tells i (omega arith) on);
-    others = λ j out. b .others j (λ e. out (ap (partyBelow ups slotOf below) e ∙ party) (omega arith)) ∙ a .others j (λ on l. out on (omega arith));
+    others = λ j out. b .others j (λ at. out (ap (partyBelow ups slotOf below e) at ∙ party) (omega arith)) ∙ a .others j (λ on l. out on (omega arith));
     told = told-more (a .told) c (λ i. once i (ℕ-discrete i k));
   }
     where

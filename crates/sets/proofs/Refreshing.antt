@@ -14,7 +14,7 @@ use Rattle.model.specs.Notation.{map}
 use Rattle.model.specs.Declarations.{Declarations, Holder, isHolder, holderNumbersOf}
 use Rattle.model.specs.Ties.{Ties}
 use Rattle.model.specs.Table.{effectiveSet}
-use Rattle.model.specs.Edits.{differs, changes}
+use Rattle.model.specs.Edits.{differs, changes, setJoins}
 use Rattle.model.proofs.Options.{parts, both}
 use Rattle.model.proofs.Lists.{true-or-false, or-cases, or-left, or-right, or-none, _∈_, count-ext as list-ext}
 use Rattle.model.proofs.Numbered.{count-numbers}
@@ -29,6 +29,8 @@ use Rattle.ties.specs.TieArrays.{inUse, grouped, tiedUp, meets, under, Distinct
 use Rattle.ties.proofs.Masks.{in-use-lt}
 use Rattle.ties.proofs.Widening.{none-below}
 use Rattle.ties.proofs.Below.{above-meets, holders-fit}
+use Rattle.ties.specs.TieJoins.{joinsBy, JoinsBelow}
+use Rattle.ties.proofs.Joining.{joins-by-few, joins-few, joins-alone, joins-are}
 use Rattle.sets.specs.Settled.{Solves, RightAt, Right, Stored, unlike, Settled, AllDeep, GroupsRight, partyBelow, PartiesStored}
 use Rattle.sets.specs.Filled.{KeepsSets}
 use Rattle.sets.specs.Refreshed.{EditedAt, Elsewhere, Rewritten, Refreshed}
@@ -165,8 +167,15 @@ module _ (ups own slots slotOf : List ℕ) (e : ℕ) (t t′ : List ℕ) (r : �
         absent k out (inl e) = absurd (out (model.holder-in D k e))
         absent k out (inr e) = e
 
-  refreshed : r ≤ 256 → Elsewhere ups slots e t t′ → Refreshed ups own slots slotOf e t t′ r
-  refreshed most elsewhere = record { pairs = λ D T U edit room was. (now D T U edit room was, counted D T U edit room was); elsewhere = elsewhere; at-most = most }
+  refreshed : (j : ℕ) → ((D : Declarations) (T U : Ties) → EditedAt ups own slots slotOf e D T U → Room D (length ups) → j ≡ setJoins D U e) → r ≤ 256 → j ≤ 65 * 256
+      → Elsewhere ups slots e t t′ → Refreshed ups own slots slotOf e t t′ r j
+  refreshed j joined most joins-most elsewhere = record {
+    pairs = λ D T U edit room was. (now D T U edit room was, counted D T U edit room was);
+    joined = joined;
+    elsewhere = elsewhere;
+    at-most = most;
+    joins-at-most = joins-most;
+  }
 
 -- ---- a user or object: nobody is below it, and its own set is all
 
@@ -194,27 +203,33 @@ module _ (ups own slots slotOf : List ℕ) (e up : ℕ) (t t′ : List ℕ) (no-
       (stored-right ups own slots e up (effectiveSet D U) (solved ups slots e 0 none own slotOf t D T U edit room was) (subst (λ (x : ℕ). x < length ups) at h) long by b
       (λ q l u o. group-right ups slots e 0 none own slotOf t D T U edit room was q l u (bit-none q))))
 
-  pub refreshed-alone : (r : ℕ) → r ≡ countBelow 256 (unlike t t′) → Refreshed ups own slots slotOf e t t′ r
+  -- so are its joins
+  alone-joins : (D : Declarations) (T U : Ties) → EditedAt ups own slots slotOf e D T U → Room D (length ups) → joinsBy (getD ups e 0) ≡ setJoins D U e
+  alone-joins D T U edit room =
+      sym (joins-are ups own slots D U (edit .after) (edit .kept) room e 0 (edit .there) (alone (edit .tells)) ∙ joins-alone ups 0 e (length ups) (room e (edit .there)) under-none)
+
+  pub refreshed-alone : (r j : ℕ) → r ≡ countBelow 256 (unlike t t′) → j ≡ joinsBy (getD ups e 0) → Refreshed ups own slots slotOf e t t′ r j
   unfolding Elsewhere
-  refreshed-alone r n =
-      refreshed ups own slots slotOf e t t′ r few long long′ alone-right (λ distinct tells. n) (omega (arith, n, count-below-le 256 (unlike t t′))) (λ j no-e none. b .others j no-e)
+  refreshed-alone r j n joined =
+      refreshed ups own slots slotOf e t t′ r few long long′ alone-right (λ distinct tells. n) j (λ D T U edit room. joined ∙ alone-joins D T U edit room)
+      (omega (arith, n, count-below-le 256 (unlike t t′))) (omega (arith, joined, joins-by-few (getD ups e 0))) (λ i no-e none. b .others i no-e)
 
 -- ---- a group: the groups of the mask are settled anew, and then the parties below are stored
 
-module _ (ups own slots slotOf : List ℕ) (e m : ℕ) (is-group : grouped slotOf e ≡ true) (marks : Marks ups slots e m) (small : m < 2 ^ 64)
+module _ (ups own slots slotOf : List ℕ) (e m : ℕ) (marks : Marks ups slots e m) (small : m < 2 ^ 64)
     (t t₁ t₂ m₀ m₁ m₂ : List ℕ) (d₁ : ℕ) (a : Settled ups own slots t t₁ m₀ m₁ (2 ^ 64 - 1 - m) d₁ (AllDeep ups slots) (λ g. g < 64))
-    (b : PartiesStored ups own slots slotOf m t₁ t₂ m₁ m₂ (length ups)) where
+    (b : PartiesStored ups own slots slotOf m e t₁ t₂ m₁ m₂ (length ups)) where
   not-done : (q : ℕ) → q < 64 → bit (2 ^ 64 - 1 - m) q ≡ not (bit m q)
   not-done q l = bit-not 64 m q small l
 
   -- a group's words stay behind the settling, and so do those of a holder that is not under e
   group-stays : (k : ℕ) → grouped slotOf k ≡ true → SameAt t₁ t₂ k
-  group-stays k g j at = b .others j (λ on l. group-no-party ups slotOf m k g (ap (partyBelow ups slotOf m) (sym at) ∙ on))
+  group-stays k g j at = b .others j (λ on l. group-no-party ups slotOf m e k g (ap (partyBelow ups slotOf m e) (sym at) ∙ on))
 
   below-stays : (k : ℕ) → under ups m e k ≡ false → SameAt t t₂ k
   unfolding under
   below-stays k off j at =
-      b .others j (λ on l. apart-no-party ups slotOf m k (or-none (eqb k e) (meets (getD ups k 0) m) off .1) (ap (partyBelow ups slotOf m) (sym at) ∙ on))
+      b .others j (λ on l. apart-no-party ups slotOf m e k off (ap (partyBelow ups slotOf m e) (sym at) ∙ on))
       ∙ a .others j (λ q l u off₁ on₁ x. true≢false (sym (marked-under ups slots e m marks q l (not-false (bit m q) (sym (not-done q l) ∙ off₁))) ∙ ap (under ups m e) (sym x ∙ at) ∙ off))
 
   -- a group is settled, another holder is stored
@@ -226,12 +241,6 @@ module _ (ups own slots slotOf : List ℕ) (e m : ℕ) (is-group : grouped slotO
 
   module _ (f : ℕ → ℕ → Bool) (s : Solves ups own slots f) (r : GroupsRight (length ups) slots f t₁) (tells : TellsGroups (length ups) slots slotOf) (k : ℕ)
       (few : k < length ups) (on : under ups m e k ≡ true) where
-    is-party : grouped slotOf k ≡ false → partyBelow ups slotOf m k ≡ true
-    unfolding under
-    is-party y =
-        party-by ups slotOf m k
-        (⊎-elim (λ z. absurd (true≢false (sym is-group ∙ ap (grouped slotOf) (sym (eqb-true k e z)) ∙ y))) (λ z. z) (or-cases (eqb k e) (meets (getD ups k 0) m) on)) y
-
     settled-right : grouped slotOf k ≡ true → RightAt f t₂ k
     unfolding GroupsRight RightAt
     settled-right y p h =
@@ -239,7 +248,7 @@ module _ (ups own slots slotOf : List ℕ) (e m : ℕ) (is-group : grouped slotO
         holds-kept t₁ t₂ k p h (group-stays k y) ∙ subst (λ (i : ℕ). holds t₁ i p ≡ f i p) (q .3) (r (q .0) (q .1) (q .2) p h)
 
     under-right : RightAt f t₂ k
-    under-right = ⊎-elim settled-right (λ y. b .right f s r tells k few (is-party y)) (true-or-false (grouped slotOf k))
+    under-right = ⊎-elim settled-right (λ y. b .right f s r tells k few (party-by ups slotOf m e k on y)) (true-or-false (grouped slotOf k))
 
   pub rewritten : Rewritten ups own slots slotOf e t t₂ m₀ m₂
   unfolding Right
@@ -254,10 +263,11 @@ module _ (ups own slots slotOf : List ℕ) (e m : ℕ) (is-group : grouped slotO
     elsewhere = stays-elsewhere ups slots e m marks t t₂ below-stays;
   }
 
--- the marks are counted
-pub refreshed-below : (ups own slots slotOf : List ℕ) (e : ℕ) (t t′ changed : List ℕ) (r : ℕ) → length ups ≤ 256 → length t ≡ 4 * length ups → length t′ ≡ 4 * length ups
-    → Rewritten ups own slots slotOf e t t′ (replicate 4 0) changed → r ≡ countBelow 256 (member changed) → Refreshed ups own slots slotOf e t t′ r
-refreshed-below ups own slots slotOf e t t′ changed r few long long′ b n =
+-- the marks are counted, and the joins summed
+pub refreshed-below : (ups own slots slotOf : List ℕ) (e : ℕ) (t t′ changed : List ℕ) (r j : ℕ) → length ups ≤ 256 → length t ≡ 4 * length ups → length t′ ≡ 4 * length ups
+    → Rewritten ups own slots slotOf e t t′ (replicate 4 0) changed → r ≡ countBelow 256 (member changed) → JoinsBelow ups slots e j → Refreshed ups own slots slotOf e t t′ r j
+refreshed-below ups own slots slotOf e t t′ changed r j few long long′ b n joined =
     refreshed ups own slots slotOf e t t′ r few long long′ (b .right)
     (λ distinct tells. n ∙ count-ext 256 (member changed) (unlike t t′) (λ k l. b .told distinct tells .marks k ∙ ap (λ (x : Bool). x || unlike t t′ k) (no-numbers k)))
-    (omega (arith, n, count-below-le 256 (member changed))) (b .elsewhere)
+    j (λ D T U edit room. joined .summed ∙ sym (joins-are ups own slots D U (edit .after) (edit .kept) room e (joined .mask) (edit .there) (joined .marks)))
+    (omega (arith, n, count-below-le 256 (member changed))) (omega (arith, joined .summed, joins-few ups (joined .mask) e (length ups))) (b .elsewhere)

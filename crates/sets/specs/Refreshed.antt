@@ -1,22 +1,23 @@
 -- The table after an edit, against the specification. Assumes nothing: these are definitions.
-use Prim.Native.Nat.{ℕ, _*_, _/_, _≤_, _<_}
+use Prim.Native.Nat.{ℕ, _+_, _*_, _/_, _≤_, _<_}
 use mathlib.Core.Path.{_≡_}
 use mathlib.Core.Bool.{true}
 use mathlib.Core.List.{List}
 use lib.ListN.{getD, length}
 use Rattle.model.specs.Limits.{groupLimit, wordBits}
-use Rattle.model.specs.Declarations.{Declarations}
+use Rattle.model.specs.Declarations.{Declarations, isHolder}
 use Rattle.model.specs.Ties.{Ties}
-use Rattle.model.specs.Edits.{changes}
+use Rattle.model.specs.Edits.{changes, setJoins}
 use Rattle.model.specs.Standing.{Standing, DifferAt}
 use Rattle.ties.specs.TieArrays.{tiedUp, Distinct, TellsGroups, KeepsTies, Room, Under}
 use Rattle.sets.specs.Settled.{markWords, MarksChanged}
 use Rattle.sets.specs.Filled.{KeepsSets}
 
--- U is what an edit of holder e's ties made of T, both of standing states of D, the arrays keep it, and tell the groups
+-- U is what an edit of the ties of e, a holder of D, made of T, both of standing states of D, the arrays keep it, and tell the groups
 pub record EditedAt (ups own slots slotOf : List ℕ) (e : ℕ) (D : Declarations) (T U : Ties) : Type 0 where
   pub before : Standing (record { declared = D; ties = T })
   pub after : Standing (record { declared = D; ties = U })
+  pub there : isHolder D e ≡ true
   pub differ : DifferAt e T U
   pub kept : KeepsTies ups own slots U
   pub tells : TellsGroups (length ups) slots slotOf
@@ -33,9 +34,11 @@ pub record Rewritten (ups own slots slotOf : List ℕ) (e : ℕ) (t t′ m m′ 
   pub told : Distinct (length ups) slots → TellsGroups (length ups) slots slotOf → MarksChanged m m′ t t′
   pub elsewhere : Elsewhere ups slots e t t′
 
--- from the table t to t′: r holders' sets changed, on any arrays no more than there are marks
-pub record Refreshed (ups own slots slotOf : List ℕ) (e : ℕ) (t t′ : List ℕ) (r : ℕ) : Type 0 where
+-- from the table t to t′: r holders' sets changed, on any arrays no more than there are marks, and it took j joins, on any arrays no more than 65 for each mark
+pub record Refreshed (ups own slots slotOf : List ℕ) (e : ℕ) (t t′ : List ℕ) (r j : ℕ) : Type 0 where
   pub pairs : (D : Declarations) (T U : Ties) → EditedAt ups own slots slotOf e D T U → Room D (length ups)
       → KeepsSets (length ups) t D T → KeepsSets (length ups) t′ D U × (r ≡ changes D T U)
+  pub joined : (D : Declarations) (T U : Ties) → EditedAt ups own slots slotOf e D T U → Room D (length ups) → j ≡ setJoins D U e
   pub elsewhere : Elsewhere ups slots e t t′
   pub at-most : r ≤ wordBits * markWords
+  pub joins-at-most : j ≤ (groupLimit + 1) * (wordBits * markWords)

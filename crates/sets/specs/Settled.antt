@@ -6,7 +6,7 @@ use mathlib.Core.List.{List}
 use lib.ListN.{getD, length}
 use Rattle.model.specs.Limits.{Edition, groupLimit, pairLimit, holderNumbers, wordBits}
 use Rattle.bits.specs.Bits.{bit, member, holds, anyBelow}
-use Rattle.ties.specs.TieArrays.{inUse, grouped, tiedUp, meets, Distinct, TellsGroups}
+use Rattle.ties.specs.TieArrays.{inUse, grouped, tiedUp, under, Distinct, TellsGroups}
 
 -- the lengths of the arrays of a call
 pub record Shaped (ups own slots t : List ℕ) : Type 0 where
@@ -82,15 +82,15 @@ AllDeep ups slots = (g : ℕ) → g < groupLimit → inUse (length ups) slots g 
 unfoldable pub GroupsRight : ℕ → List ℕ → (ℕ → ℕ → Bool) → List ℕ → Type 0
 GroupsRight n slots f t = (g : ℕ) → g < groupLimit → inUse n slots g ≡ true → RightAt f t (getD slots g 0)
 
--- holder k is a party below: it has a tie up to a group of the mask, and is no group
-unfoldable pub partyBelow : List ℕ → List ℕ → ℕ → ℕ → Bool
-partyBelow ups slotOf below k = meets (getD ups k 0) below && not (grouped slotOf k)
+-- holder k is a party at e or below it: it is e or has a tie up to a group of the mask, and is no group
+unfoldable pub partyBelow : List ℕ → List ℕ → ℕ → ℕ → ℕ → Bool
+partyBelow ups slotOf below e k = under ups below e k && not (grouped slotOf k)
 
--- of the first n holders the parties below are stored, from groups that were right, and those marked whose sets changed
-pub record PartiesStored (ups own slots slotOf : List ℕ) (below : ℕ) (t t′ m m′ : List ℕ) (n : ℕ) : Type 0 where
+-- of the first n holders the parties at e or below it are stored, from groups that were right, and those marked whose sets changed
+pub record PartiesStored (ups own slots slotOf : List ℕ) (below e : ℕ) (t t′ m m′ : List ℕ) (n : ℕ) : Type 0 where
   pub right : (f : ℕ → ℕ → Bool) → Solves ups own slots f → GroupsRight (length ups) slots f t → TellsGroups (length ups) slots slotOf
-      → (k : ℕ) → k < n → partyBelow ups slotOf below k ≡ true → RightAt f t′ k
-  pub others : (j : ℕ) → (partyBelow ups slotOf below (j / 4) ≡ true → j / 4 < n → ⊥) → getD t′ j 0 ≡ getD t j 0
+      → (k : ℕ) → k < n → partyBelow ups slotOf below e k ≡ true → RightAt f t′ k
+  pub others : (j : ℕ) → (partyBelow ups slotOf below e (j / 4) ≡ true → j / 4 < n → ⊥) → getD t′ j 0 ≡ getD t j 0
   pub told : MarksChanged m m′ t t′
 
 -- the holders below n that have a tie up are stored, from groups that were right, and what was right stays so

@@ -1,12 +1,12 @@
 // The kept table: every holder's effective set in four words, filled from the book's arrays and refreshed after an edit.
 ghost use mathlib.Core.Path.{_≡_};
-ghost use mathlib.Core.Bool.{true, _||_, _&&_};
+ghost use mathlib.Core.Bool.{_||_, _&&_};
 ghost use Prim.Native.Nat.{ℕ, _*_, _%_, _<_, _≤_};
 ghost use lib.ListN.{length, getD};
 ghost use Rattle.model.specs.Limits.{groupLimit};
 ghost use lib.Dec.{eqb};
 ghost use Rattle.bits.specs.Bits.{bit, member, holds, differ, Numbers, anyBelow, countBelow, Bits};
-ghost use Rattle.ties.specs.TieArrays.{grouped};
+ghost use Rattle.ties.specs.TieJoins.{joinsBy, joinsUnder, JoinsBelow};
 ghost use Rattle.sets.specs.Settled.{markWords, Shaped, unlike, MarksChanged, Stored, Settled, Deep, Spared, AllDeep, PartiesStored, StoredTied};
 ghost use Rattle.sets.specs.Filled.{Filled};
 ghost use Rattle.sets.specs.Refreshed.{Rewritten, Refreshed};
@@ -14,18 +14,24 @@ ghost use Rattle.sets.specs.Refreshed.{Rewritten, Refreshed};
 // A bit for each holder, of which there are at most 256.
 const MARK_WORDS: usize = 4;
 
+// What an edit does to the table: how many holders' sets changed, and the set joins of the edited holder and of those below it.
+pub struct Tally {
+    pub changed: usize,
+    pub joins: usize,
+}
+
 // Rewrites one set, which is lent by its four words: its own pairs, joined with those that it inherits. Tells whether it changed.
 fn rewrite(set: &mut [u64], own: &[u64], inherited: [u64; 4]) -> bool
     requires { ⌜ (length (now set) ≡ 4) × (length (now own) ≡ 4) ⌝ }
     ensures { λ r. ⌜ Numbers 256 (now (set .exit)) (λ p. member (now (own .entry)) p || member inherited p) × (r ≡ differ 256 (now (set .entry)) (now (set .exit))) ⌝ }
 {
     let next = bits::joined(inherited, own);
-    let changed = bits::differs(set, &next);
+    let is_changed = bits::differs(set, &next);
     set[0] = next[0];
     set[1] = next[1];
     set[2] = next[2];
     set[3] = next[3];
-    changed
+    is_changed
 }
 
 // A set joined with holder k's.
@@ -176,7 +182,8 @@ fn settle_groups(
     seen
 }
 
-// Stores the parties below, once the groups' sets are right: the holders that have a tie up to a group of the mask `below` and are no group.
+// Stores the parties, once the groups' sets are right: of the holders that are `edited` or have a tie up to a group of the mask `below`, those that are no
+// group. Answers the set joins of all these holders, the groups' too; so few holders keep the sum in range.
 fn store_under(
     table: &mut [u64],
     marks: &mut [u64],
@@ -185,18 +192,22 @@ fn store_under(
     slots: &[u64],
     groups: &[u64],
     below: u64,
-)
-    requires { ⌜ Shaped (now ups) (now own) (now slots) (now table) × (length (now ups) ≤ 64 * length (now marks)) ⌝ }
-    ensures { λ _. ⌜ PartiesStored (now (ups .entry)) (now (own .entry)) (now (slots .entry)) (now (groups .entry)) below (now (table .entry)) (now (table .exit)) (now (marks .entry)) (now (marks .exit)) (length (now (ups .entry))) ⌝ }
+    edited: usize,
+) -> usize
+    requires { ⌜ Shaped (now ups) (now own) (now slots) (now table) × (length (now ups) ≤ 64 * length (now marks)) × (length (now ups) ≤ 65536) ⌝ }
+    ensures { λ r. ⌜ PartiesStored (now (ups .entry)) (now (own .entry)) (now (slots .entry)) (now (groups .entry)) below edited (now (table .entry)) (now (table .exit)) (now (marks .entry)) (now (marks .exit)) (length (now (ups .entry))) × (r ≡ joinsUnder (now (ups .entry)) below edited (length (now (ups .entry)))) ⌝ }
 {
+    let mut joins: usize = 0;
     for k in 0..ups.len() {
-        let up = ups[k];
-        if ties::meet(up, below) {
+        let added = ties::joins_under(ups, below, edited, k);
+        if added != 0 {
             if !ties::is_group(groups, k) {
-                store_marked(table, marks, own, slots, k, up);
+                store_marked(table, marks, own, slots, k, ups[k]);
             }
         }
+        joins += added;
     }
+    joins
 }
 
 // Every holder's own pairs as its set.
@@ -235,20 +246,22 @@ pub fn fill(table: &mut [u64], own: &[u64], ups: &[u64], slots: &[u64])
     store_tied(table, own, ups, slots);
 }
 
-// After an edit of a user or an object, below whom nobody is: its own set is all. Answers how many sets changed, the ones
-// of a word in which it is marked.
-fn refresh_alone(table: &mut [u64], own: &[u64], ups: &[u64], slots: &[u64], edited: usize) -> usize
+// After an edit of a user or an object, below whom nobody is: its own set is all. The sets that changed are the ones of a word in which it is marked.
+fn refresh_alone(table: &mut [u64], own: &[u64], ups: &[u64], slots: &[u64], edited: usize) -> Tally
     requires { ⌜ Shaped (now ups) (now own) (now slots) (now table) × (length (now ups) ≤ 64 * markWords) ⌝ }
-    ensures { λ r. ⌜ Stored (now (own .entry)) (now (slots .entry)) edited (getD (now (ups .entry)) edited 0) (now (table .entry)) (now (table .exit)) × (r ≡ countBelow (64 * markWords) (unlike (now (table .entry)) (now (table .exit)))) ⌝ }
+    ensures { λ r. ⌜ Stored (now (own .entry)) (now (slots .entry)) edited (getD (now (ups .entry)) edited 0) (now (table .entry)) (now (table .exit)) × (r .changed ≡ countBelow (64 * markWords) (unlike (now (table .entry)) (now (table .exit)))) × (r .joins ≡ joinsBy (getD (now (ups .entry)) edited 0)) ⌝ }
 {
     let up = ties::ties_up(ups, edited);
     let changed = store(table, own, slots, edited, up);
     let mark = bits::put(0, edited % 64, changed);
-    bits::ones(mark)
+    Tally {
+        changed: bits::ones(mark),
+        joins: ties::joins(up),
+    }
 }
 
 // Rewrites the set of the group `edited` and those of the holders below it, each once and no other, a group's after those above it, and marks
-// those that changed.
+// those that changed. Answers the set joins.
 fn rewrite_below(
     table: &mut [u64],
     marks: &mut [u64],
@@ -257,16 +270,17 @@ fn rewrite_below(
     slots: &[u64],
     groups: &[u64],
     edited: usize,
-)
-    requires { ⌜ Shaped (now ups) (now own) (now slots) (now table) × (length (now ups) ≤ 64 * length (now marks)) × (grouped (now groups) edited ≡ true) ⌝ }
-    ensures { λ _. ⌜ Rewritten (now (ups .entry)) (now (own .entry)) (now (slots .entry)) (now (groups .entry)) edited (now (table .entry)) (now (table .exit)) (now (marks .entry)) (now (marks .exit)) ⌝ }
+) -> usize
+    requires { ⌜ Shaped (now ups) (now own) (now slots) (now table) × (length (now ups) ≤ 64 * length (now marks)) × (length (now ups) ≤ 65536) ⌝ }
+    ensures { λ r. ⌜ Rewritten (now (ups .entry)) (now (own .entry)) (now (slots .entry)) (now (groups .entry)) edited (now (table .entry)) (now (table .exit)) (now (marks .entry)) (now (marks .exit)) × JoinsBelow (now (ups .entry)) (now (slots .entry)) edited r ⌝ }
 {
     let below = ties::groups_below(ups, slots, edited);
     settle_groups(table, marks, own, ups, slots, !below);
-    store_under(table, marks, own, ups, slots, groups, below);
+    store_under(table, marks, own, ups, slots, groups, below, edited)
 }
 
-// After an edit of holder `edited`: refreshes the table, and answers how many holders' sets changed. `groups` tells which holders are groups.
+// After an edit of holder `edited`: refreshes the table, and answers how many holders' sets changed, and the set joins, also where none changed. `groups`
+// tells which holders are groups.
 pub fn refresh(
     table: &mut [u64],
     own: &[u64],
@@ -274,14 +288,17 @@ pub fn refresh(
     slots: &[u64],
     groups: &[u64],
     edited: usize,
-) -> usize
+) -> Tally
     requires { ⌜ Shaped (now ups) (now own) (now slots) (now table) × (length (now ups) ≤ 64 * markWords) ⌝ }
-    ensures { λ r. ⌜ Refreshed (now (ups .entry)) (now (own .entry)) (now (slots .entry)) (now (groups .entry)) edited (now (table .entry)) (now (table .exit)) r ⌝ }
+    ensures { λ r. ⌜ Refreshed (now (ups .entry)) (now (own .entry)) (now (slots .entry)) (now (groups .entry)) edited (now (table .entry)) (now (table .exit)) (r .changed) (r .joins) ⌝ }
 {
     if !ties::is_group(groups, edited) {
         return refresh_alone(table, own, ups, slots, edited);
     }
     let mut changed = [0u64; MARK_WORDS];
-    rewrite_below(table, &mut changed, own, ups, slots, groups, edited);
-    bits::count(&changed)
+    let joins = rewrite_below(table, &mut changed, own, ups, slots, groups, edited);
+    Tally {
+        changed: bits::count(&changed),
+        joins,
+    }
 }

@@ -3,4 +3,5 @@ pub mod Keeps
 pub mod Climbing
 pub mod Widening
 pub mod Below
+pub mod Joining
 pub mod Editing

@@ -58,9 +58,9 @@ module _ (ups slots : List ℕ) (e : ℕ) where
   pub none-sound : AllUnder ups slots e 0
   none-sound q l on = absurd (true≢false (sym on ∙ bit-none q))
 
-  joins-sound : (m : ℕ) → AllUnder ups slots e m → (q : ℕ) → (inUse (length ups) slots q && under ups m e (getD slots q 0)) ≡ true → Under ups slots e q
+  slot-sound : (m : ℕ) → AllUnder ups slots e m → (q : ℕ) → (inUse (length ups) slots q && under ups m e (getD slots q 0)) ≡ true → Under ups slots e q
   unfolding under meets tiedUp
-  joins-sound m sound q on =
+  slot-sound m sound q on =
       let k : ℕ = getD slots q 0 in
       let s = parts (inUse (length ups) slots q) (under ups m e k) on in
       ⊎-elim (λ y. here (s .0) (eqb-true k e y))
@@ -121,7 +121,7 @@ module _ (ups slots : List ℕ) (e : ℕ) where
     pass-on next′ with on = record {
       grows = λ j l y. with j ∙ or-left (bit next j) (eqb j q) (p .grows j l y);
       sound = λ all j l y. ⊎-elim (p .sound all j l)
-          (λ z. subst (Under ups slots e) (sym (eqb-true j q z)) (joins-sound next (p .sound all) q on)) (or-cases (bit next j) (eqb j q) (sym (with j) ∙ y));
+          (λ z. subst (Under ups slots e) (sym (eqb-true j q z)) (slot-sound next (p .sound all) q on)) (or-cases (bit next j) (eqb j q) (sym (with j) ∙ y));
       takes = λ j l off u y. ⊎-elim
           (λ z. with j ∙ or-right (bit next j) (eqb j q) (eq-eqb j q z))
           (λ z. with j ∙ or-left (bit next j) (eqb j q) (p .takes j l z u y)) (now-or-before j off);

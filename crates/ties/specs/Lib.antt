@@ -1,2 +1,3 @@
 pub mod TieArrays
 pub mod TieEdits
+pub mod TieJoins

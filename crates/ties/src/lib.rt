@@ -7,6 +7,7 @@ ghost use Rattle.model.specs.Limits.{groupLimit, pairLimit};
 ghost use Rattle.bits.specs.Bits.{bit};
 ghost use Rattle.ties.specs.TieArrays.{inUse, grouped, meets, under, HasNumbered, AddsNumbered, Marks, Widened, LeadsTo, ClosesCircle};
 ghost use Rattle.ties.specs.TieEdits.{MaskChanged, OwnChanged, SlotGiven};
+ghost use Rattle.ties.specs.TieJoins.{joinsBy, joinsAt};
 
 // The holder number of slot q: 0, which is no group's, where there is no such slot.
 pub fn holder_at(slots: &[u64], q: usize) -> usize
@@ -68,7 +69,7 @@ pub fn is_under(ups: &[u64], m: u64, e: usize, k: usize) -> bool
 }
 
 // Whether the group of slot q is e, or has a tie up to a group of the mask m.
-fn joins(ups: &[u64], slots: &[u64], m: u64, e: usize, q: usize) -> bool
+fn slot_is_under(ups: &[u64], slots: &[u64], m: u64, e: usize, q: usize) -> bool
     ensures { λ r. ⌜ r ≡ (inUse (length (now (ups .entry))) (now (slots .entry)) q && under (now (ups .entry)) m e (getD (now (slots .entry)) q 0)) ⌝ }
 {
     if !in_use(slots, q, ups.len()) {
@@ -76,6 +77,24 @@ fn joins(ups: &[u64], slots: &[u64], m: u64, e: usize, q: usize) -> bool
     }
     let k = holder_at(slots, q);
     is_under(ups, m, e, k)
+}
+
+// The set joins that a holder takes with these ties up: one, and one for each of them.
+pub fn joins(up: u64) -> usize
+    ensures { λ r. ⌜ (r ≡ joinsBy up) × (r ≤ groupLimit + 1) ⌝ }
+{
+    1 + bits::ones(up)
+}
+
+// Those of holder k, if it is e or has a tie up to a group of the mask m; else none.
+pub fn joins_under(ups: &[u64], m: u64, e: usize, k: usize) -> usize
+    ensures { λ r. ⌜ (r ≡ joinsAt (now (ups .entry)) m e k) × (r ≤ groupLimit + 1) ⌝ }
+{
+    if !is_under(ups, m, e, k) {
+        return 0;
+    }
+    let up = ties_up(ups, k);
+    joins(up)
 }
 
 // The mask with slot q, if that has a number.
@@ -118,7 +137,7 @@ fn widened(ups: &[u64], slots: &[u64], used: u64, m: u64, e: usize) -> u64
     let mut left = still_left(used, 0, m);
     while left != 0 {
         let q = bits::lowest(left);
-        if joins(ups, slots, next, e, q) {
+        if slot_is_under(ups, slots, next, e, q) {
             next = bits::with(next, q);
         }
         left = bits::without(left, q);
@@ -135,7 +154,7 @@ fn widened_down(ups: &[u64], slots: &[u64], m: u64, e: usize) -> u64
     let mut q = slots.len();
     while q > 0 {
         q -= 1;
-        if joins(ups, slots, next, e, q) {
+        if slot_is_under(ups, slots, next, e, q) {
             next = bits::with(next, q);
         }
     }

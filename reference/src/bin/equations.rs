@@ -8,8 +8,20 @@ use std::path::{Path, PathBuf};
 /// Sessions to a module, and the longest input that the prover computes in reasonable time.
 const TO_A_MODULE: usize = 60;
 const LONGEST: usize = 4000;
-/// A session that takes more steps than the prover gives one equation: its set goes through 64 groups one above another.
-const TOO_DEEP: &str = "chain-of-64-groups.in";
+/// Sessions that are left out, as they take more steps than the prover gives one equation: a set goes through 64 groups one
+/// above another; the lowest of twenty diamonds is reached on a million paths; for the joins of each edit every one of many
+/// holders is asked whether it is below, and for its ties up.
+const TOO_MANY_STEPS: [&str; 9] = [
+    "chain-of-64-groups.in",
+    "joins-of-twenty-diamonds.in",
+    "joins-of-a-user-in-64-groups.in",
+    "joins-of-an-object-in-64-groups.in",
+    "joins-printed-99-100-and-101.in",
+    "seed-5.in",
+    "seed-25.in",
+    "seed-35.in",
+    "seed-45.in",
+];
 
 const HEADER: &str = "-- Sessions of the conformance kit.
 use mathlib.Core.Path.{_≡_, refl}
@@ -69,7 +81,8 @@ fn main() -> io::Result<()> {
     let mut chosen = Vec::new();
     let all = inputs(Path::new(kit))?;
     for input in &all {
-        if fs::metadata(input)?.len() <= LONGEST as u64 && !input.ends_with(TOO_DEEP) {
+        let short = fs::metadata(input)?.len() <= LONGEST as u64;
+        if short && !TOO_MANY_STEPS.iter().any(|name| input.ends_with(name)) {
             chosen.push(input);
         }
     }

@@ -1,5 +1,5 @@
 //! Writes the conformance kit into the folder named, after holding both
-//! engines to every typed answer.
+//! engines to the typed answers.
 
 use reference::kit;
 use std::path::Path;

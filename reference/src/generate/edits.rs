@@ -39,6 +39,18 @@ impl<'w> Editor<'w> {
         whole(b'+', &line)
     }
 
+    /// Takes this line if it probably stands, and adds it if not.
+    pub fn turn(&mut self, line: Vec<u8>) -> Vec<u8> {
+        match self.standing.iter().position(|one| *one == line) {
+            Some(place) => whole(b'-', &self.standing.swap_remove(place)),
+            None => {
+                let edit = whole(b'+', &line);
+                self.standing.push(line);
+                edit
+            }
+        }
+    }
+
     /// An edit with something wrong, or again what stands or does not stand.
     pub fn flawed(&mut self, rng: &mut Rng) -> Vec<u8> {
         let sign = *rng.pick(b"+-");

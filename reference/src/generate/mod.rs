@@ -6,6 +6,7 @@ mod causes;
 mod damage;
 mod edits;
 mod files;
+mod joins;
 mod lengths;
 mod lines;
 mod plan;
@@ -48,12 +49,17 @@ const OUTGROWING_EVERY: u64 = 250;
 /// the seed, so that all other seeds keep their sessions.
 const CAUSES_EVERY: u64 = 10;
 
+/// One in so many of the others gives edits with much below them.
+const JOINS_EVERY: u64 = 5;
+
 impl Episode {
     fn of_seed(seed: u64, rng: &mut Rng) -> Episode {
         if seed.is_multiple_of(OUTGROWING_EVERY) {
             Episode::outgrowing(rng)
         } else if seed.is_multiple_of(CAUSES_EVERY) {
             Episode::causes(rng)
+        } else if seed.is_multiple_of(JOINS_EVERY) {
+            Episode::joins(rng)
         } else {
             Episode::new(rng)
         }
@@ -105,6 +111,14 @@ impl Episode {
         let (plan, file) = with_file(causes::plan(rng));
         let count = rng.between(8, 24);
         Episode::fill(rng, &plan, file, count)
+    }
+
+    fn joins(rng: &mut Rng) -> Episode {
+        let (plan, file) = with_file(joins::plan(rng));
+        let mut editor = Editor::new(&plan);
+        let edits = rng.between(6, 18);
+        let calls = (0..edits).map(|_| Call::Edit(joins::edit(rng, &plan, &mut editor))).collect();
+        Episode { file, calls }
     }
 
     fn fill(rng: &mut Rng, plan: &Plan, file: Vec<u8>, count: usize) -> Episode {

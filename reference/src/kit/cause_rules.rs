@@ -166,22 +166,23 @@ fn edited(kit: &mut Kit) {
     let pass = tried(PASS);
     let file = format!("{BOOK}rule=pass,user.n = object.n\nend=\n");
     let lines = format!("{pass}+value=t,n,2\n{pass}+value=t,n,1\n{pass}-value=t,n,2\n-value=t,n,1\n{pass}");
-    let answers = "load=0,18 try=undefined,absent edit=0,1 try=deny edit=0,1 try=permit,0 \
-                   edit=0,1 edit=0,1 try=undefined,absent";
+    let answers = "load=0,18 try=undefined,absent edit=0,1,1 try=deny edit=0,1,1 try=permit,0 \
+                   edit=0,1,1 edit=0,1,1 try=undefined,absent";
     kit.case("cause-edited-from-absent-to-permit", format!("{file}{lines}"), answers);
     let file = format!("{BOOK}rule=pass,user.s = object.n\nend=\n");
     let lines = format!(
         "{pass}+value=area,n,1\n{pass}+member=t,area\n{pass}+value=t,n,1\n{pass}-member=t,area\n{pass}\
          -value=t,n,1\n{pass}"
     );
-    let answers = "load=0,18 try=undefined,absent edit=0,1 try=undefined,absent edit=0,1 \
-                   try=undefined,unlike edit=0,0 try=undefined,unlike edit=0,0 try=undefined,unlike \
-                   edit=0,1 try=undefined,absent";
+    let answers = "load=0,18 try=undefined,absent edit=0,1,1 try=undefined,absent edit=0,1,2 \
+                   try=undefined,unlike edit=0,0,2 try=undefined,unlike edit=0,0,1 try=undefined,unlike \
+                   edit=0,1,1 try=undefined,absent";
     kit.case("cause-edited-from-absent-to-unlike", format!("{file}{lines}"), answers);
     let admin = "rights=1\nattr=admin,n,int\nop=o\natom=admin.n,1\nuser=u\nobject=t\nrule=o,admin.n\nend=\n";
     let pass = "try=01010200000000000000\n";
     let lines = format!("{pass}+value=admin,n,1\n{pass}-value=admin,n,1\n{pass}");
-    let answers = "load=0,7 try=undefined,absent edit=0,1 try=undefined,unlike edit=0,1 try=undefined,absent";
+    let answers =
+        "load=0,7 try=undefined,absent edit=0,1,1 try=undefined,unlike edit=0,1,1 try=undefined,absent";
     kit.case("cause-edited-admin", format!("{admin}{lines}"), answers);
 }
 
@@ -211,7 +212,7 @@ fn requests(kit: &mut Kit) {
     ];
     let (before, after) = ("words=8:3", "words=8:3,12:8");
     let answers = format!(
-        "load=0,19 {before} try=undefined,absent {before} try=undefined,unlike {before} edit=0,1 {after} \
+        "load=0,19 {before} try=undefined,absent {before} try=undefined,unlike {before} edit=0,1,1 {after} \
          try=undefined,unlike {after} try=refused,15 {after}"
     );
     list(kit, "cause-of-requests", "1024", &calls, &answers);

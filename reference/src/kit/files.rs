@@ -58,7 +58,7 @@ fn length(kit: &mut Kit) {
     kit.case("bytes-32768", &fits, &format!("load=0,{}", line_count(&fits)));
     kit.case("bytes-32769", file_of(32_769), "load=2,0");
     let over = file_of(32_769) + "end=\n+parent=admin,admin\ntry=01\n";
-    kit.case("bytes-32769-then-end", over, "load=2,0 edit=9,0 try=refused,15");
+    kit.case("bytes-32769-then-end", over, "load=2,0 edit=9,0,0 try=refused,15");
 }
 
 fn frame(kit: &mut Kit) {

@@ -109,11 +109,11 @@ fn valley_file(kit: &mut Kit) {
     let mut told = Told::new();
     told.load(&valley(), VALLEY_BYTES, VALLEY_WORDS);
     let words = "4:5,8:a,12:10,16:a,20:10";
-    told.take(("parent=season,day", 18), 2, words);
+    told.take(("parent=season,day", 18), (2, 3), words);
     told.written(&valley_text().replace("parent=season,day\n", ""));
-    told.add(("value=g2,zone,2", 16), 0, words);
-    told.add(("parent=season,day", 18), 2, VALLEY_WORDS);
-    told.take(("value=upper,zone,2", 19), 1, "4:5,8:f,16:f,20:10");
+    told.add(("value=g2,zone,2", 16), (0, 2), words);
+    told.add(("parent=season,day", 18), (2, 4), VALLEY_WORDS);
+    told.take(("value=upper,zone,2", 19), (1, 3), "4:5,8:f,16:f,20:10");
     told.written(&valley_text().replace("value=upper,zone,2", "value=g2,zone,2"));
     told.done(kit, "length-of-the-valley-file-edited");
 }
@@ -128,12 +128,12 @@ fn other_calls(kit: &mut Kit) {
     told.list.request(PERMITTED, "try=permit,0");
     told.list.request("00", "try=refused,15");
     told.written(&valley_text());
-    told.take(("value=season,zone,2", 20), 2, "4:5,8:7,12:10,16:7,20:10");
+    told.take(("value=season,zone,2", 20), (2, 4), "4:5,8:7,12:10,16:7,20:10");
     told.list.request(PERMITTED, "try=undefined,absent");
     told.ask();
     told.list.unwritten(100, 0);
     told.ask();
-    told.add(("value=season,zone,2", 20), 2, VALLEY_WORDS);
+    told.add(("value=season,zone,2", 20), (2, 4), VALLEY_WORDS);
     told.list.request(PERMITTED, "try=permit,0");
     told.written(&valley_text());
     told.done(kit, "length-between-other-calls");
@@ -164,17 +164,24 @@ const LINKS: [Counted; 14] = [
     ("member=turnstile_01,lower_slopes", 33),
 ];
 
+/// The joins of each when it is added and those behind it stand, and when it is
+/// taken and these are left. Of the last parent line of a, with bc, u and
+/// season_guest below it: 3 for a with two parents, 3 for bc, 4 for u, 3 for
+/// season_guest; 2 for a when it is taken.
+const ADDED: [usize; 14] = [13, 12, 7, 6, 9, 7, 4, 3, 2, 3, 2, 3, 2, 2];
+const TAKEN: [usize; 14] = [12, 11, 6, 5, 8, 6, 3, 2, 1, 2, 1, 2, 1, 1];
+
 fn edits(kit: &mut Kit) {
     kit.says("An accepted edit makes the text longer or shorter by just its line, without the sign; whether sets change by it is no matter.");
     let all = [&HOLDERS[..], &LINKS].concat();
     let mut told = Told::new();
     told.load_lines(&HOLDERS);
-    for line in LINKS.into_iter().rev() {
-        told.add(line, 0, "");
+    for (line, joins) in LINKS.into_iter().zip(ADDED).rev() {
+        told.add(line, (0, joins), "");
     }
     told.written(&file(&all));
-    for line in LINKS {
-        told.take(line, 0, "");
+    for (line, joins) in LINKS.into_iter().zip(TAKEN) {
+        told.take(line, (0, joins), "");
     }
     told.written(&file(&HOLDERS));
     told.done(kit, "length-of-parent-and-member-lines-of-edits");
@@ -184,9 +191,9 @@ fn edits(kit: &mut Kit) {
     told.done(kit, "length-of-parent-and-member-lines-of-a-file");
     let mut told = Told::new();
     told.load(&file(&[("ugroup=ab", 10), ("ugroup=twelve_bytes", 20)]), 39, "");
-    told.add(("parent=ab,twelve_bytes", 23), 0, "");
-    told.take(("parent=ab,twelve_bytes", 23), 0, "");
-    told.add(("parent=twelve_bytes,ab", 23), 0, "");
+    told.add(("parent=ab,twelve_bytes", 23), (0, 2), "");
+    told.take(("parent=ab,twelve_bytes", 23), (0, 1), "");
+    told.add(("parent=twelve_bytes,ab", 23), (0, 2), "");
     told.written("rights=1\nugroup=ab\nugroup=twelve_bytes\nparent=twelve_bytes,ab\n");
     told.done(kit, "length-of-a-tie-turned-round");
 }
@@ -230,12 +237,12 @@ fn last_numbers(kit: &mut Kit) {
         + (255 * 7 + 9 + 90 * 2 + 156 * 3);
     let mut told = Told::new();
     told.load(&declared, length, "");
-    told.add(("value=p255,n31,255", 19), 1, "1023:8000000000000000");
-    told.add(("value=p1,n31,0", 15), 1, "4:1,1023:8000000000000000");
-    told.add(("value=p255,n31,63", 18), 1, "4:1,1020:8000000000000000,1023:8000000000000000");
-    told.add(("value=p255,n31,64", 18), 1, "4:1,1020:8000000000000000,1021:1,1023:8000000000000000");
+    told.add(("value=p255,n31,255", 19), (1, 1), "1023:8000000000000000");
+    told.add(("value=p1,n31,0", 15), (1, 1), "4:1,1023:8000000000000000");
+    told.add(("value=p255,n31,63", 18), (1, 1), "4:1,1020:8000000000000000,1023:8000000000000000");
+    told.add(("value=p255,n31,64", 18), (1, 1), "4:1,1020:8000000000000000,1021:1,1023:8000000000000000");
     let words = "4:1,514:8000000000000000,1020:8000000000000000,1021:1,1023:8000000000000000";
-    told.add(("value=p128,n31,191", 19), 1, words);
+    told.add(("value=p128,n31,191", 19), (1, 1), words);
     let values =
         "value=p1,n31,0\nvalue=p128,n31,191\nvalue=p255,n31,63\nvalue=p255,n31,64\nvalue=p255,n31,255\n";
     told.written(&format!("{declared}{values}"));
@@ -252,16 +259,16 @@ fn last_groups(kit: &mut Kit) {
     let length = FIRST_LINE + 2 * (32 * 9 + 10 + 22 * 2) + (95 * 7 + 10 + 85 * 2) + (96 * 9 + 10 + 86 * 2);
     let mut told = Told::new();
     told.load(&declared, length, "");
-    told.add(("member=t95,h31", 15), 0, "");
-    told.add(("member=u0,g31", 14), 0, "");
-    told.add(("parent=h31,h0", 14), 0, "");
-    told.add(("parent=g0,g31", 14), 0, "");
-    told.add(("member=t0,h0", 13), 0, "");
-    told.add(("member=u94,g0", 14), 0, "");
+    told.add(("member=t95,h31", 15), (0, 2), "");
+    told.add(("member=u0,g31", 14), (0, 2), "");
+    told.add(("parent=h31,h0", 14), (0, 4), "");
+    told.add(("parent=g0,g31", 14), (0, 2), "");
+    told.add(("member=t0,h0", 13), (0, 2), "");
+    told.add(("member=u94,g0", 14), (0, 2), "");
     let parents = "parent=g0,g31\nparent=h31,h0\n";
     let members = "member=u0,g31\nmember=u94,g0\nmember=t0,h0\nmember=t95,h31\n";
     told.written(&format!("{declared}{parents}{members}"));
-    told.take(("member=t95,h31", 15), 0, "");
+    told.take(("member=t95,h31", 15), (0, 1), "");
     told.done(kit, "length-of-last-groups-and-parties");
 }
 
@@ -278,8 +285,8 @@ fn equal_states(kit: &mut Kit) {
     told.load(&valley(), VALLEY_BYTES, VALLEY_WORDS);
     told.load(&format!("{declared}{rules}"), VALLEY_BYTES, VALLEY_WORDS);
     told.written(&valley_text());
-    told.take(("value=day,zone,1", 17), 3, "4:1,8:b,12:10,16:b,20:10");
-    told.add(("value=day,zone,1", 17), 3, VALLEY_WORDS);
+    told.take(("value=day,zone,1", 17), (3, 5), "4:1,8:b,12:10,16:b,20:10");
+    told.add(("value=day,zone,1", 17), (3, 5), VALLEY_WORDS);
     told.load(&valley_text(), VALLEY_BYTES, VALLEY_WORDS);
     told.done(kit, "length-of-two-files-of-one-state");
 }

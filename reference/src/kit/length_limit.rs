@@ -23,12 +23,24 @@ impl Groups {
         9 + 16 + 4 + 64 * 20 + self.filler + 33 * self.ties
     }
 
-    /// Line by line as the ties are written: 0 of group 0, 1 of group 1, 2 of group 2.
-    fn tie_lines() -> Vec<String> {
-        let of_child = |child: usize| {
-            (0..child).map(move |parent| format!("parent=lift_group{child:02},lift_group{parent:02}"))
-        };
+    /// Child and parent as the ties are written: 0 of group 0, 1 of group 1, 2 of group 2.
+    fn ties() -> Vec<(usize, usize)> {
+        let of_child = |child: usize| (0..child).map(move |parent| (child, parent));
         (0..64).flat_map(of_child).collect()
+    }
+
+    fn tie_lines() -> Vec<String> {
+        Groups::ties().into_iter().map(Groups::tie_line).collect()
+    }
+
+    fn tie_line((child, parent): (usize, usize)) -> String {
+        format!("parent=lift_group{child:02},lift_group{parent:02}")
+    }
+
+    /// The joins of adding a tie when those before it stand and none behind it: one
+    /// for the child, which has nobody below, and its parents 0 to this one.
+    fn joins_of_adding((_, parent): (usize, usize)) -> usize {
+        1 + (parent + 1)
     }
 
     fn text(&self) -> String {
@@ -46,8 +58,9 @@ impl Groups {
 
     /// Adds the next ties by edits up to this number of them.
     fn add_to(&mut self, told: &mut Told, ties: usize) {
-        for line in &Groups::tie_lines()[self.ties..ties] {
-            told.list.edit(&format!("+{line}"), 0, "");
+        for tie in &Groups::ties()[self.ties..ties] {
+            let line = Groups::tie_line(*tie);
+            told.list.edit(&format!("+{line}"), (0, Groups::joins_of_adding(*tie)), "");
         }
         told.length += 33 * (ties - self.ties);
         self.ties = ties;
@@ -62,10 +75,10 @@ fn fitting_text(kit: &mut Kit) {
     groups.add_to(&mut told, 953);
     told.list.length(32_768);
     told.list.unwritten(32_767, 0x77);
-    told.add(("parent=lift_group63,lift_group62", 33), 0, "");
+    told.add(("parent=lift_group63,lift_group62", 33), (0, 2), "");
     told.list.length(32_801);
     told.list.unwritten(100, 0x77);
-    told.take(("parent=lift_group63,lift_group62", 33), 0, "");
+    told.take(("parent=lift_group63,lift_group62", 33), (0, 1), "");
     told.list.write(32_768, 0x77, &groups.text());
     told.ask();
     told.done(kit, "length-32768-bytes");
@@ -99,8 +112,12 @@ fn longer_texts(kit: &mut Kit) {
         told.list.unwritten(100, 0x77);
         told.ask();
     }
-    for line in Groups::tie_lines().iter().rev().step_by(400) {
-        told.take((line, 33), 0, "");
+    // Ties of the groups 63, 57, 49, 40, 29 and 6. With all ties the groups from c on
+    // have c + 1 up to 64 joins, which is 2,080 less the sum of 1 to c; each tie
+    // taken by then is one less.
+    let joins = [64 - 1, 427 - 2, 855 - 3, 1_260 - 4, 1_645 - 5, 2_059 - 6];
+    for (line, joins) in Groups::tie_lines().iter().rev().step_by(400).zip(joins) {
+        told.take((line, 33), (0, joins), "");
     }
     told.done(kit, "length-over-65536-bytes");
 }
@@ -172,31 +189,32 @@ fn load_every_key(told: &mut Told) {
 /// Ties of each key one by one, by which the text gets too long. Of these the parent
 /// lines push all member, value and rule lines behind the first 32,768 bytes.
 fn add_to_every_key(told: &mut Told) {
-    told.add(("member=p17,lift_group45", 24), 1, "0:8,184:1,196:3,204:4");
+    told.add(("member=p17,lift_group45", 24), (1, 2), "0:8,184:1,196:3,204:4");
     told.list.length(32_766);
     let words = "0:8,184:1,196:3,200:1,204:4";
-    told.add(("value=season_guest,zone,10", 27), 1, words);
+    told.add(("value=season_guest,zone,10", 27), (1, 2), words);
     told.list.length(32_793);
-    for line in &Groups::tie_lines()[948..956] {
-        told.add((line, 33), 0, words);
+    for tie in &Groups::ties()[948..956] {
+        told.add((&Groups::tie_line(*tie), 33), (0, Groups::joins_of_adding(*tie)), words);
     }
     told.list.length(33_057);
-    told.add(("member=turnstile_01,lower_slopes", 33), 0, words);
-    told.add(("value=admin,open,FALSE", 23), 1, "0:18,184:1,196:3,200:1,204:4");
+    told.add(("member=turnstile_01,lower_slopes", 33), (0, 2), words);
+    told.add(("value=admin,open,FALSE", 23), (1, 1), "0:18,184:1,196:3,200:1,204:4");
     let words = "0:18,184:1,192:4,196:3,200:1,204:4,208:4";
-    told.add(("value=lower_slopes,kind,\"chair\"", 32), 2, words);
+    told.add(("value=lower_slopes,kind,\"chair\"", 32), (2, 4), words);
     told.list.length(33_145);
 }
 
 /// Ties of each key, the text being too long all the while.
 fn take_from_every_key(told: &mut Told) {
     let words = told.list.words.clone();
-    told.take(("parent=lift_group01,lift_group00", 33), 0, &words);
-    told.take(("parent=lower_slopes,upper", 26), 0, &words);
-    told.take(("member=season_guest,lift_group00", 33), 0, &words);
-    told.take(("member=g2,upper", 16), 0, &words);
-    told.take(("value=admin,open,TRUE", 22), 1, "0:10,184:1,192:4,196:3,200:1,204:4,208:4");
-    told.take(("value=lift_group45,zone,10", 27), 2, "0:10,192:4,196:2,200:1,204:4,208:4");
+    // One for group 01, 3 to 44 for groups 02 to 43, and 11 for group 44 with ten parents.
+    told.take(("parent=lift_group01,lift_group00", 33), (0, 1 + 987 + 11), &words);
+    told.take(("parent=lower_slopes,upper", 26), (0, 3), &words);
+    told.take(("member=season_guest,lift_group00", 33), (0, 1), &words);
+    told.take(("member=g2,upper", 16), (0, 1), &words);
+    told.take(("value=admin,open,TRUE", 22), (1, 1), "0:10,184:1,192:4,196:3,200:1,204:4,208:4");
+    told.take(("value=lift_group45,zone,10", 27), (2, 3), "0:10,192:4,196:2,200:1,204:4,208:4");
     told.list.length(32_988);
 }
 
@@ -210,8 +228,9 @@ fn every_key(kit: &mut Kit) {
     told.list.unwritten(100, 0x77);
     take_from_every_key(&mut told);
     told.list.unwritten(100, 0x77);
-    for line in parents[949..956].iter().rev() {
-        told.take((line, 33), 0, &told.list.words.clone());
+    // Parents 9 down to 3 of group 44, which keeps those before.
+    for (line, joins) in parents[949..956].iter().rev().zip([10, 9, 8, 7, 6, 5, 4]) {
+        told.take((line, 33), (0, joins), &told.list.words.clone());
     }
     told.list.length(32_757);
     told.list.write(told.length, 0x77, &every_key_text(&parents[1..949], &TIES_LEFT));

@@ -162,17 +162,17 @@ fn values(kit: &mut Kit) {
     told.load_lines(&declared);
     // u is holder 1: its pairs are the bits of word 4, from the lowest on.
     for (pair, line) in VALUES_OF_U.into_iter().enumerate() {
-        told.add(line, 1, &format!("4:{:x}", (2 << pair) - 1));
+        told.add(line, (1, 1), &format!("4:{:x}", (2 << pair) - 1));
     }
-    told.add(VALUE_OF_T, 1, "4:7ffffff,8:8000000");
-    told.add(VALUE_OF_ADMIN, 1, "0:10000000,4:7ffffff,8:8000000");
+    told.add(VALUE_OF_T, (1, 1), "4:7ffffff,8:8000000");
+    told.add(VALUE_OF_ADMIN, (1, 1), "0:10000000,4:7ffffff,8:8000000");
     told.written(&file(&[&declared[..], &[VALUE_OF_ADMIN], &VALUES_OF_U, &[VALUE_OF_T]].concat()));
-    told.take(VALUE_OF_T, 1, "0:10000000,4:7ffffff");
+    told.take(VALUE_OF_T, (1, 1), "0:10000000,4:7ffffff");
     for (pair, line) in VALUES_OF_U.into_iter().enumerate().rev() {
         let left = format!("0:10000000,4:{:x}", (1 << pair) - 1);
-        told.take(line, 1, left.trim_end_matches(",4:0"));
+        told.take(line, (1, 1), left.trim_end_matches(",4:0"));
     }
-    told.take(VALUE_OF_ADMIN, 1, "");
+    told.take(VALUE_OF_ADMIN, (1, 1), "");
     told.written(&file(&declared));
     told.done(kit, "length-of-value-lines");
     let long = [
@@ -186,11 +186,11 @@ fn values(kit: &mut Kit) {
     let member = ("member=season_guest,twelve_bytes", 33);
     let mut told = Told::new();
     told.load_lines(&long);
-    told.add(given, 1, "8:1");
-    told.add(member, 0, "8:1");
-    told.add(inherited, 1, "4:1,8:1");
+    told.add(given, (1, 1), "8:1");
+    told.add(member, (0, 2), "8:1");
+    told.add(inherited, (1, 3), "4:1,8:1");
     told.written(&file(&[&long[..], &[member, inherited, given]].concat()));
-    told.take(given, 0, "4:1,8:1");
+    told.take(given, (0, 2), "4:1,8:1");
     told.done(kit, "length-of-the-longest-tie-lines");
 }
 

@@ -40,12 +40,12 @@ fn words(kit: &mut Kit) {
     let answers = format!("{loaded} try=permit,0 words=4:5,8:f,12:10,16:f,20:10");
     list(kit, "words-after-a-request", "1024", &[load, request], &answers);
     let taken: (&str, &[u8]) = ("edit", b"-parent=season,day\n");
-    let answers = format!("{loaded} edit=0,2 words=4:5,8:a,12:10,16:a,20:10");
+    let answers = format!("{loaded} edit=0,2,3 words=4:5,8:a,12:10,16:a,20:10");
     list(kit, "words-after-an-edit", "1024", &[load, taken], &answers);
     let two: [(&str, &[u8]); 3] =
         [load, ("edit", b"+value=day,zone,2\n"), ("edit", b"-value=season,zone,2\n")];
     let same = "words=4:d,8:f,12:10,16:f,20:10";
-    list(kit, "words-of-case-g", "1024", &two, &format!("{loaded} edit=0,1 {same} edit=0,0 {same}"));
+    list(kit, "words-of-case-g", "1024", &two, &format!("{loaded} edit=0,1,5 {same} edit=0,0,4 {same}"));
     let refused: [(&str, &[u8]); 3] =
         [load, ("edit", b"+parent=day,season\n"), ("edit", b"-member=p17,day\n")];
     let same = "words=4:5,8:f,12:10,16:f,20:10";
@@ -54,9 +54,9 @@ fn words(kit: &mut Kit) {
         "words-after-refused-edits",
         "1024",
         &refused,
-        &format!("{loaded} edit=12,0 {same} edit=14,0 {same}"),
+        &format!("{loaded} edit=12,0,0 {same} edit=14,0,0 {same}"),
     );
-    let answers = format!("{loaded} edit=0,2 words=4:5,8:a,12:10,16:a,20:10 {loaded}");
+    let answers = format!("{loaded} edit=0,2,3 words=4:5,8:a,12:10,16:a,20:10 {loaded}");
     list(kit, "words-after-a-second-load", "1024", &[load, taken, load], &answers);
 }
 
@@ -69,8 +69,8 @@ fn places(kit: &mut Kit) {
     let edits: [(&str, &[u8]); 3] =
         [("load", file.as_bytes()), ("edit", b"+value=p1,n,128\n"), ("edit", b"-value=p255,n,63\n")];
     let answers = "load=0,517 words=1020:8000000000000001,1021:1,1023:8000000000000000 \
-                   edit=0,1 words=6:1,1020:8000000000000001,1021:1,1023:8000000000000000 \
-                   edit=0,1 words=6:1,1020:1,1021:1,1023:8000000000000000";
+                   edit=0,1,1 words=6:1,1020:8000000000000001,1021:1,1023:8000000000000000 \
+                   edit=0,1,1 words=6:1,1020:1,1021:1,1023:8000000000000000";
     list(kit, "places-of-first-and-last-pairs", "1024", &edits, answers);
     let admin: [(&str, &[u8]); 1] =
         [("load", b"rights=1\nattr=admin,n,int\natom=admin.n,1\natom=admin.n,2\nvalue=admin,n,2\n")];
@@ -90,7 +90,7 @@ fn table_length(kit: &mut Kit) {
     for (length, words) in [("0", ""), ("1", "0:7"), ("1023", "0:7"), ("1025", "1024:7"), ("4096", "4095:7")]
     {
         let table = [length, words].join(if words.is_empty() { "" } else { "," });
-        let answers = ["load=1,0", "load=1,0", "edit=1,0", "edit=1,0", "try=refused,1"]
+        let answers = ["load=1,0", "load=1,0", "edit=1,0,0", "edit=1,0,0", "try=refused,1"]
             .map(|answer| format!("{answer} words={words}"));
         list(kit, &format!("table-of-{length}-words"), &table, &calls, &answers.join(" "));
     }
@@ -106,8 +106,8 @@ fn refused_loads(kit: &mut Kit) {
         ("edit", b"+parent=admin,admin\n"),
         ("request", BLOCK),
     ];
-    let answers = "load=0,27 words=4:5,8:f,12:10,16:f,20:10 load=6,2 words= edit=8,0 words= \
-                   edit=9,0 words= try=refused,16 words=";
+    let answers = "load=0,27 words=4:5,8:f,12:10,16:f,20:10 load=6,2 words= edit=8,0,0 words= \
+                   edit=9,0,0 words= try=refused,16 words=";
     list(kit, "refused-load-after-a-good-one", "1024", &calls, answers);
     let empty: [(&str, &[u8]); 1] = [("load", b"")];
     list(kit, "refused-load-clears-a-table-in-use", "1024,0:1,1023:1", &empty, "load=3,1 words=");
@@ -133,7 +133,7 @@ fn edit_frames(kit: &mut Kit) {
     for (name, line) in cases {
         let calls: [(&str, &[u8]); 3] =
             [("load", DIAMOND.as_bytes()), ("edit", line), ("edit", b"+value=u,z,1\n")];
-        let answers = "load=0,23 words= edit=4,0 words= edit=0,1 words=28:1";
+        let answers = "load=0,23 words= edit=4,0,0 words= edit=0,1,2 words=28:1";
         list(kit, name, "1024", &calls, answers);
     }
 }

@@ -2,11 +2,14 @@
 
 use super::Kit;
 use crate::calls::hex;
+use std::ops::Range;
 
 /// A call list and what it prints, call by call.
 pub struct List {
     calls: String,
     answers: Vec<String>,
+    /// Edits that the ledger makes and does not answer.
+    unanswered: Range<usize>,
     /// The words that are not 0 by now.
     pub words: String,
 }
@@ -17,7 +20,8 @@ impl List {
     }
 
     pub fn on(table: &str, words: &str) -> List {
-        List { calls: format!("table={table}\n"), answers: Vec::new(), words: words.to_string() }
+        let calls = format!("table={table}\n");
+        List { calls, answers: Vec::new(), unanswered: 0..0, words: words.to_string() }
     }
 
     fn call(&mut self, call: String, answer: String) {
@@ -36,21 +40,28 @@ impl List {
         self.call(format!("load={}", hex(file.as_bytes())), answer.to_string());
     }
 
-    /// An accepted edit, the count and the words after it.
-    pub fn edit(&mut self, line: &str, count: usize, words: &str) {
+    /// An accepted edit, its count and joins, and the words after it.
+    pub fn edit(&mut self, line: &str, (count, joins): (usize, usize), words: &str) {
         self.words = words.to_string();
-        self.call(format!("edit={}0a", hex(line.as_bytes())), format!("edit=0,{count}"));
+        self.call(format!("edit={}0a", hex(line.as_bytes())), format!("edit=0,{count},{joins}"));
     }
 
-    /// Accepted edits that change no set.
-    pub fn edits(&mut self, lines: &[&str]) {
-        for line in lines {
-            self.edit(line, 0, &self.words.clone());
+    /// Accepted edits that change no set, each with its joins.
+    pub fn edits(&mut self, lines: &[(impl AsRef<str>, usize)]) {
+        for (line, joins) in lines {
+            self.edit(line.as_ref(), (0, *joins), &self.words.clone());
         }
     }
 
+    /// Such edits, once in a list, that are too many for the ledger to answer.
+    pub fn edits_unanswered_by_ledger(&mut self, lines: &[(impl AsRef<str>, usize)]) {
+        let first = self.answers.len();
+        self.edits(lines);
+        self.unanswered = first..self.answers.len();
+    }
+
     pub fn refused_edit(&mut self, line: &str, number: u8) {
-        self.call(format!("edit={}0a", hex(line.as_bytes())), format!("edit={number},0"));
+        self.call(format!("edit={}0a", hex(line.as_bytes())), format!("edit={number},0,0"));
     }
 
     pub fn request(&mut self, block: &str, answer: &str) {
@@ -78,6 +89,6 @@ impl List {
     }
 
     pub fn done(self, kit: &mut Kit, name: &str) {
-        kit.case(name, self.calls, &self.answers.join(" "));
+        kit.case_with_unanswered(name, self.calls, &self.answers.join(" "), self.unanswered);
     }
 }

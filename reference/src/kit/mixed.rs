@@ -6,7 +6,7 @@ use crate::generate::gate_input;
 use crate::line::pieces;
 use crate::office::{gate, split_at_end};
 
-const SESSIONS: usize = 24;
+const SESSIONS: usize = 28;
 const MOST_BYTES: usize = 2_500;
 const LEAST_LINES: usize = 8;
 

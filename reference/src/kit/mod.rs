@@ -1,13 +1,15 @@
 //! The conformance kit: sessions of the office program with the answers that
 //! document 01 gives them, and call lists. Every expected answer is typed from
 //! the paper, but for the folder `mixed`; `check` holds both engines to it before
-//! a file is written.
+//! a file is written. Of one call list the ledger answers a part.
 
 mod blocks;
 mod cause_rules;
 mod causes;
 mod edits;
 mod files;
+mod joins;
+mod joins_limit;
 mod length;
 mod length_limit;
 mod length_lines;
@@ -25,8 +27,10 @@ mod writer;
 pub use valley::valley as valley_file;
 
 use crate::calls;
+use crate::line::pieces;
 use crate::office::{gate, gate_by_ledger};
 use std::collections::BTreeSet;
+use std::ops::Range;
 
 /// One session of the kit.
 #[derive(Clone, Debug)]
@@ -38,6 +42,9 @@ pub struct Vector {
     pub sentence: String,
     pub input: Vec<u8>,
     pub expected: Vec<u8>,
+    /// Edits of a call list that the ledger makes and does not answer, by their places
+    /// among the calls: too many for it. No write stands before them.
+    pub unanswered: Range<usize>,
 }
 
 impl Vector {
@@ -47,8 +54,21 @@ impl Vector {
             return [gate(&self.input), gate_by_ledger(&self.input)];
         }
         let no_list = |line: usize| format!("line {line} is not of a call list").into_bytes();
-        [calls::run(&self.input), calls::run_by_ledger(&self.input)]
+        [calls::run(&self.input), calls::run_by_ledger_without(&self.input, &self.unanswered)]
             .map(|output| output.unwrap_or_else(no_list))
+    }
+
+    /// What each engine must print, and what it prints.
+    fn typed_and_printed(&self) -> [(Vec<u8>, Vec<u8>); 2] {
+        let [by_table, by_ledger] = self.outputs();
+        [(self.expected.clone(), by_table), (self.expected_of_ledger(), by_ledger)]
+    }
+
+    /// What the ledger must print: two lines for each call that it answers.
+    fn expected_of_ledger(&self) -> Vec<u8> {
+        let lines = pieces(&self.expected).enumerate();
+        let answered = lines.filter(|(place, _)| !self.unanswered.contains(&(place / 2)));
+        answered.flat_map(|(_, line)| line.iter().copied()).collect()
     }
 }
 
@@ -71,6 +91,17 @@ impl Kit {
 
     /// A session: the whole input and its answers, parted by spaces.
     pub fn case(&mut self, name: &str, input: impl AsRef<[u8]>, answers: &str) {
+        self.case_with_unanswered(name, input, answers, 0..0);
+    }
+
+    /// A call list and its answers, some of which the ledger does not give.
+    fn case_with_unanswered(
+        &mut self,
+        name: &str,
+        input: impl AsRef<[u8]>,
+        answers: &str,
+        unanswered: Range<usize>,
+    ) {
         let expected: String = answers.split(' ').map(|one| format!("{one}\n")).collect();
         self.vectors.push(Vector {
             folder: self.folder,
@@ -78,6 +109,7 @@ impl Kit {
             sentence: self.sentence.clone(),
             input: input.as_ref().to_vec(),
             expected: expected.into_bytes(),
+            unanswered,
         });
     }
 
@@ -95,7 +127,9 @@ pub fn all() -> Vec<Vector> {
     let kits = [
         files::kit(),
         sets::kit(),
+        joins::sets(),
         edits::kit(),
+        joins::kit(),
         policies::kit(),
         causes::kit(),
         blocks::kit(),
@@ -103,17 +137,20 @@ pub fn all() -> Vec<Vector> {
         numbers::kit(),
         office::kit(),
         cause_rules::office(),
+        joins::office(),
         valley::kit(),
         library::kit(),
         writer::kit(),
         length::kit(),
         cause_rules::calls(),
+        joins::calls(),
         mixed::kit(),
     ];
     kits.into_iter().flat_map(|kit| kit.vectors).collect()
 }
 
-/// Holds both engines to the typed answers. The error names each difference.
+/// Holds both engines to the typed answers, the ledger but for those that it does not
+/// give. The error names each difference.
 pub fn check(vectors: &[Vector]) -> Result<(), String> {
     let mut wrong = String::new();
     let mut names = BTreeSet::new();
@@ -121,9 +158,9 @@ pub fn check(vectors: &[Vector]) -> Result<(), String> {
         if !names.insert((one.folder, &one.name)) {
             wrong += &format!("{}/{}: two vectors have this name\n", one.folder, one.name);
         }
-        for output in one.outputs() {
-            if output != one.expected {
-                let (paper, given) = (lossy(&one.expected), lossy(&output));
+        for (expected, output) in one.typed_and_printed() {
+            if output != expected {
+                let (paper, given) = (lossy(&expected), lossy(&output));
                 let name = format!("{}/{}", one.folder, one.name);
                 wrong += &format!("{name}: paper {paper:?}, reference {given:?}\n");
             }

@@ -85,10 +85,10 @@ fn edits(kit: &mut Kit) {
     ];
     for (name, line, number) in cases {
         let input = format!("{DIAMOND}end=\n{line}\n");
-        kit.case(name, input, &format!("load=0,23 edit={number},0"));
+        kit.case(name, input, &format!("load=0,23 edit={number},0,0"));
     }
     let long = format!("{DIAMOND}end=\n+op={}\n", "a".repeat(253));
-    kit.case("edit-4-before-13", long, "load=0,23 edit=4,0");
+    kit.case("edit-4-before-13", long, "load=0,23 edit=4,0,0");
 }
 
 fn after_refusal(kit: &mut Kit) {
@@ -109,7 +109,7 @@ fn after_refusal(kit: &mut Kit) {
     ];
     for (number, file, line) in files {
         let input = format!("{file}end=\n+value=u,i,1\n+parent=admin,admin\ntry=01020300000000000000\n");
-        let answers = format!("load={number},{line} edit=8,0 edit=9,0 try=refused,16");
+        let answers = format!("load={number},{line} edit=8,0,0 edit=9,0,0 try=refused,16");
         kit.case(&format!("empty-book-after-{number}"), input, &answers);
     }
 }

@@ -21,7 +21,7 @@ fn end(kit: &mut Kit) {
     kit.case("end-first", "end=\n", "load=3,1");
     kit.case("end-behind-one-line", "rights=1\nend=\n", "load=0,1");
     kit.case("end-behind-a-bad-file", "x\nend=\ntry=\n", "load=3,1 try=refused,15");
-    kit.case("end-behind-a-line-without-equals", "rights=1\nx\nend=\n+\n", "load=4,2 edit=4,0");
+    kit.case("end-behind-a-line-without-equals", "rights=1\nx\nend=\n+\n", "load=4,2 edit=4,0,0");
     kit.case("end-with-text", "rights=1\nend=x\ntry=\n", "load=4,2");
     kit.case("end-with-space", "rights=1\nend= \ntry=\n", "load=4,2");
     kit.case("end-with-cr", "rights=1\nend=\r\ntry=\n", "load=4,2");
@@ -87,21 +87,25 @@ fn other_lines(kit: &mut Kit) {
     }
     kit.case("other-long", format!("rights=1\nend=\n{}\n", "x".repeat(400)), "load=0,1 bad=");
     kit.case("other-several", "rights=1\nend=\n\n\nx\n\n", "load=0,1 bad= bad= bad= bad=");
-    kit.case("other-between", "rights=1\nend=\ntry=\nx\n+\n", "load=0,1 try=refused,15 bad= edit=4,0");
+    kit.case("other-between", "rights=1\nend=\ntry=\nx\n+\n", "load=0,1 try=refused,15 bad= edit=4,0,0");
 }
 
 fn edit_lines(kit: &mut Kit) {
     kit.says(
-        "\"edit lines (those that begin with `+` or `-`)\" and \"`edit=` number, count (0 if refused)\"",
+        "\"edit lines (those that begin with `+` or `-`)\" and \"`edit=` number, count (0 if refused)\", with the joins of document 02, E3, behind the count.",
     );
-    kit.case("edit-sign-alone", "rights=1\nend=\n+\n-\n", "load=0,1 edit=4,0 edit=4,0");
+    kit.case("edit-sign-alone", "rights=1\nend=\n+\n-\n", "load=0,1 edit=4,0,0 edit=4,0,0");
     kit.case(
         "edit-cr-lf",
         "rights=1\nugroup=a\nugroup=b\nend=\n+parent=a,b\r\n+parent=a,b\n",
-        "load=0,3 edit=6,0 edit=0,0",
+        "load=0,3 edit=6,0,0 edit=0,0,2",
     );
-    kit.case("edit-nul", "rights=1\nugroup=a\nugroup=b\nend=\n+parent=a,b\0\n", "load=0,3 edit=6,0");
-    kit.case("edit-too-long", format!("rights=1\nend=\n+parent={}\n", "a".repeat(300)), "load=0,1 edit=4,0");
+    kit.case("edit-nul", "rights=1\nugroup=a\nugroup=b\nend=\n+parent=a,b\0\n", "load=0,3 edit=6,0,0");
+    kit.case(
+        "edit-too-long",
+        format!("rights=1\nend=\n+parent={}\n", "a".repeat(300)),
+        "load=0,1 edit=4,0,0",
+    );
 }
 
 fn last_lines(kit: &mut Kit) {
@@ -112,13 +116,13 @@ fn last_lines(kit: &mut Kit) {
     kit.case("last-try", "rights=1\nend=\ntry=01", "load=0,1 try=refused,15");
     kit.case("last-try-no-pairs", "rights=1\nend=\ntry=", "load=0,1 try=refused,15");
     kit.case("last-try-bad", "rights=1\nend=\ntry=0", "load=0,1 bad=");
-    kit.case("last-edit", "rights=1\nugroup=a\nugroup=b\nend=\n+parent=a,b", "load=0,3 edit=4,0");
+    kit.case("last-edit", "rights=1\nugroup=a\nugroup=b\nend=\n+parent=a,b", "load=0,3 edit=4,0,0");
     kit.case(
         "last-edit-taking",
         "rights=1\nugroup=a\nugroup=b\nparent=a,b\nend=\n-parent=a,b",
-        "load=0,4 edit=4,0",
+        "load=0,4 edit=4,0,0",
     );
-    kit.case("last-edit-sign", "rights=1\nend=\n-", "load=0,1 edit=4,0");
+    kit.case("last-edit-sign", "rights=1\nend=\n-", "load=0,1 edit=4,0,0");
     kit.case("last-other", "rights=1\nend=\nx", "load=0,1 bad=");
     kit.case("last-end-again", "rights=1\nend=\nend=", "load=0,1 bad=");
 }
@@ -128,7 +132,8 @@ fn goes_on(kit: &mut Kit) {
     let lines = "end=\n+parent=day,season\n+parent=admin,admin\n-parent=day,day\n+rule=pass,TRUE\n+x\n\
                  +value=day,zone,\ntry=01040500030000000000\ntry=01000000000000000000\ntry=02\n";
     let input = format!("{}{lines}", valley().replacen("op=pass", "op=Pass", 1));
-    let answers = "load=6,7 edit=8,0 edit=9,0 edit=8,0 edit=13,0 edit=4,0 edit=6,0 try=refused,16 \
+    let answers =
+        "load=6,7 edit=8,0,0 edit=9,0,0 edit=8,0,0 edit=13,0,0 edit=4,0,0 edit=6,0,0 try=refused,16 \
                    try=refused,16 try=refused,15";
     kit.case("refused-load", input, answers);
 }
@@ -148,5 +153,5 @@ fn sizes(kit: &mut Kit) {
     kit.case("file-of-32768-bytes-then-end", fits, &format!("load=0,{lines} try=refused,16"));
     kit.case("no-end-32769-bytes", file_of(32_769), "load=2,0");
     let late_end = format!("{}end=\ntry=\n+\n", "x\n".repeat(20_000));
-    kit.case("end-behind-40000-bytes", late_end, "load=2,0 try=refused,15 edit=4,0");
+    kit.case("end-behind-40000-bytes", late_end, "load=2,0 try=refused,15 edit=4,0,0");
 }

@@ -48,26 +48,26 @@ fn after(kit: &mut Kit, name: &str, lines: &str, answers: &str) {
 
 fn diamond(kit: &mut Kit) {
     kit.says("\"effective(h): its own direct pairs together with those inherited from each parent (a group) or each group it is a member of (a user or object)\"");
-    after(kit, "value-on-top-reaches-all-below", "+value=top,z,1\n", "edit=0,5");
-    after(kit, "value-on-user", "+value=u,z,1\n", "edit=0,1");
-    after(kit, "value-on-group-of-objects", "+value=area,z,1\n", "edit=0,2");
+    after(kit, "value-on-top-reaches-all-below", "+value=top,z,1\n", "edit=0,5,10");
+    after(kit, "value-on-user", "+value=u,z,1\n", "edit=0,1,2");
+    after(kit, "value-on-group-of-objects", "+value=area,z,1\n", "edit=0,2,3");
     after(
         kit,
         "one-side-of-a-diamond-taken",
         "+value=top,z,1\n-parent=low,left\n-parent=low,right\n+parent=low,left\n",
-        "edit=0,5 edit=0,0 edit=0,2 edit=0,2",
+        "edit=0,5,10 edit=0,0,4 edit=0,2,3 edit=0,2,4",
     );
     after(
         kit,
         "value-by-two-paths-taken",
         "+value=top,z,1\n+value=low,z,1\n-value=top,z,1\n-value=low,z,1\n",
-        "edit=0,5 edit=0,0 edit=0,3 edit=0,2",
+        "edit=0,5,10 edit=0,0,5 edit=0,3,10 edit=0,2,5",
     );
     after(
         kit,
         "own-and-inherited-values",
         "+value=u,z,2\n+value=top,z,1\n-value=u,z,2\n+value=top,z,2\n",
-        "edit=0,1 edit=0,5 edit=0,1 edit=0,5",
+        "edit=0,1,2 edit=0,5,10 edit=0,1,2 edit=0,5,10",
     );
 }
 
@@ -77,26 +77,26 @@ fn walk(kit: &mut Kit) {
         kit,
         "unchanged-group-on-one-path",
         "+member=v,right\n+value=left,z,1\n+value=top,z,1\n-value=top,z,1\n",
-        "edit=0,0 edit=0,3 edit=0,3 edit=0,3",
+        "edit=0,0,2 edit=0,3,7 edit=0,3,12 edit=0,3,12",
     );
     after(
         kit,
         "unchanged-group-right-below",
         "+value=left,z,1\n+value=right,z,1\n+value=top,z,1\n-value=left,z,1\n-value=right,z,1\n-value=top,z,1\n",
-        "edit=0,3 edit=0,1 edit=0,1 edit=0,0 edit=0,0 edit=0,5",
+        "edit=0,3,7 edit=0,1,7 edit=0,1,10 edit=0,0,7 edit=0,0,7 edit=0,5,10",
     );
     after(
         kit,
         "tie-turned-round",
         "+parent=right,left\n-parent=right,left\n+parent=left,right\n-parent=left,top\n+value=top,z,1\n-value=top,z,1\n",
-        "edit=0,0 edit=0,0 edit=0,0 edit=0,0 edit=0,5 edit=0,5",
+        "edit=0,0,8 edit=0,0,7 edit=0,0,8 edit=0,0,7 edit=0,5,10 edit=0,5,10",
     );
     kit.says("\"Holder g is above h when a chain of ties leads from h up to g\"");
     after(
         kit,
         "groups-joined-by-an-edit",
         "+value=low,z,1\n+member=v,alone\n+parent=alone,low\n-member=v,alone\n-parent=alone,low\n",
-        "edit=0,2 edit=0,0 edit=0,2 edit=0,1 edit=0,1",
+        "edit=0,2,5 edit=0,0,2 edit=0,2,4 edit=0,1,1 edit=0,1,1",
     );
 }
 
@@ -106,13 +106,13 @@ fn read_by_blocks(kit: &mut Kit) {
         kit,
         "blocks-between-edits",
         &format!("{TRY}+value=top,z,1\n{TRY}+value=area,z,1\n{TRY}-value=top,z,1\n{TRY}"),
-        "try=refused,17 edit=0,5 try=undefined,absent edit=0,2 try=permit,0 edit=0,5 try=refused,17",
+        "try=refused,17 edit=0,5,10 try=undefined,absent edit=0,2,3 try=permit,0 edit=0,5,10 try=refused,17",
     );
     after(
         kit,
         "second-value-then-first-taken",
         &format!("+value=area,z,1\n+value=u,z,2\n{TRY}+value=left,z,1\n{TRY}-value=u,z,2\n{TRY}"),
-        "edit=0,2 edit=0,1 try=deny edit=0,3 try=permit,0 edit=0,1 try=permit,0",
+        "edit=0,2,3 edit=0,1,2 try=deny edit=0,3,7 try=permit,0 edit=0,1,2 try=permit,0",
     );
     kit.says("\"`object.` and `admin.` read those holders' sets\": admin has a set of its own, holder 0.");
     let admin = "rights=1\nattr=admin,open,bool\nop=o\natom=admin.open,TRUE\natom=admin.open,FALSE\n\
@@ -124,7 +124,7 @@ fn read_by_blocks(kit: &mut Kit) {
     kit.case(
         "admin-values",
         format!("{admin}{lines}"),
-        "load=0,9 try=deny edit=0,1 try=permit,0 edit=0,1 edit=0,1 try=undefined,absent",
+        "load=0,9 try=deny edit=0,1,1 try=permit,0 edit=0,1,1 edit=0,1,1 try=undefined,absent",
     );
 }
 
@@ -139,7 +139,7 @@ fn large(kit: &mut Kit) {
     kit.case(
         "chain-of-64-groups",
         format!("{file}{lines}"),
-        "load=0,135 edit=0,65 try=permit,0 edit=12,0 edit=0,33 try=refused,17 edit=0,0",
+        "load=0,135 edit=0,65,129 try=permit,0 edit=12,0,0 edit=0,33,65 try=refused,17 edit=0,0,64",
     );
     kit.says("\"Holder k's stored set is the four words from word 4k; pair p is bit p modulo 64 (0 lowest) of word p/64\"; holders and pairs to the last number.");
     let pairs: String = (0..256).map(|value| format!("atom=user.n,{value}\n")).collect();
@@ -154,6 +154,6 @@ fn large(kit: &mut Kit) {
     kit.case(
         "all-holders-and-pairs",
         format!("{file}{lines}"),
-        "load=0,768 edit=0,254 edit=0,254 try=deny edit=0,1 try=permit,0 edit=0,254",
+        "load=0,768 edit=0,254,507 edit=0,254,507 try=deny edit=0,1,2 try=permit,0 edit=0,254,507",
     );
 }

@@ -59,15 +59,15 @@ impl Told {
     }
 
     /// An accepted line to add: the text is longer by it.
-    pub fn add(&mut self, (line, bytes): (&str, usize), count: usize, words: &str) {
-        self.list.edit(&format!("+{line}"), count, words);
+    pub fn add(&mut self, (line, bytes): (&str, usize), count_and_joins: (usize, usize), words: &str) {
+        self.list.edit(&format!("+{line}"), count_and_joins, words);
         self.length += bytes;
         self.ask();
     }
 
     /// An accepted line to take: the text is shorter by it.
-    pub fn take(&mut self, (line, bytes): (&str, usize), count: usize, words: &str) {
-        self.list.edit(&format!("-{line}"), count, words);
+    pub fn take(&mut self, (line, bytes): (&str, usize), count_and_joins: (usize, usize), words: &str) {
+        self.list.edit(&format!("-{line}"), count_and_joins, words);
         self.length -= bytes;
         self.ask();
     }

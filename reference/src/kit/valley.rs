@@ -65,22 +65,22 @@ fn after(kit: &mut Kit, name: &str, lines: &str, answers: &str) {
 }
 
 fn cases(kit: &mut Kit) {
-    kit.says("\"Then `end=`, `try=0104...`, `-parent=season,day`: prints `load=0,27`, `try=permit,0`, `edit=0,2`.\"");
+    kit.says("\"Then `end=`, `try=0104...`, `-parent=season,day`: prints `load=0,27`, `try=permit,0`, `edit=0,2`.\" By document 02, E3, the last is `edit=0,2,3`: one for season, which has no parent any more, and two for p17, a member of season.");
     let example = "try=01040500030000000100040a000000\n-parent=season,day\n";
-    after(kit, "office-example", example, "try=permit,0 edit=0,2");
+    after(kit, "office-example", example, "try=permit,0 edit=0,2,3");
     kit.says("\"B hour 16 permit. C hour 17 undefined. D no entry undefined. E mask 4: 17.\" By document 02, E2, C and D are absent: there is no staff value for rule 1, in D no hour for rule 0 either.");
     after(kit, "b-hour-16", HOUR_16, "try=permit,0");
     after(kit, "c-hour-17", HOUR_17, "try=undefined,absent");
     after(kit, "d-no-entry", NO_ENTRY, "try=undefined,absent");
     after(kit, "e-mask-4", "try=01040500040000000000\n", "try=refused,17");
     kit.says("\"F `+parent=day,season`: 12.\"");
-    after(kit, "f-circle", "+parent=day,season\n", "edit=12,0");
+    after(kit, "f-circle", "+parent=day,season\n", "edit=12,0,0");
     kit.says("\"G `+value=day,zone,2`: count 1; then `-value=season,zone,2`: count 0.\" The pair that the other path still gives stays.");
     let take = format!("+value=day,zone,2\n-value=season,zone,2\n{HOUR_16}");
-    after(kit, "g-value-by-two-paths", &take, "edit=0,1 edit=0,0 try=permit,0");
+    after(kit, "g-value-by-two-paths", &take, "edit=0,1,5 edit=0,0,4 try=permit,0");
     kit.says("\"H `+member=p17,upper`: 9. I `-member=p17,day`: 14.\"");
-    after(kit, "h-member-of-other-sort", "+member=p17,upper\n", "edit=9,0");
-    after(kit, "i-tie-not-standing", "-member=p17,day\n", "edit=14,0");
+    after(kit, "h-member-of-other-sort", "+member=p17,upper\n", "edit=9,0,0");
+    after(kit, "i-tie-not-standing", "-member=p17,day\n", "edit=14,0,0");
 }
 
 fn policies(kit: &mut Kit) {
@@ -104,7 +104,7 @@ fn look_out(kit: &mut Kit) {
         "{HOUR_16}-value=upper,zone,2\n{HOUR_16}+value=g2,zone,2\n{HOUR_16}-member=p17,season\n\
          {HOUR_16}+member=p17,day\n{HOUR_16}+value=day,zone,2\n{HOUR_16}"
     );
-    let answers = "try=permit,0 edit=0,2 try=undefined,absent edit=0,1 try=permit,0 edit=0,1 \
-                   try=refused,17 edit=0,1 try=undefined,absent edit=0,2 try=permit,0";
+    let answers = "try=permit,0 edit=0,2,3 try=undefined,absent edit=0,1,2 try=permit,0 edit=0,1,1 \
+                   try=refused,17 edit=0,1,2 try=undefined,absent edit=0,2,5 try=permit,0";
     after(kit, "day-of-edits", &day, answers);
 }

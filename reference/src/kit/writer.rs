@@ -94,10 +94,10 @@ fn buffers(kit: &mut Kit) {
     list.write(length, 0, &text);
     list.request(block, "try=permit,0");
     list.unwritten(3, 0);
-    list.edit("-parent=season,day", 2, "4:5,8:a,12:10,16:a,20:10");
+    list.edit("-parent=season,day", (2, 3), "4:5,8:a,12:10,16:a,20:10");
     list.write(length, 0, &text.replace("parent=season,day\n", ""));
     list.request(block, "try=permit,0");
-    list.edit("+parent=season,day", 2, VALLEY_WORDS);
+    list.edit("+parent=season,day", (2, 4), VALLEY_WORDS);
     list.write(length, 0, &text);
     list.done(kit, "write-between-other-calls");
 }
@@ -189,7 +189,7 @@ fn order(kit: &mut Kit) {
     let mut list = List::new();
     list.load(&head, "");
     for number in (0..63).rev() {
-        list.edit(&format!("+parent=g{number},g{}", number + 1), 0, "");
+        list.edit(&format!("+parent=g{number},g{}", number + 1), (0, 2), "");
     }
     let chain: String = (0..63).rev().map(|number| format!("parent=g{number},g{}\n", number + 1)).collect();
     let text = head + &chain;
@@ -197,10 +197,10 @@ fn order(kit: &mut Kit) {
     list.done(kit, "write-a-chain-of-64-groups");
     let mut list = List::new();
     list.load("rights=1\nugroup=b\nugroup=a\nogroup=d\nogroup=c\n", "");
-    list.edits(&["+parent=c,d", "+parent=b,a"]);
+    list.edits(&[("+parent=c,d", 2), ("+parent=b,a", 2)]);
     let text = "rights=1\nugroup=b\nugroup=a\nogroup=d\nogroup=c\nparent=b,a\nparent=c,d\n";
     list.write(text.len(), 0, text);
-    list.edits(&["-parent=b,a", "+parent=a,b"]);
+    list.edits(&[("-parent=b,a", 1), ("+parent=a,b", 2)]);
     let text = text.replace("parent=b,a", "parent=a,b");
     list.write(text.len(), 0, &text);
     list.done(kit, "write-a-tie-turned-round");
@@ -210,26 +210,30 @@ fn order(kit: &mut Kit) {
 /// members stand.
 fn add_ties_in_disorder(list: &mut List) {
     list.edits(&[
-        "+member=t1,b",
-        "+parent=b,y",
-        "+member=u9,a",
-        "+member=u9,m",
-        "+parent=a,m",
-        "+member=t2,b",
+        ("+member=t1,b", 2),
+        ("+parent=b,y", 4),
+        ("+member=u9,a", 2),
+        ("+member=u9,m", 3),
+        ("+parent=a,m", 5),
+        ("+member=t2,b", 2),
+        ("+parent=a,z", 6),
+        ("+member=u1,m", 2),
+        ("+member=t2,y", 3),
+        ("+parent=m,z", 10),
+        ("+member=u9,z", 4),
     ]);
-    list.edits(&["+parent=a,z", "+member=u1,m", "+member=t2,y", "+parent=m,z", "+member=u9,z"]);
     let text = format!("{MIXED_UP}{PARENTS_AND_MEMBERS}");
     list.write(text.len() + 1, 0, &text);
-    list.edit("+value=t1,k,\"a\"", 1, "36:20");
-    list.edit("+value=admin,open,FALSE", 1, "0:80,36:20");
-    list.edit("+value=b,k,\"a\"", 2, "0:80,20:20,32:20,36:20");
-    list.edit("+value=u9,b,1", 1, "0:80,20:20,24:8,32:20,36:20");
-    list.edit("+value=z,a,0", 5, "0:80,4:40,8:40,12:40,20:20,24:48,28:40,32:20,36:20");
-    list.edit("+value=y,k,\"z\"", 4, "0:80,4:40,8:40,12:40,16:4,20:24,24:48,28:40,32:24,36:24");
-    list.edit("+value=z,b,2", 5, "0:80,4:41,8:41,12:41,16:4,20:24,24:49,28:41,32:24,36:24");
-    list.edit("+value=u9,a,1", 1, "0:80,4:41,8:41,12:41,16:4,20:24,24:4b,28:41,32:24,36:24");
-    list.edits(&["+value=b,k,\"z\""]);
-    list.edit("+value=admin,open,TRUE", 1, TIED_WORDS);
+    list.edit("+value=t1,k,\"a\"", (1, 2), "36:20");
+    list.edit("+value=admin,open,FALSE", (1, 1), "0:80,36:20");
+    list.edit("+value=b,k,\"a\"", (2, 7), "0:80,20:20,32:20,36:20");
+    list.edit("+value=u9,b,1", (1, 4), "0:80,20:20,24:8,32:20,36:20");
+    list.edit("+value=z,a,0", (5, 12), "0:80,4:40,8:40,12:40,20:20,24:48,28:40,32:20,36:20");
+    list.edit("+value=y,k,\"z\"", (4, 8), "0:80,4:40,8:40,12:40,16:4,20:24,24:48,28:40,32:24,36:24");
+    list.edit("+value=z,b,2", (5, 12), "0:80,4:41,8:41,12:41,16:4,20:24,24:49,28:41,32:24,36:24");
+    list.edit("+value=u9,a,1", (1, 4), "0:80,4:41,8:41,12:41,16:4,20:24,24:4b,28:41,32:24,36:24");
+    list.edits(&[("+value=b,k,\"z\"", 7)]);
+    list.edit("+value=admin,open,TRUE", (1, 1), TIED_WORDS);
 }
 
 fn histories(kit: &mut Kit) {
@@ -237,11 +241,11 @@ fn histories(kit: &mut Kit) {
     let text = tied();
     let mut list = List::new();
     list.load(&text, TIED_WORDS);
-    list.edits(&["-parent=a,z", "-member=u9,m", "+parent=a,z", "+member=u9,m"]);
-    list.edit("-value=admin,open,TRUE", 1, &TIED_WORDS.replace("0:90,", "0:80,"));
+    list.edits(&[("-parent=a,z", 6), ("-member=u9,m", 3), ("+parent=a,z", 6), ("+member=u9,m", 4)]);
+    list.edit("-value=admin,open,TRUE", (1, 1), &TIED_WORDS.replace("0:90,", "0:80,"));
     let without = text.replace("value=admin,open,TRUE\n", "");
     list.write(text.len(), 0x2b, &without);
-    list.edit("+value=admin,open,TRUE", 1, TIED_WORDS);
+    list.edit("+value=admin,open,TRUE", (1, 1), TIED_WORDS);
     list.write(text.len(), 0x2d, &text);
     list.done(kit, "write-ties-taken-and-added-again");
     let mut list = List::new();
@@ -304,9 +308,9 @@ fn declarations(kit: &mut Kit) {
     // The last of the lines is pair 12 of u; the first, of admin, comes last.
     for (place, line) in lines[1..].iter().enumerate().rev() {
         let words = format!("4:{:x}", 0x1fff & !((1 << place) - 1));
-        list.edit(&format!("+{line}"), 1, &words);
+        list.edit(&format!("+{line}"), (1, 1), &words);
     }
-    list.edit(&format!("+{}", lines[0]), 1, "0:2000,4:1fff");
+    list.edit(&format!("+{}", lines[0]), (1, 1), "0:2000,4:1fff");
     let text = format!("{head}{values}");
     list.write(text.len(), 0, &text);
     list.done(kit, "write-atoms-added-last-first");
@@ -477,16 +481,16 @@ fn loaded_again(kit: &mut Kit) {
     let mut list = List::new();
     list.load(&valley(), VALLEY_WORDS);
     let words = "4:5,8:a,12:10,16:a,20:10";
-    list.edit("-parent=season,day", 2, words);
-    list.edit("+value=g2,zone,2", 0, words);
+    list.edit("-parent=season,day", (2, 3), words);
+    list.edit("+value=g2,zone,2", (0, 2), words);
     let text = valley_text()
         .replace("parent=season,day\n", "")
         .replace("value=upper,zone,2\n", "value=upper,zone,2\nvalue=g2,zone,2\n");
     list.write(text.len(), 0, &text);
     list.load(&text, words);
     list.write(text.len(), 0xff, &text);
-    list.edit("+parent=season,day", 2, VALLEY_WORDS);
-    list.edit("-value=upper,zone,2", 1, "4:5,8:f,16:f,20:10");
+    list.edit("+parent=season,day", (2, 4), VALLEY_WORDS);
+    list.edit("-value=upper,zone,2", (1, 3), "4:5,8:f,16:f,20:10");
     let text =
         text.replace("value=upper,zone,2\n", "").replace("member=p17", "parent=season,day\nmember=p17");
     list.write(text.len(), 0, &text);
@@ -499,8 +503,8 @@ fn loaded_again(kit: &mut Kit) {
     list.write(text.len(), 0, &text);
     list.load(&text, TIED_WORDS);
     list.write(text.len(), 0, &text);
-    list.edit("-value=b,k,\"z\"", 0, TIED_WORDS);
-    list.edit("-value=y,k,\"z\"", 4, "0:90,4:41,8:41,12:41,20:20,24:4b,28:41,32:20,36:20");
+    list.edit("-value=b,k,\"z\"", (0, 7), TIED_WORDS);
+    list.edit("-value=y,k,\"z\"", (4, 8), "0:90,4:41,8:41,12:41,20:20,24:4b,28:41,32:20,36:20");
     let text = text.replace("value=y,k,\"z\"\nvalue=b,k,\"z\"\n", "");
     list.write(text.len(), 0, &text);
     list.done(kit, "write-load-edit-and-write-again");
@@ -514,11 +518,11 @@ fn last_numbers(kit: &mut Kit) {
     let mut list = List::new();
     list.load(&head, "");
     // p1 is holder 255, p254 holder 2; the value 0 is pair 255, 255 pair 0.
-    list.edit("+value=p1,n,0", 1, "1023:8000000000000000");
-    list.edit("+value=p1,n,255", 1, "1020:1,1023:8000000000000000");
-    list.edit("+value=p254,n,192", 1, "8:8000000000000000,1020:1,1023:8000000000000000");
-    list.edit("+value=p254,n,191", 1, "8:8000000000000000,9:1,1020:1,1023:8000000000000000");
-    list.edits(&["+member=p1,g", "+member=p254,g"]);
+    list.edit("+value=p1,n,0", (1, 1), "1023:8000000000000000");
+    list.edit("+value=p1,n,255", (1, 1), "1020:1,1023:8000000000000000");
+    list.edit("+value=p254,n,192", (1, 1), "8:8000000000000000,1020:1,1023:8000000000000000");
+    list.edit("+value=p254,n,191", (1, 1), "8:8000000000000000,9:1,1020:1,1023:8000000000000000");
+    list.edits(&[("+member=p1,g", 2), ("+member=p254,g", 2)]);
     let ties =
         "member=p254,g\nmember=p1,g\nvalue=p254,n,192\nvalue=p254,n,191\nvalue=p1,n,255\nvalue=p1,n,0\n";
     let text = format!("{head}{ties}");
@@ -608,12 +612,12 @@ impl LongState {
     fn add(&mut self, list: &mut List, tie: (usize, usize)) {
         self.ties.push(tie);
         self.ties.sort();
-        list.edit(&format!("+{}", LongState::tie_line(tie)), 1, &self.words());
+        list.edit(&format!("+{}", LongState::tie_line(tie)), (1, 1), &self.words());
     }
 
     fn take(&mut self, list: &mut List, tie: (usize, usize)) {
         self.ties.retain(|one| *one != tie);
-        list.edit(&format!("-{}", LongState::tie_line(tie)), 1, &self.words());
+        list.edit(&format!("-{}", LongState::tie_line(tie)), (1, 1), &self.words());
     }
 }
 

@@ -5,7 +5,7 @@ mod cause;
 mod reading;
 mod writing;
 
-use crate::answer::{Decision, EditAnswer, LoadAnswer, Refusal, RefusedLine, WriteAnswer};
+use crate::answer::{Decision, EditAnswer, Edited, LoadAnswer, Refusal, RefusedLine, WriteAnswer};
 use crate::block::Block;
 use crate::declarations::{Declarations, ADMIN};
 use crate::file;
@@ -36,6 +36,17 @@ impl TieSet {
         parents.chain(groups).filter_map(above).collect()
     }
 
+    /// How many ties of T lead from `holder` to a parent or group; a value tie
+    /// leads to none.
+    fn up(&self, holder: usize) -> usize {
+        let from_holder = |tie: &&Tie| match **tie {
+            Tie::Parent { child, .. } => child == holder,
+            Tie::Member { party, .. } => party == holder,
+            Tie::Value { .. } => false,
+        };
+        self.0.iter().filter(from_holder).count()
+    }
+
     /// All holders to which a chain of ties leads from `holder`.
     fn above(&self, holder: usize) -> BTreeSet<usize> {
         let mut found = self.right_above(holder);
@@ -48,6 +59,14 @@ impl TieSet {
             }
         }
         found
+    }
+
+    /// `+t` adds t, `-t` removes it.
+    fn make(&mut self, change: Change) {
+        match change {
+            Change::Add(tie) => self.add(tie),
+            Change::Remove(tie) => self.remove(&tie),
+        }
     }
 
     fn direct(&self, holder: usize) -> Pairs {
@@ -115,13 +134,36 @@ impl Ledger {
         }
         let change = judge_edit(line, &self.declared, &self.ties)?;
         let before = self.effective_sets();
-        match change {
-            Change::Add(tie) => self.ties.add(tie),
-            Change::Remove(tie) => self.ties.remove(&tie),
-        }
+        self.ties.make(change);
         let after = self.effective_sets();
         let pairs = before.iter().zip(&after);
-        Ok(pairs.filter(|(old, new)| old != new).count())
+        let count = pairs.filter(|(old, new)| old != new).count();
+        let edited = self.first_named(line).expect("an accepted line names its holder");
+        Ok(Edited { count, joins: self.joins(edited) })
+    }
+
+    /// An edit on a table of the right length without its answer: T changes as `edit`
+    /// changes it, and no set is worked out.
+    pub fn change(&mut self, line: &[u8]) -> Result<(), Refusal> {
+        let change = judge_edit(line, &self.declared, &self.ties)?;
+        self.ties.make(change);
+        Ok(())
+    }
+
+    /// The edited holder is the first one named: between the line's `=` and its
+    /// first comma.
+    fn first_named(&self, line: &[u8]) -> Option<usize> {
+        let equals = line.iter().position(|&byte| byte == b'=')?;
+        let comma = line.iter().position(|&byte| byte == b',')?;
+        self.declared.holder(&line[equals + 1..comma])
+    }
+
+    /// For the edited holder and each one below it, one plus the number of its
+    /// ties up, summed; on T after the edit.
+    fn joins(&self, edited: usize) -> usize {
+        let holders = 0..self.declared.holders.len();
+        let met = holders.filter(|&holder| holder == edited || self.ties.above(holder).contains(&edited));
+        met.map(|holder| 1 + self.ties.up(holder)).sum()
     }
 
     pub fn request(&self, block: &[u8], table_length: usize) -> Decision {

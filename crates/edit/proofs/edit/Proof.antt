@@ -72,23 +72,23 @@ returns-4 c =
 
 returns-5 : tie.Need-returns-5
 returns-5 c =
-    let start = c .before .before .before .before .before .before .before .before .before .before .before .before .before .before .before .before .before .before in
+    let start = c .before .before .before .before .before .before .before .before .before .before .before .before .before .before .before .before .before .before .before .before in
     let line = start .args .line .now in
     let book = start .args .book .now in
     let table = start .args .table .now in
-    let long = c .before .before .before .before .before .before .before .before .before .before .before .before .before .before .before .if1 .left in
-    let sign = c .before .before .before .before .before .before .before .before .before .before .before .before .before .before .sign in
+    let long = c .before .before .before .before .before .before .before .before .before .before .before .before .before .before .before .before .before .if1 .left in
+    let sign = c .before .before .before .before .before .before .before .before .before .before .before .before .before .before .before .before .sign in
     let plus = eqb (sign .result) 1 in
-    let there = c .before .before .before .before .before .before .before .before .before .before .before .before .before .if2 .left in
+    let there = c .before .before .before .before .before .before .before .before .before .before .before .before .before .before .before .if2 .left in
     let signed = signed-line line (sign .result) (sign .ensures) there in
-    let told = c .before .before .before .before .before .before .before .before .before .tie-of-line in
+    let told = c .before .before .before .before .before .before .before .before .before .before .before .tie-of-line in
     let t = tieBy (told .result .key) (told .result .lower) (told .result .upper) in
-    let found = c .before .before .before .before .before .before .refusal in
-    let done = c .before .before .apply in
-    let zero = c .before .before .before .before .before .before .before .if3 .left in
-    let none-found = c .before .before .before .before .before .if4 .left in
-    accepted-call line book table (done .last .1 .0) (done .last .0) (done .result) long (done .kept .1 .0) (done .kept .0)
-    plus (lineOf line) signed (told .result .number) t (told .ensures) zero (found .result) (found .ensures) none-found (done .ensures)
+    let found = c .before .before .before .before .before .before .before .before .refusal in
+    let done = c .before .before .before .before .apply in
+    let zero = c .before .before .before .before .before .before .before .before .before .if3 .left in
+    let none-found = c .before .before .before .before .before .before .before .if4 .left in
+    accepted-call line book table (done .last .1 .0) (done .last .0) (done .result .changed) (done .result .joins) long (done .kept .1 .0) (done .kept .0)
+    plus (lineOf line) signed (told .result .number) t (told .ensures) zero (found .result) (found .ensures) none-found (done .ensures .0) (done .ensures .1)
 
 pub edit-spec : {M : Type 1} → statement M
 edit-spec =
@@ -96,4 +96,4 @@ edit-spec =
     (tie.spec
     (λ c κs. search needs) returns (λ c κs. search needs) (λ c κs. search needs) returns-2 sub-tie-of-line part-tie-of-line-start (λ c. search needs)
     (λ c κs. search needs) (λ c κs. search needs) returns-3 (λ c κs. search needs) (λ c κs. search needs) returns-4 (λ c κs. search needs) (λ c. search needs)
-    returns-5)
+    (λ c. search needs) (λ c. search needs) returns-5)

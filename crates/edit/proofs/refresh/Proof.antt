@@ -12,7 +12,7 @@ returns c =
     let holders = c .before .before .before .before .before .before .before .before .before .before .at-most in
     let groups = c .before .before .before .before .before .before .before .before .at-most2 in
     let called = c .before .before .refresh in
-    table-kept (a .book .now) (a .table .now) (called .last .0) (a .edited) (holders .result) (groups .result) (called .result) (holders .ensures) (groups .ensures)
+    table-kept (a .book .now) (a .table .now) (called .last .0) (a .edited) (holders .result) (groups .result) (called .result .changed) (called .result .joins) (holders .ensures) (groups .ensures)
     (omega (arith, start .pre .1, holders .ensures)) (called .kept .0) (called .ensures)
 
 pub refresh-spec : {M : Type 1} → statement M
@@ -22,4 +22,4 @@ refresh-spec =
     (λ c. search needs) (λ c κs. search needs) (λ c. search needs) (λ c κs. search needs) (λ c. search needs) (λ c. search needs) (λ c. search needs)
     (λ c. search needs) (λ c. search needs) (λ c. search needs) (λ c. search needs) (λ c. search needs) (λ c. search needs) (λ c. search needs)
     (λ c. search needs) (λ c. search needs) (λ c. search needs) (λ c. search needs) (λ c. search needs) (λ c. search needs) (λ c. search needs)
-    (λ c. search needs) (λ c. search needs) (λ c κs. search needs) (λ c. search needs) (λ c. search needs) returns)
+    (λ c. search needs) (λ c. search needs) (λ c κs. search needs) (λ c. search needs) returns)

@@ -41,7 +41,7 @@ loop-again c =
     let slots = start .args .slots .now in
     let inv = c .before .before .before .before .before .loop .inv in
     let q = c .before .before .before .lowest .result in
-    let joined = c .before .before .joins in
+    let joined = c .before .before .slot-is-under in
     let left = c .without in
     ⊎-elim
     (λ w. rw (w .2) (pass-on ups slots (start .args .e) inv (bit (left .result)) q (left .ensures) (w .1 .result) (w .1 .ensures) (sym (joined .ensures) ∙ w .0 .taken)))

@@ -47,7 +47,7 @@ loop-again c =
     let q = c .before .before .before .before .loop .q in (
       omega arith,
       pass-on (start .args .ups .now) (start .args .slots .now) (start .args .e) (c .before .before .before .before .loop .inv .1) (λ j. ltb j (q - 1)) (q - 1) (lower q (omega arith))
-          (c .with .result) (c .with .ensures) (sym (c .before .before .joins .ensures) ∙ c .before .if1 .taken),
+          (c .with .result) (c .with .ensures) (sym (c .before .before .slot-is-under .ensures) ∙ c .before .if1 .taken),
     )
 
 loop-less-2 : tie.Need-loop-less-2 Inv-loop μ-loop
@@ -59,7 +59,7 @@ loop-again-2 c =
     let q = c .before .before .before .loop .q in (
       omega arith,
       pass-off (start .args .ups .now) (start .args .slots .now) (start .args .e) (c .before .before .before .loop .inv .1) (λ j. ltb j (q - 1)) (q - 1) (lower q (omega arith))
-          (sym (c .before .joins .ensures) ∙ c .if1 .left),
+          (sym (c .before .slot-is-under .ensures) ∙ c .if1 .left),
     )
 
 returns : tie.Need-returns Inv-loop μ-loop
