@@ -72,6 +72,7 @@ pub record Bounded (count joins : ℕ) : Type 0 where
   pub few : count ≤ bookHolders
   pub few-joins : joins ≤ joinLimit Edition.first
 
+-- so it is with what an edit answers; the other answers are no edit's
 abbrev pub AnswerBounded : Answer → Type 0
 AnswerBounded (loaded number line) = Unit {0}
 AnswerBounded (edited number count joins) = Bounded count joins

@@ -1,6 +1,6 @@
 -- What one edit costs in set joins: each tie up is counted once, the sum is at most 65 for each holder, value ties do not matter, and who is below the
 -- edited holder is the same before the edit and after it. Assumes nothing.
-use Prim.Native.Nat.{ℕ, zero, suc, _+_, _*_, _≤_}
+use Prim.Native.Nat.{ℕ, zero, suc, _+_, _≤_}
 use mathlib.Core.Path.{_≡_, refl, sym, ap, ap₂, subst, _∙_}
 use mathlib.Core.Bool.{Bool, true, false, _||_}
 use mathlib.Core.List.{List}
@@ -8,7 +8,7 @@ use mathlib.Core.Option.{Option, none, some, Option·some-injective}
 use native.Mathlib.Omega.{arith}
 use lib.ListN.{length}
 use lib.Dec.{eqb}
-use Rattle.model.specs.Notation.{if_then_else_, _>>=_, anyOf, filter, countOf, sumOf, map}
+use Rattle.model.specs.Notation.{if_then_else_, _>>=_, anyOf, countOf, sumOf}
 use Rattle.model.specs.Limits.{Edition, groupLimit, joinLimit}
 use Rattle.model.specs.Bytes.{Bytes}
 use Rattle.model.specs.Declarations.{Declarations, Holder, Sort, sortOf, isGroup, groups, holderNumbersOf, parentSort, groupSort}
@@ -17,7 +17,7 @@ use Rattle.model.specs.State.{State}
 use Rattle.model.specs.Edits.{editedTie, adds, editedTies, tiesUp, editedAndBelow, setJoins, joinsOf, edit}
 use Rattle.model.specs.Standing.{Standing, DifferAt}
 use Rattle.model.proofs.WordTables.{none-is-some}
-use Rattle.model.proofs.Lists.{_∈_, same-truth, any-ext, filter-ext, count-within, count-or, count-ext, count-map}
+use Rattle.model.proofs.Lists.{same-truth, any-ext, filter-ext, count-within, count-or, count-ext, count-map}
 use Rattle.model.proofs.Sums.{sum-ext, sum-most, sum-filter}
 use Rattle.model.proofs.Numbered.{number-found}
 use Rattle.model.proofs.Chains.{is-below}

@@ -1,20 +1,19 @@
 -- Lists whose elements have numbers that rise: what is found by its number, one more, one less, and counting. Assumes nothing.
 use Prim.Native.Nat.{ℕ, zero, suc, _+_, _≤_, _<_}
-use mathlib.Core.Path.{_≡_, refl, sym, ap, subst, _∙_}
-use mathlib.Core.Logic.{_⊎_, inl, inr, ⊎-elim}
-use mathlib.Core.Bool.{Bool, true, false, _&&_, not, true≢false}
+use mathlib.Core.Path.{_≡_, refl, sym, ap, _∙_}
+use mathlib.Core.Bool.{Bool, true, false}
 use mathlib.Core.List.{List, [], _∷_, _++_, List·Memᴰ·head as here, List·Memᴰ·tail as there, Memᴰ·append-right}
 use mathlib.Core.Option.{Option, none, some, Option·some-injective}
-use native.Mathlib.Decide.{ℕ-discrete, decLt}
+use native.Mathlib.Decide.{ℕ-discrete}
 use native.Mathlib.Omega.{arith}
 use lib.ListN.{length, length-append}
 use lib.Dec.{eqb, ltb}
 use borrow.Author.Tests.{eq-eqb, ne-eqb, eqb-true, eqb-false, ltb-true, ltb-false, lt-ltb, le-ltb}
-use Rattle.model.specs.Notation.{if_then_else_, isNone, allOf, countOf, sumOf, find, inserted, map, each, listed, below}
+use Rattle.model.specs.Notation.{if_then_else_, allOf, countOf, sumOf, find, inserted, map, each, listed, below}
 use Rattle.model.specs.Standing.{rising}
-use Rattle.model.proofs.WordTables.{none-is-some, false-is-true}
+use Rattle.model.proofs.WordTables.{none-is-some}
 use Rattle.model.proofs.Options.{parts, both}
-use Rattle.model.proofs.Lists.{_∈_, true-or-false, all-parts, all-in, all-cons, all-by, count-last, count-ext, in-map, map-in, in-below, below-in}
+use Rattle.model.proofs.Lists.{_∈_, all-parts, all-in, all-cons, all-by, in-map, in-below}
 use Rattle.model.proofs.Sums.{sum-last, sum-ext, sum-none, count-sum}
 
 -- ---- the first that passes

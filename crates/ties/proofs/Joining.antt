@@ -1,6 +1,6 @@
 -- The joins that the arrays tell are those of the ties that they keep: a holder's mask has as many bits as it has ties up, since slots are distinct, and
 -- the holders under e are e and those below it. Assumes nothing.
-use Prim.Native.Nat.{ℕ, zero, suc, _+_, _*_, _≤_, _<_}
+use Prim.Native.Nat.{ℕ, _+_, _*_, _≤_, _<_}
 use mathlib.Core.Path.{_≡_, refl, sym, ap, ap₂, subst, _∙_}
 use mathlib.Core.Logic.{_⊎_, inl, inr, ⊎-elim}
 use mathlib.Core.Bool.{Bool, true, false, _&&_, _||_, true≢false}
@@ -9,15 +9,15 @@ use native.Mathlib.Numerals.{add-one}
 use native.Mathlib.Omega.{arith}
 use lib.Dec.{eqb}
 use lib.ListN.{getD, length}
-use borrow.Author.Tests.{eq-eqb, eqb-true, ne-eqb}
-use Rattle.model.specs.Notation.{if_then_else_, sumOf, countOf, map, below}
+use borrow.Author.Tests.{eq-eqb, ne-eqb}
+use Rattle.model.specs.Notation.{if_then_else_, sumOf, below}
 use Rattle.model.specs.Limits.{groupLimit}
-use Rattle.model.specs.Declarations.{Declarations, Holder, isHolder, holderNumbersOf}
+use Rattle.model.specs.Declarations.{Declarations, isHolder, holderNumbersOf}
 use Rattle.model.specs.Ties.{Ties, up, Below, one, more, isBelow}
 use Rattle.model.specs.Edits.{tiesUp, setJoins}
 use Rattle.model.specs.Standing.{Standing}
 use Rattle.model.proofs.Options.{parts}
-use Rattle.model.proofs.Lists.{_∈_, same-truth, true-or-false, length-below, count-ext as list-ext}
+use Rattle.model.proofs.Lists.{_∈_, same-truth, true-or-false, length-below}
 use Rattle.model.proofs.Sums.{sum-last, sum-ext, sum-none, sum-most, sum-filter}
 use Rattle.model.proofs.Numbered.{sum-split, sum-numbers, count-numbers}
 use Rattle.model.proofs.Chains.{is-below}
@@ -25,7 +25,7 @@ use Rattle.model.proofs.Standing.{among, holder-in, holder-below}
 use Rattle.model.proofs.Joins.{ties-up-once}
 use Rattle.bits.specs.Bits.{bit, anyBelow, countBelow}
 use Rattle.bits.proofs.Counts.{any-find, count-ext, count-below-le, count-places}
-use Rattle.ties.specs.TieArrays.{inUse, tiedUp, meets, under, Distinct, KeepsTies, Room, Under, here, over, Marks}
+use Rattle.ties.specs.TieArrays.{tiedUp, meets, under, Distinct, KeepsTies, Room, Under, here, over, Marks}
 use Rattle.ties.specs.TieJoins.{joinsBy, joinsAt, joinsUnder}
 use Rattle.ties.proofs.Masks.{in-use-lt}
 use Rattle.ties.proofs.Keeps.{tied-lt, slot-up}
