@@ -128,7 +128,8 @@ uint32_t zhul_pass(const uint8_t *file, size_t file_length, const uint8_t *block
 uint64_t zhul_load(const uint8_t *file, size_t file_length, uint64_t *book, uint8_t *rules, uint64_t *table, size_t table_words);
 
 /* One edit line, with its sign and its byte 10, on the book and the table that the last load or edit left. The number, the count and the joins: see
-   ZHUL_COUNT and ZHUL_JOINS. Time: some 0.1 us and 2.4 to 8 ns for each join, as bench/compare measures it (README.md, "Edits between two skiers"). */
+   ZHUL_COUNT and ZHUL_JOINS. Time, measured and not proved: up to 0.1 us and 8 ns for each join, but for long chains of groups that stand in the file in
+   no order (README.md, "Edits between two skiers"). */
 uint64_t zhul_edit(const uint8_t *line, size_t line_length, uint64_t *book, uint64_t *table, size_t table_words);
 
 /* One pass block, on the book and the table that the last load or edit left and the rules that the last load left. The number, the rule of a permit and
