@@ -1,4 +1,6 @@
 // Sets of numbers in words of 64 bits: number p is bit p % 64, 0 the lowest, of word p / 64. Masks and shifts test, set, clear and join them.
+#![tactic(auto)]
+
 ghost use Rattle.std.specs.Prelude.{◌≡◌, ◌||◌, ◌&&◌, not, ℕ, ◌*◌, ◌<◌, ◌≤◌, eqb, leb, length};
 ghost use Rattle.model.specs.Notation.{if◌then◌else◌};
 ghost use Rattle.bits.specs.Bits.{bit, member, Bits, Numbers, differ, count_below};

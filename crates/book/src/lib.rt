@@ -1,4 +1,6 @@
 // The book: the words that hold a state's declarations and ties. Its sections lie one after another; specs/Sections.antt says what they are.
+#![tactic(auto)]
+
 pub mod declare;
 pub mod find;
 

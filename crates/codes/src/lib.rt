@@ -1,6 +1,8 @@
 // The numbers that stand for what the specification has as constructors: one table, which every crate cites. specs/Codes.antt gives each
 // constructor its number; 0 stands for none. A code is a byte, words keep it, and it is the place of something: the widths of a number are here too,
 // since no lower crate is known to all that read bytes and words.
+#![tactic(auto)]
+
 ghost use Rattle.std.specs.Prelude.{◌≡◌, ◌≤◌};
 
 // Sources.

@@ -1,4 +1,6 @@
 // A rule's code made into a program: for each term without parentheses a row, in which its operator and operands are looked up once and for all.
+#![tactic(auto)]
+
 ghost use Rattle.std.specs.Prelude.{◌≡◌, ◌+◌, ◌*◌, ◌≤◌, ◌<◌, max, length, get_or};
 ghost use Rattle.std.proofs.lemmas.List.Edits.{sets};
 ghost use Rattle.values.specs.Operands.{no_values};

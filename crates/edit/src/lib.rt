@@ -1,4 +1,6 @@
 // Edits: one tie more or one less in the book, and the table kept.
+#![tactic(auto)]
+
 ghost use Rattle.std.specs.Prelude.{◌≡◌, min, length};
 ghost use Rattle.model.specs.Limits.{Edition, table_words};
 ghost use Rattle.book.specs.Sections.{book_words};

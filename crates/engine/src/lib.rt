@@ -1,4 +1,6 @@
 // A load: a file read into the book, and the table of its state.
+#![tactic(auto)]
+
 ghost use Rattle.std.specs.Prelude.{◌≡◌, length};
 ghost use Rattle.model.specs.Limits.{Edition, table_words};
 ghost use Rattle.model.specs.State.{empty};

@@ -1,4 +1,6 @@
 // A line's bytes taken apart into numbers: its key, and the fields of each form. Nothing here knows what is declared.
+#![tactic(auto)]
+
 ghost use Rattle.std.specs.Prelude.{◌≡◌, ◌&&◌};
 ghost use Rattle.model.specs.Bytes.{newline};
 ghost use Rattle.model.specs.Names.{read_name};

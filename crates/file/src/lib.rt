@@ -1,4 +1,6 @@
 // A file, read as its lines one after another.
+#![tactic(auto)]
+
 ghost use Rattle.std.specs.Prelude.{◌≡◌, not, ◌≤◌, length};
 ghost use Rattle.model.specs.Limits.{file_bytes};
 ghost use Rattle.model.specs.Refusals.{wrong_first_line};

@@ -1,5 +1,7 @@
 // The office program: reads its input from standard input, and writes the output. A program has no exit status of its own, so a failing read or
 // write is told on standard error.
+#![tactic(auto)]
+
 ghost use Rattle.std.specs.Prelude.{◌≡◌, ◌+◌, ◌*◌, ◌≤◌, length, take};
 ghost use Rattle.io.specs.Counts.{IsPrefixLen};
 ghost use Rattle.model.specs.Gate.{gate};

@@ -1,4 +1,6 @@
 // The calls for hosts in C, each answering one number. A slice is a pointer and a length; nothing is allocated or kept.
+#![tactic(auto)]
+
 ghost use Rattle.std.specs.Prelude.{◌≡◌, ◌/◌, ◌%◌, ◌≤◌, length};
 ghost use Rattle.model.specs.Host.{host_call, host_table};
 ghost use Rattle.model.specs.Causes.{cause_number};

@@ -1,6 +1,8 @@
 // Rows of four words that are found by their words in a few steps. Rows with the same hash form a chain, from the greatest number down:
 // `first` has the greatest number of each chain, `next` for each row the greatest below it in its chain, as 1 + the number, 0 for none.
 // A section has the 256 words of `first`, then `next`, then the rows; its length tells how many rows it has.
+#![tactic(auto)]
+
 ghost use Rattle.std.specs.Prelude.{◌≡◌, ◌+◌, ◌<◌, ◌≤◌, length};
 ghost use Rattle.index.specs.Index.{chains, rows_in, hash_of, is_at, link_of, FindsRow, put_row, LinkFound, Added, Removed};
 

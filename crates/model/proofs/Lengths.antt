@@ -36,6 +36,7 @@ use Rattle.model.proofs.RoundTripTies.{NoRepeat, tie-listed, listed-once}
 
 module _ {A : Type 0} (text : A → Bytes) (p q : A → Bool) (a : A) (off : p a ≡ false) (on : q a ≡ true) (else_same : (x : A) → (x ≡ a → ⊥) → q x ≡ p x) where
   one_more : (xs : List A) → NoRepeat xs → a ∈ xs → length (each text (filter q xs)) ≡ length (text a) + length (each text (filter p xs))
+  one_more [] once m = elim m [ ]
   one_more (x ∷ xs) once (here e) =
       ap (λ (b : Bool). length (each text (if b then x ∷ filter q xs else filter q xs))) (ap q (sym e) ∙ on)
       ∙ length-append (text x) (each text (filter q xs))

@@ -59,7 +59,7 @@ module _ {A : Type 0} where
       go true q f e = (x, here refl, q)
       go false q f e = let r = f e in (r.0, there r.1, r.2)
 
-  pub in-any : (p : A → Bool) {xs : List A} {x : A} → x ∈ xs → p x ≡ true → any_of p xs ≡ true
+  pub in-any : (p : A → Bool) {x : A} {xs : List A} → x ∈ xs → p x ≡ true → any_of p xs ≡ true
   in-any p (here {x = y} {xs = xs} e) q =
       ap (λ (t : Bool). elim t as (λ _. Bool) [ true ↦ true | false ↦ any_of p xs ]) (ap p (sym e) ∙ q)
   in-any p (there {x = y} {xs = xs} m) q = go (p y) (in-any p m q)
@@ -95,7 +95,7 @@ module _ {A : Type 0} where
       go true e f n = below-head true e refl (split n) f
       go false e f n = let r = f n in (there r.0, r.1)
 
-  pub filter-in : (p : A → Bool) {xs : List A} {y : A} → y ∈ xs → p y ≡ true → y ∈ filter p xs
+  pub filter-in : (p : A → Bool) {y : A} {xs : List A} → y ∈ xs → p y ≡ true → y ∈ filter p xs
   filter-in p {y = y} (here {x = x} {xs = xs} e) q =
       subst (λ (t : Bool). y ∈ (elim t as (λ _. List A) [ true ↦ x ∷ filter p xs | false ↦ filter p xs ])) (sym q ∙ ap p e) (here e)
   filter-in p {y = y} (there {x = x} {xs = xs} m) q = go (p x) (filter-in p m q)
@@ -155,7 +155,7 @@ module _ {A : Type 0} where
       go false h = h
 
   -- one more passes: one that did not before
-  pub count-more : (p q : A → Bool) {xs : List A} {y : A} → ((x : A) → p x ≡ true → q x ≡ true) → y ∈ xs → p y ≡ false → q y ≡ true → count_of p xs < count_of q xs
+  pub count-more : (p q : A → Bool) {y : A} {xs : List A} → ((x : A) → p x ≡ true → q x ≡ true) → y ∈ xs → p y ≡ false → q y ≡ true → count_of p xs < count_of q xs
   count-more p q {y = y} f (here {x = x} {xs = xs} e) off on = go (p x) (q x) (ap p (sym e) ∙ off) (ap q (sym e) ∙ on) (count-grows p q xs f)
     where
       go : (s t : Bool) → s ≡ false → t ≡ true → count_of p xs ≤ count_of q xs
@@ -244,7 +244,7 @@ module _ {A B : Type 0} (f : A → B) where
   map-append [] ys = refl
   map-append (x ∷ xs) ys = ap (λ (l : List B). f x ∷ l) (map-append xs ys)
 
-  pub map-in : {xs : List A} {x : A} → x ∈ xs → f x ∈ map f xs
+  pub map-in : {x : A} {xs : List A} → x ∈ xs → f x ∈ map f xs
   map-in (here e) = here (ap f e)
   map-in (there m) = there (map-in m)
 

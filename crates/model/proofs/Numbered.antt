@@ -245,6 +245,7 @@ module _ {A : Type 0} (number : A → ℕ) where
   rising-back (y ∷ pre) rest r = rising-back pre rest (parts (all_of (λ z. ltb (number y) (number z)) (pre ++ rest)) (rising number (pre ++ rest)) r).1
 
   pub rising-apart : (pre rest : List A) → rising number (pre ++ rest) ≡ true → {x y : A} → x ∈ pre → y ∈ rest → number x < number y
+  rising-apart [] rest r {x = x} {y = y} m n = elim m [ ]
   rising-apart (z ∷ pre) rest r {x} {y} (here e) n =
       let (above, more) = parts (all_of (λ u. ltb (number z) (number u)) (pre ++ rest)) (rising number (pre ++ rest)) r in
       omega (arith, ap number e, ltb-true (number z) (number y) (all_in (λ u. ltb (number z) (number u)) (pre ++ rest) above (Memᴰ.append_right pre n)))

@@ -256,6 +256,7 @@ in-with tie (h ∷ lower) upper m = ⊎_elim
     (Memᴰ.append_cases (map (tie h) upper) m)
 
 with_in : (tie : ℕ → ℕ → Tie) (lower upper : List ℕ) (h g : ℕ) → h ∈ lower → g ∈ upper → tie h g ∈ ties_with tie lower upper
+with_in tie [] upper h g m n = elim m [ ]
 with_in tie (k ∷ lower) upper h g (here e) n =
     Memᴰ.append_left (ties_with tie lower upper) (subst (λ (x : ℕ). tie h g ∈ map (tie x) upper) e (map-in (tie h) n))
 with_in tie (k ∷ lower) upper h g (there m) n = Memᴰ.append_right (map (tie k) upper) (with_in tie lower upper h g m n)
@@ -285,6 +286,7 @@ still-added [] U u e = e
 still-added (t ∷ ts) U u e = still-added ts (added t U) u (or_right (same_tie t u) (U u) e)
 
 added-all : (ts : List Tie) (U : Ties) {u : Tie} → u ∈ ts → add_all ts U u ≡ true
+added-all [] U {u = u} m = elim m [ ]
 added-all (t ∷ ts) U {u} (here e) = still-added ts (added t U) u (or_left (same_tie t u) (U u) (ap (λ (x : Tie). same_tie t x) e ∙ tie-refl t))
 added-all (t ∷ ts) U (there m) = added-all ts (added t U) m
 

@@ -47,3 +47,5 @@ pub mod Gate
 pub mod Valley
 -- Document 02, E1: "The file as it stands now", and E14: "Length told beforehand"
 pub mod FileText
+-- Document 02, E4: "K3 without its table"
+pub mod Formulas

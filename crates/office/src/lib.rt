@@ -1,4 +1,6 @@
 // The office program on slices: what it prints for an input.
+#![tactic(auto)]
+
 ghost use Rattle.std.specs.Prelude.{◌+◌, ◌*◌, ◌≤◌, length};
 ghost use Rattle.model.specs.Gate.{gate};
 ghost use Rattle.output.specs.Laid.{Laid};

@@ -1,5 +1,7 @@
 // Texts laid over a buffer from a place on. Each function answers the place behind its text. What lies behind the buffer's end is counted and not
 // written, so no room is asked for: over a buffer of 0 bytes the place is the length.
+#![tactic(auto)]
+
 ghost use Rattle.std.specs.Prelude.{◌≡◌, [], ◌∷◌, ◌+◌, ◌<◌, ◌≤◌, min, length, ltb};
 ghost use Rattle.model.specs.Notation.{if◌then◌else◌};
 ghost use Rattle.model.specs.Atoms.{decimal};

@@ -1,4 +1,6 @@
 // Reads a policy from its rule code: a loop judges it, then the readers of the grammar read what was accepted.
+#![tactic(auto)]
+
 mod scan;
 
 ghost use Rattle.std.specs.Prelude.{◌≡◌, ◌&&◌, false, ◌+◌, ◌*◌, ◌<◌, ◌≤◌, min, max, eqb, leb, length, get_or};

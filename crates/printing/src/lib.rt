@@ -1,4 +1,6 @@
 // Answers as bytes, each laid over the output behind the one before.
+#![tactic(auto)]
+
 ghost use Rattle.std.specs.Prelude.{◌+◌, ◌≤◌, length};
 ghost use Rattle.model.specs.Decision.{undefined};
 ghost use Rattle.model.specs.Ledger.{decided};

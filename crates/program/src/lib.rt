@@ -1,5 +1,7 @@
 // A rule's program: its code, in which parentheses, NOT, AND and OR are passed one after another, and a row for each term without parentheses, in which
 // operator and operands were looked up when the rule was loaded. One loop runs it.
+#![tactic(auto)]
+
 ghost use Rattle.std.specs.Prelude.{◌≡◌, true, [], ℕ, ◌+◌, ◌*◌, ◌≤◌, ◌<◌, length, get_or};
 ghost use Rattle.model.specs.Truth as model;
 ghost use Rattle.model.specs.Notation.{if◌then◌else◌};

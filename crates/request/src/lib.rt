@@ -1,4 +1,6 @@
 // The request: decided on the book, the code of its rules and the table, all lent; nothing is written.
+#![tactic(auto)]
+
 ghost use Rattle.std.specs.Prelude.{◌≡◌, ◌||◌, ◌+◌, ◌*◌, ◌≤◌, ◌<◌, eqb, length, get_or};
 ghost use Rattle.model.specs.Block.{is_block};
 ghost use Rattle.model.specs.Truth.{is_true};

@@ -1,4 +1,6 @@
 // The rows that rules are read with: the declared attributes and pairs as words.
+#![tactic(auto)]
+
 ghost use Rattle.std.specs.Prelude.{◌≡◌, ◌<◌, length};
 ghost use Rattle.rows.specs.Rows.{row_named, Numbered};
 

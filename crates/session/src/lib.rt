@@ -1,4 +1,6 @@
 // A session: for each attribute four words, the pairs of it that the rules of a request may read. Opened once for a request.
+#![tactic(auto)]
+
 ghost use Rattle.std.specs.Prelude.{◌≡◌, ◌<◌, ◌≤◌, length, ◌&&◌};
 ghost use Rattle.bits.specs.Bits.{member, Numbers};
 ghost use Rattle.rows.specs.Rows.{masked};

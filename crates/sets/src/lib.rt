@@ -1,4 +1,6 @@
 // The kept table: every holder's effective set in four words, filled from the book's arrays and refreshed after an edit.
+#![tactic(auto)]
+
 ghost use Rattle.std.specs.Prelude.{◌≡◌, ◌||◌, ◌&&◌, ℕ, ◌*◌, ◌%◌, ◌<◌, ◌≤◌, length, get_or, eqb};
 ghost use Rattle.model.specs.Limits.{group_limit};
 ghost use Rattle.bits.specs.Bits.{bit, member, holds, differ, Numbers, any_below, count_below, Bits};

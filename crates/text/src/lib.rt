@@ -1,4 +1,6 @@
 // Readers of the parts of a line: each takes the bytes of one part and says what the specification reads in them.
+#![tactic(auto)]
+
 ghost use Rattle.std.specs.Prelude.{◌≡◌, true, ◌+◌, ◌/◌, ◌≤◌, ◌<◌, length};
 ghost use Rattle.model.specs.Notation.{if◌then◌else◌, all_of};
 ghost use Rattle.model.specs.Bytes.{same};

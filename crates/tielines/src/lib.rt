@@ -1,4 +1,6 @@
 // Tie lines, of files and of edits: the tie that the fields give, what it is refused for, and one tie more or less in a book.
+#![tactic(auto)]
+
 ghost use Rattle.std.specs.Prelude.{◌≡◌, ◌+◌, length};
 ghost use Rattle.book.specs.Sections.{book_words};
 ghost use Rattle.tielines.specs.TieReading.{tie_by, SortAbove, TwoNamed, SourceOfSort, PairNamed, ValueNamed, KeyTie};

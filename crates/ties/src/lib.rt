@@ -1,4 +1,6 @@
 // Ties in arrays: the groups' slots, what is below a holder, whether a tie closes a circle, and one tie more or less.
+#![tactic(auto)]
+
 ghost use Rattle.std.specs.Prelude.{◌≡◌, ◌||◌, ◌&&◌, not, ℕ, ◌+◌, ◌*◌, ◌<◌, ◌≤◌, length, get_or};
 ghost use Rattle.model.specs.Limits.{group_limit, pair_limit};
 ghost use Rattle.bits.specs.Bits.{bit};

@@ -1,4 +1,6 @@
 // What the timing program calls. A truth value is a number: 0 FALSE, 1 UNDEF, 2 TRUE.
+#![tactic(auto)]
+
 use truth::Truth;
 
 // A policy's bytes become a program, rule code and rows: 6, 7 or 8 where it is refused, 0 where it is not.

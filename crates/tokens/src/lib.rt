@@ -1,4 +1,6 @@
 // The tokens of a policy, and their code.
+#![tactic(auto)]
+
 ghost use Rattle.std.specs.Prelude.{◌≡◌, ◌+◌, ◌-◌, ◌*◌, ◌%◌, ◌≤◌, ◌||◌, false, [], ◌∷◌, length, get_or, eqb};
 ghost use Rattle.model.specs.Notation.{if◌then◌else◌};
 ghost use Rattle.model.specs.Tokens.{word_byte, read_word, read_attribute_name, read_text};

@@ -1,4 +1,6 @@
 // Kleene's three-valued logic K3.
+#![tactic(auto)]
+
 pub mod verdict;
 
 ghost use Rattle.std.specs.Prelude.{◌≡◌};

@@ -1,5 +1,7 @@
 // Operands: where the values are that stand beside an operator; and their comparison. Nothing is copied: an operand is a few numbers, and its
 // values are found one after another where they are lent.
+#![tactic(auto)]
+
 ghost use Rattle.std.specs.Prelude.{◌≡◌, true, false, ◌+◌, ◌*◌, ◌/◌, ◌<◌, ◌≤◌, eqb, length};
 ghost use Rattle.model.specs.Block.{byte_at, value_at};
 ghost use Rattle.model.specs.Truth.{NOT};

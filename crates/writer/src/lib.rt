@@ -1,5 +1,7 @@
 // The file as it stands now: the text of the state that a book holds, put into a lent buffer. Length and writing are one walk: over a buffer of 0 bytes it
 // tells the length, so that a refusal is known before a byte is written.
+#![tactic(auto)]
+
 ghost use Rattle.std.specs.Prelude.{◌≤◌, length};
 ghost use Rattle.output.specs.Laid.{Laid};
 ghost use Rattle.writer.specs.Texts.{ties_text, book_text};
