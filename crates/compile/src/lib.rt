@@ -10,7 +10,7 @@ use codes::{AND, END, NAME};
 use values::Operand;
 
 // A term: its operator, the word of a truth value or the kind of a name that stands alone; its operands; and where the code goes on behind it.
-#[derive(Drop)]
+#[derive(Clone, Copy)]
 pub struct Term {
     kind: u8,
     left: Operand,

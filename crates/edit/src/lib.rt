@@ -24,7 +24,7 @@ const GROUPS: usize = 64;
 
 // "The answer is 0 and the number of holders whose stored set changed", and "carries also the number of set joins made": both 0 where the number is a
 // refusal.
-#[derive(Drop)]
+#[derive(Clone, Copy)]
 pub struct Edited {
     pub number: u8,
     pub count: u32,

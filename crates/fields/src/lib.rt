@@ -11,7 +11,7 @@ ghost use Rattle.fields.specs.Frames.{no_frame, FrameTold, Signed};
 const LINE_BYTES: usize = 255;
 
 // The code of a key, 0 where a line has none, and the places between which the fields stand.
-#[derive(Drop)]
+#[derive(Clone, Copy)]
 pub struct Framed {
     pub key: u8,
     pub start: usize,
@@ -19,13 +19,13 @@ pub struct Framed {
 }
 
 // In each form `ok` tells whether the fields are well formed; where they are not, all else is 0. A name is a `Packed`, an atom a `Value`.
-#[derive(Drop)]
+#[derive(Clone, Copy)]
 pub struct NameField {
     pub ok: bool,
     pub name: text::Packed,
 }
 
-#[derive(Drop)]
+#[derive(Clone, Copy)]
 pub struct AttrFields {
     pub ok: bool,
     pub source: u8,
@@ -33,7 +33,7 @@ pub struct AttrFields {
     pub name: text::Packed,
 }
 
-#[derive(Drop)]
+#[derive(Clone, Copy)]
 pub struct PairFields {
     pub ok: bool,
     pub source: u8,
@@ -41,14 +41,14 @@ pub struct PairFields {
     pub atom: text::Value,
 }
 
-#[derive(Drop)]
+#[derive(Clone, Copy)]
 pub struct TwoFields {
     pub ok: bool,
     pub lower: text::Packed,
     pub upper: text::Packed,
 }
 
-#[derive(Drop)]
+#[derive(Clone, Copy)]
 pub struct ValueFields {
     pub ok: bool,
     pub holder: text::Packed,
@@ -57,7 +57,7 @@ pub struct ValueFields {
 }
 
 // The operation's name, and where the policy starts.
-#[derive(Drop)]
+#[derive(Clone, Copy)]
 pub struct RuleFields {
     pub ok: bool,
     pub operation: text::Packed,

@@ -19,7 +19,7 @@ const FILE_BYTES: usize = 32768;
 const FIRST: usize = 9;
 
 // What a file is refused for, 0 for nothing, and the number of its refused line or of its lines.
-#[derive(Drop)]
+#[derive(Clone, Copy)]
 pub struct Loaded {
     pub number: u8,
     pub line: u32,
@@ -36,7 +36,7 @@ fn begins(file: &[u8]) -> bool
 }
 
 // A line: the place of its byte 10, or of its end where it has none, and its length with that byte.
-#[derive(Drop)]
+#[derive(Clone, Copy)]
 struct Span {
     end: usize,
     length: usize,

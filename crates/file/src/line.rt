@@ -13,7 +13,7 @@ use codes::{KEY_ATOM, KEY_ATTR, KEY_OP, KEY_PARENT, KEY_RULE, MALFORMED, OUT_OF_
 use text::Value;
 
 // What a line is refused for, 0 for nothing, and the code of its key.
-#[derive(Drop)]
+#[derive(Clone, Copy)]
 pub struct LineAnswer {
     pub number: u8,
     pub key: u8,

@@ -12,7 +12,7 @@ use book::{BOOK_WORDS, RULE_BYTES, TABLE_WORDS};
 const BLOCK_BYTES: usize = 32768;
 
 // Where the next command begins, and where the output ends.
-#[derive(Drop)]
+#[derive(Clone, Copy)]
 pub struct Reached {
     pub next: usize,
     pub end: usize,

@@ -3,7 +3,7 @@ ghost use Rattle.std.specs.Prelude.{◌*◌, ◌≤◌, length};
 ghost use Rattle.office.specs.Command.{Bare, CommandTold};
 
 // A request has the length of its block, whose bytes are in the buffer that was lent to the reader. A line that is neither, bad hex among them, is bad.
-#[derive(Drop)]
+#[derive(Clone, Copy)]
 pub enum Command {
     Edit,
     Request(usize),

@@ -4,7 +4,7 @@ ghost use Rattle.model.specs.Gate.{is_end};
 ghost use Rattle.office.specs.Input.{LineLength, Split};
 
 // Where the file ends, and where the first command begins.
-#[derive(Drop)]
+#[derive(Clone, Copy)]
 pub struct Places {
     pub file: usize,
     pub commands: usize,

@@ -17,7 +17,7 @@ use codes::{
 use values::Operand;
 
 // Where a part of a policy ends, if there is one.
-#[derive(Drop)]
+#[derive(Clone, Copy)]
 enum Reading {
     Read(usize),
     Malformed,
@@ -25,7 +25,7 @@ enum Reading {
 
 // How a term begins, after NOT or not: one without parentheses, where it ends and the atoms of its largest set (9 for more than 8); a parenthesis,
 // and where its policy begins; or neither.
-#[derive(Drop)]
+#[derive(Clone, Copy)]
 enum Head {
     Leaf(usize, u8),
     Open(usize),
@@ -34,7 +34,7 @@ enum Head {
 
 // A constant, a set or an attribute, if there is one: what it stands for, its atoms as written (9 for more than 8, 0 of an attribute), and
 // where it ends.
-#[derive(Drop)]
+#[derive(Clone, Copy)]
 pub struct Var {
     pub ok: bool,
     pub atoms: u8,
@@ -43,7 +43,7 @@ pub struct Var {
 }
 
 // The constants of a set, if they are well formed: how many (9 for more than 8), and where the brace is that ends them.
-#[derive(Drop)]
+#[derive(Clone, Copy)]
 struct Constants {
     ok: bool,
     atoms: u8,

@@ -10,7 +10,7 @@ use codes::{AND, END, MALFORMED, OR, OVER_LIMITS, RPAREN, UNDECLARED};
 
 // How far the loop has come: the place of the next token, the parentheses that are open there, and the counts of what was read: terms (17 for more
 // than 16), the depth of parentheses and the atoms of the largest set (9 for more than 8).
-#[derive(Drop)]
+#[derive(Clone, Copy)]
 pub struct Reached {
     at: usize,
     unclosed: usize,
@@ -20,7 +20,7 @@ pub struct Reached {
 }
 
 // What stands there: a term is expected, or one stands behind; the end of a whole policy; or what no policy has there.
-#[derive(Drop)]
+#[derive(Clone, Copy)]
 pub enum Stand {
     Before(Reached),
     Behind(Reached),

@@ -27,7 +27,7 @@ const OUTERMOST: u64 = 144115188075855872;
 // The policy that is walked over: its conjunctions passed so far, joined by OR; the terms of this one, joined by AND; beside each, whether it is UNDEF for
 // lack of values; whether NOT stands before what comes next. Then the policies around it whose parentheses are open, seven bits each, the innermost lowest.
 // The causes are fields beside the values, since verdicts as fields would be packed and unpacked at each term.
-#[derive(Drop)]
+#[derive(Clone, Copy)]
 pub struct Walk {
     either: Truth,
     absent: bool,

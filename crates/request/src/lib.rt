@@ -18,14 +18,14 @@ use truth::Truth;
 use truth::verdict::Verdict;
 
 // "absent (an operand or that attribute lacks values …) or unlike (all other UNDEF, the constant too)."
-#[derive(Drop)]
+#[derive(Clone, Copy)]
 pub enum Cause {
     Absent,
     Unlike,
 }
 
 // "decision enum: Permit with rule number, Deny, Undefined, Refused with number"; undefined with its cause.
-#[derive(Drop)]
+#[derive(Clone, Copy)]
 pub enum Decision {
     Permit(u8),
     Deny,

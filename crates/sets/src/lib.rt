@@ -13,7 +13,7 @@ ghost use Rattle.sets.specs.Refreshed.{Rewritten, Refreshed};
 const MARK_WORDS: usize = 4;
 
 // What an edit does to the table: how many holders' sets changed, and the set joins of the edited holder and of those below it.
-#[derive(Drop)]
+#[derive(Clone, Copy)]
 pub struct Tally {
     pub changed: usize,
     pub joins: usize,

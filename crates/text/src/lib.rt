@@ -74,21 +74,21 @@ const BOOL_CODES: [u8; 3] = [0, 2, 1];
 // The bytes of the shorter one.
 const BOOL_BYTES: usize = 4;
 
-#[derive(Drop)]
+#[derive(Clone, Copy)]
 pub enum Int {
     Number(u32),
     Malformed,
 }
 
 // A name in words of eight bytes, low byte first.
-#[derive(Drop)]
+#[derive(Clone, Copy)]
 pub struct Packed {
     pub low: u64,
     pub high: u64,
 }
 
 // The words of an atom: an int's value, 0 or 1 for a truth value, or a str's bytes packed like a name's.
-#[derive(Drop)]
+#[derive(Clone, Copy)]
 pub struct Words {
     pub first: u64,
     pub second: u64,
@@ -96,14 +96,14 @@ pub struct Words {
 }
 
 // The number of a type, and the atom's words.
-#[derive(Drop)]
+#[derive(Clone, Copy)]
 pub struct Value {
     pub ty: u8,
     pub words: Words,
 }
 
 // Whether all were pairs, and how many of them are written.
-#[derive(Drop)]
+#[derive(Clone, Copy)]
 pub struct Hex {
     pub ok: bool,
     pub len: usize,

@@ -32,7 +32,7 @@ const USER_SORT: u64 = codes::KEY_USER as u64;
 const OBJECT_SORT: u64 = codes::KEY_OBJECT as u64;
 
 // What a tie line says: the number that it is refused for, or 0; its key; the number of the edited holder; that of the group or of the pair.
-#[derive(Drop)]
+#[derive(Clone, Copy)]
 pub struct Tie {
     pub number: u8,
     pub key: u8,

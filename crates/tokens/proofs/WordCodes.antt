@@ -38,8 +38,8 @@ one_of_all {A} word p (b ∷ rest) s a h e = let (i, j) = all-parts p b rest h i
 abbrev plain : Token → Bool
 plain t = eqb (source_in t) 0 && eqb (low_in t) 0 && eqb (high_in t) 0
 
-plain_code : (t : Token) → plain t ≡ true → code_of t ≡ plain_code (kind_of t)
-plain_code t e =
+plain_code_lem : (t : Token) → plain t ≡ true → code_of t ≡ plain_code (kind_of t)
+plain_code_lem t e =
     let (p, h) = parts _ _ e in
     let (k, l) = parts _ _ p in
     let a = eqb-true (source_in t) 0 k in
@@ -57,7 +57,7 @@ module _ (w : Bytes) where
 
       go : (o : Option Token) → one_of spelling capitals w ≡ o → k ≡ coded kind_of o → coded_token (o or_else rest) ≡ plain_code k
       go none f g = absurd (n g)
-      go (some t) f g = plain_code t (one_of_all spelling plain capitals w t refl f) ∙ ap (λ (j : ℕ). plain_code j) (sym g)
+      go (some t) f g = plain_code_lem t (one_of_all spelling plain capitals w t refl f) ∙ ap (λ (j : ℕ). plain_code j) (sym g)
 
   pub no-capital : 0 ≡ capital_kind w → one_of spelling capitals w ≡ none
   unfolding capital_kind

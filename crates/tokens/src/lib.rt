@@ -34,7 +34,7 @@ const CAPITALS: [u64; 9] = [
 const CAPITAL_KINDS: [u8; 9] = [0, AND, OR, NOT, TRUE, FALSE, UNDEF, IN, SUBSET];
 
 // Whether some byte is of no token, whether some name is undeclared, and how many bytes of code are written.
-#[derive(Drop)]
+#[derive(Clone, Copy)]
 pub struct Encoded {
     pub bad: bool,
     pub unknown: bool,
@@ -42,7 +42,7 @@ pub struct Encoded {
 }
 
 // What tells a token: its kind, the source and the packed bytes of a name; low is an int's value, or the length of a str's text.
-#[derive(Drop)]
+#[derive(Clone, Copy)]
 struct Code {
     kind: u8,
     source: u8,
@@ -51,7 +51,7 @@ struct Code {
 }
 
 // A token of a policy, and the place behind it.
-#[derive(Drop)]
+#[derive(Clone, Copy)]
 struct Token {
     code: Code,
     next: usize,
@@ -289,7 +289,7 @@ fn token_at(s: &[u8], at: usize) -> Token
 }
 
 // How far the code reaches now, and whether the token is an undeclared name.
-#[derive(Drop)]
+#[derive(Clone, Copy)]
 struct Written {
     len: usize,
     unknown: bool,

@@ -9,7 +9,7 @@ ghost use Rattle.truth.specs.Verdicts.{verdict, verdict_of, both, either, signed
 use crate::Truth;
 
 // A value, and whether it is UNDEF for lack of values.
-#[derive(Drop)]
+#[derive(Clone, Copy)]
 pub struct Verdict {
     pub value: Truth,
     pub absent: bool,

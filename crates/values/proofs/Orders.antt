@@ -83,7 +83,7 @@ extreme-reaches greatest best (w ∷ l) =
     let next = further greatest best w.first in
     reaches-on greatest best next (extreme_from greatest next l) (further-reaches greatest best w.first).0 (extreme-reaches greatest next l)
 
-none-further : (greatest : Bool) (best : ℕ) {l : List Words} {w : Words} → w ∈ l → Reaches greatest w.first (extreme_from greatest best l)
+none-further : (greatest : Bool) {w : Words} (best : ℕ) {l : List Words} → w ∈ l → Reaches greatest w.first (extreme_from greatest best l)
 unfolding extreme_from
 none-further greatest best (here {x = y} {xs = l} e) =
     let next = further greatest best y.first in

@@ -29,7 +29,7 @@ const PAIRS: usize = 256;
 const LARGEST: u64 = 4294967295;
 
 // The values beside an operator, all of one type.
-#[derive(Drop)]
+#[derive(Clone, Copy)]
 pub struct Operand {
     // The type; 0 where there is no value.
     pub ty: u8,
@@ -40,7 +40,7 @@ pub struct Operand {
 }
 
 // The constant at a position, if one is there, and the position behind it.
-#[derive(Drop)]
+#[derive(Clone, Copy)]
 pub struct Found {
     pub here: bool,
     pub words: Words,
@@ -48,7 +48,7 @@ pub struct Found {
 }
 
 // The greatest of some numbers, or the least, if there is one.
-#[derive(Drop)]
+#[derive(Clone, Copy)]
 struct Bound {
     here: bool,
     number: u64,

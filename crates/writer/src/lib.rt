@@ -17,7 +17,7 @@ pub mod tie;
 const FILE_BYTES: usize = 32768;
 
 // 0 and the length of the text, or the refusal and 0.
-#[derive(Drop)]
+#[derive(Clone, Copy)]
 pub struct Written {
     pub number: u8,
     pub length: usize,
