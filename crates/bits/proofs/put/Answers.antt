@@ -4,9 +4,7 @@ use mathlib.Core.Bool.{Bool, true, false, ◌||◌, ◌&&◌, not}
 use lib.Dec.{eqb}
 use Rattle.model.specs.Notation.{if◌then◌else◌}
 use Rattle.bits.specs.Bits.{bit}
-use borrow.Author.Rules.{rules}
-use Rattle.bits.proofs.put.Statement.{statement}
-use Rattle.bits.proofs.put.Tie as tie
+use Rattle.bits.proofs.put.Goals as goal
 
 set-by : (a b on : Bool) → on ≡ true → (a || b) ≡ (if b then on else a)
 set-by true true on e = sym e
@@ -20,15 +18,10 @@ clear-by false true on e = sym e
 clear-by true false on e = refl
 clear-by false false on e = refl
 
-returns : tie.Need-returns
+pub returns-then-on : goal.returns-then-on
+returns-then-on c j =
+    c.with.ensures j ∙ set-by (bit c.args.w j) (eqb j c.args.i) c.args.on c.if-on.true
+
+pub returns : goal.returns
 returns c j =
-    let start = c.before.before in
-    c.with.ensures j ∙ set-by (bit start.args.w j) (eqb j start.args.i) start.args.on c.before.if1.true
-
-returns-2 : tie.Need-returns-2
-returns-2 c j =
-    let start = c.before.before in
-    c.without.ensures j ∙ clear-by (bit start.args.w j) (eqb j start.args.i) start.args.on c.before.if1.false
-
-pub put_spec : {M : Type 1} → statement M
-put_spec = tie.close (tie.spec (λ c κs. search rules) returns (λ c κs. search rules) returns-2)
+    c.without.ensures j ∙ clear-by (bit c.args.w j) (eqb j c.args.i) c.args.on c.if-on.false
