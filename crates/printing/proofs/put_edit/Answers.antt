@@ -1,0 +1,10 @@
+-- `printing::put_edit` meets its contract.
+use Rattle.model.specs.Gate.{printed}
+use Rattle.printing.proofs.PrintedLines.{triple-printed}
+use Rattle.printing.proofs.put_edit.Goals as goal
+
+pub returns : goal.returns
+unfolding printed
+returns c =
+    triple-printed c.put_pair-a.ensures c.args.edited.joins
+    c.put_byte-b.ensures c.put_decimal-c.ensures c.put_byte.ensures

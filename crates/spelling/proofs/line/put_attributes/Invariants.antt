@@ -1,0 +1,11 @@
+-- `put_attributes` meets its contract.
+use Prim.Native.Nat.{◌-◌, ◌≤◌}
+use Rattle.spelling.specs.LineTexts.{attribute_line_text}
+use Rattle.spelling.proofs.LaidTexts.{EachLaid}
+use Rattle.spelling.proofs.line.put_attributes.Given as goal
+
+abbrev pub invariant-loop-k : goal.invariant-loop-k
+invariant-loop-k l = (l.k ≤ l.count) × EachLaid (attribute_line_text l.book) 64 l.initial.out l.at l.out l.n l.k
+
+abbrev pub decreases-loop-k : goal.decreases-loop-k
+decreases-loop-k l = l.count - l.k

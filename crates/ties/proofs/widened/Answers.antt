@@ -1,0 +1,36 @@
+-- `ties::widened` meets its contract: of the slots that the walk has passed, those that are to be taken are. Assumes nothing.
+use mathlib.Core.Path.{sym, ap, ◌∙◌}
+use mathlib.Core.Logic.{⊎_elim}
+use Prim.Native.Nat.{ℕ}
+use Rattle.bits.specs.Bits.{bit}
+use Rattle.bits.proofs.Bits.{bit-none}
+use Rattle.bits.proofs.Walks.{fewer-left}
+use Rattle.ties.proofs.Widening.{left-of, pass-start, pass-end, pass_on, pass-off}
+use Rattle.ties.proofs.widened.Goals as goal
+
+pub loop-left-init : goal.loop-left-init
+loop-left-init c =
+    pass-start c.args.ups.now c.args.slots.now c.args.e c.args.m _
+    (left-of c.args.ups.now c.args.slots.now c.args.e c.args.used c.args.m (bit c.still_left-left.result) c.requires c.still_left-left.ensures)
+
+pub with-next-requires : goal.with-next-requires
+with-next-requires c = (c.lowest-q.ensures.held c.loop-left-test.true).0
+
+pub without-left-requires : goal.without-left-requires
+without-left-requires c = (c.lowest-q.ensures.held c.loop-left-test.true).0
+
+pub loop-left-smaller : goal.loop-left-smaller
+loop-left-smaller c =
+    let held = c.lowest-q.ensures.held c.loop-left-test.true in
+    fewer-left c.loop-left.left c.without-left.result c.lowest-q.result held.1 c.without-left.ensures held.0
+
+pub loop-left-preserved : goal.loop-left-preserved
+loop-left-preserved c =
+    ⊎_elim
+    (λ w. rw w.2 (pass_on c.args.ups.now c.args.slots.now c.args.e c.loop-left.invariant (bit c.without-left.result) c.lowest-q.result c.without-left.ensures w.1.result w.1.ensures (sym c.slot_is_under.ensures ∙ w.0.taken)))
+    (λ w. rw w.1 (pass-off c.args.ups.now c.args.slots.now c.args.e c.loop-left.invariant (bit c.without-left.result) c.lowest-q.result c.without-left.ensures (sym c.slot_is_under.ensures ∙ w.0.left)))
+    c.if-slot_is_under.branch
+
+pub returns : goal.returns
+returns c =
+    pass-end c.args.ups.now c.args.slots.now c.args.e c.loop-left.invariant (λ q l. ap (λ (w : ℕ). bit w q) c.loop-left-test.false ∙ bit-none q)

@@ -1,0 +1,13 @@
+-- `values::entry_number` meets its contract. Assumes nothing.
+use Prim.Native.Nat.{ℕ, ◌*◌, ◌-◌, ◌≤◌, ◌<◌}
+use mathlib.Core.Path.{◌≡◌}
+use mathlib.Core.Bool.{false}
+use lib.Dec.{eqb}
+use Rattle.model.specs.Block.{byte_at}
+use Rattle.values.proofs.entry_number.Given as goal
+
+abbrev pub invariant-loop-j : goal.invariant-loop-j
+invariant-loop-j l = ((m : ℕ) → l.i ≤ m → m < l.j → eqb (byte_at l.entries (5 * m)) l.k ≡ false) × (l.i ≤ l.j)
+
+abbrev pub decreases-loop-j : goal.decreases-loop-j
+decreases-loop-j l = l.n - l.j

@@ -1,0 +1,10 @@
+-- `put_values` meets its contract.
+use mathlib.Core.Path.{◌≡◌}
+use native.Mathlib.Omega.{arith}
+use Rattle.spelling.proofs.LaidTexts.{each-end}
+use Rattle.writer.proofs.tie.put_values.Goals as goal
+
+pub returns : goal.returns
+returns c =
+        let e : c.loop-h.h ≡ c.count-count.result = omega arith in
+    each-end c.loop-h.invariant.1 e c.count-count.ensures
