@@ -18,5 +18,5 @@ returns c = λ S b of.
     by-rules of c.byte_to_index-user.result c.four-mask.result c.byte_to_index-user.ensures.0 c.four-mask.ensures
     c.unheld.result c.unheld.ensures
     c.byte_to_index-object.result c.byte_to_index-object.ensures.0 c.in_room-declared.result c.in_room-declared.ensures.1
-    c.«open».new.1.1.1.1.1.1.0 c.«open».ensures
+    c.open.new.1.1.1.1.1.1.0 c.open.ensures
     c.if-unheld.false c.in_room-rules.result c.in_room-rules.ensures.1 _ refl c.decided.result c.decided.ensures

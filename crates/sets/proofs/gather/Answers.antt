@@ -22,12 +22,13 @@ loop-above-smaller c =
 
 pub loop-above-preserved : goal.loop-above-preserved
 loop-above-preserved c p h =
-                let held = c.lowest-q.ensures.held c.loop-above-test.true in
-    let f : ℕ → Bool = λ c.lowest-q.result. holds c.args.table.now (get_or c.args.slots.now c.lowest-q.result 0) p in
-    let rest : Bool = any_below 64 (λ c.lowest-q.result. bit c.without-above.result c.lowest-q.result && f c.lowest-q.result) in
+            let q = c.lowest-q.result in
+    let held = c.lowest-q.ensures.held c.loop-above-test.true in
+    let f : ℕ → Bool = λ q. holds c.args.table.now (get_or c.args.slots.now q 0) p in
+    let rest : Bool = any_below 64 (λ q. bit c.without-above.result q && f q) in
     ap (λ (b : Bool). b || rest) (c.inherit-next.ensures p h ∙ ap (λ (k : ℕ). member c.loop-above.sum p || holds c.args.table.now k p) c.holder_at-k.ensures)
-    ∙ or_assoc (member c.loop-above.sum p) (f c.lowest-q.result) rest
-    ∙ ap (λ (b : Bool). member c.loop-above.sum p || b) (sym (any_left c.loop-above.above c.without-above.result c.lowest-q.result held.1 c.without-above.ensures 64 f held.0))
+    ∙ or_assoc (member c.loop-above.sum p) (f q) rest
+    ∙ ap (λ (b : Bool). member c.loop-above.sum p || b) (sym (any_left c.loop-above.above c.without-above.result q held.1 c.without-above.ensures 64 f held.0))
     ∙ c.loop-above.invariant p h
 
 pub returns : goal.returns

@@ -22,5 +22,6 @@ returns-then-v-eq-BAD c =
 
 pub returns : goal.returns
 returns c =
-                    ap (placed c.word_in-v.result) (c.place.ensures ∙ ap (λ (c.run_length-e.ensures : ℕ). c.args.n - (length c.args.s.now - c.run_length-e.ensures)) c.run_length-e.ensures)
-    ∙ sym (word c.args.n c.args.s.now c.word_in-v.result (c.word_in-v.ensures ∙ ap (λ (c.run_length-e.ensures : ℕ). coded_token (read_word (take c.run_length-e.ensures c.args.s.now))) c.run_length-e.ensures) c.if-v-eq-BAD.false)
+                let e = c.run_length-e.ensures in
+    ap (placed c.word_in-v.result) (c.place.ensures ∙ ap (λ (e : ℕ). c.args.n - (length c.args.s.now - e)) e)
+    ∙ sym (word c.args.n c.args.s.now c.word_in-v.result (c.word_in-v.ensures ∙ ap (λ (e : ℕ). coded_token (read_word (take e c.args.s.now))) e) c.if-v-eq-BAD.false)

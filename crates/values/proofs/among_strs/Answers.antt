@@ -1,5 +1,6 @@
 -- `values::among_strs` meets its contract. Assumes nothing.
 use mathlib.Core.Path.{refl, sym, ap, ◌∙◌}
+use borrow.Author.Tests.{not-true, not-false}
 use Rattle.model.specs.Truth.{truth}
 use Rattle.values.specs.Compared.{among_of}
 use Rattle.values.proofs.Constants.{strs-find}
@@ -11,17 +12,17 @@ unfolding among_of
 loop-f-init c = record { comes-to = refl }
 
 pub returns-then-not-f : goal.returns-then-not-f
-returns-then-not-f c = seeking-end (strs-find c.args.code.now c.args.end c.str_at-f.ensures) c.loop-f.invariant c.if-not-f.true c.at_end.ensures
+returns-then-not-f c = seeking-end (strs-find c.args.code.now c.args.end c.str_at-f.ensures) c.loop-f.invariant (not-true _ c.if-not-f.true) c.at_end.ensures
 
 pub returns-then-same : goal.returns-then-same
 returns-then-same c =
-    let here = c.if-not-f.false in
+    let here = not-false _ c.if-not-f.false in
     seeking-met (strs-find c.args.code.now c.args.end c.str_at-f.ensures) c.loop-f.invariant here (ap truth (sym c.if-same.true ∙ c.same.ensures)) refl
 
 pub loop-f-smaller : goal.loop-f-smaller
-loop-f-smaller c = fewer (strs-find c.args.code.now c.args.end c.str_at-f.ensures) c.if-not-f.false
+loop-f-smaller c = fewer (strs-find c.args.code.now c.args.end c.str_at-f.ensures) (not-false _ c.if-not-f.false)
 
 pub loop-f-preserved : goal.loop-f-preserved
 loop-f-preserved c =
-    let here = c.if-not-f.false in
+    let here = not-false _ c.if-not-f.false in
     seeking-on (strs-find c.args.code.now c.args.end c.str_at-f.ensures) c.loop-f.invariant here (ap truth (sym c.if-same.false ∙ c.same.ensures)) refl

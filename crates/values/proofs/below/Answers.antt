@@ -1,6 +1,7 @@
 -- `values::below` meets its contract. Assumes nothing.
 use mathlib.Core.Path.{sym, ap, ap₂, ◌∙◌}
 use lib.Dec.{leb, ltb}
+use borrow.Author.Tests.{not-true, not-false}
 use borrow.Author.Rules.{rules}
 use Rattle.model.specs.Truth.{truth}
 use Rattle.values.specs.Operands.{lent, operand_values}
@@ -22,7 +23,7 @@ returns-then-not-least c =
     let low = operand_values lend c.args.low in
     let high = operand_values lend c.args.high in
     let said = order_of c.args.low.ty c.args.equal low high in
-        without-left low high said c.extreme-least.result.here c.extreme-least.ensures.there c.if-not-least.true
+        without-left low high said c.extreme-least.result.here c.extreme-least.ensures.there (not-true _ c.if-not-least.true)
 
 pub extreme-greatest-requires : goal.extreme-greatest-requires
 extreme-greatest-requires c = (search rules, sym c.requires.1 ∙ c.if-low-ne-INT.false)
@@ -33,8 +34,8 @@ returns-then-not-greatest c =
     let low = operand_values lend c.args.low in
     let high = operand_values lend c.args.high in
     let said = order_of c.args.low.ty c.args.equal low high in
-            without-right low high said c.extreme-least.result.here c.extreme-least.ensures.there c.if-not-least.false
-    c.extreme-greatest.result.here c.extreme-greatest.ensures.there c.if-not-greatest.true
+            without-right low high said c.extreme-least.result.here c.extreme-least.ensures.there (not-false _ c.if-not-least.false)
+    c.extreme-greatest.result.here c.extreme-greatest.ensures.there (not-true _ c.if-not-greatest.true)
 
 pub returns-then-equal : goal.returns-then-equal
 returns-then-equal c =
@@ -44,8 +45,8 @@ returns-then-equal c =
     let said = order_of c.args.low.ty c.args.equal low high in
             c.tested.ensures ∙ ap truth (ap₂ leb c.extreme-least.ensures.number_is c.extreme-greatest.ensures.number_is)
     ∙ at-most c.args.low.ty c.args.equal low high c.if-low-ne-INT.false c.if-equal.true
-    ∙ with-both low high said c.extreme-least.result.here c.extreme-least.ensures.there c.if-not-least.false
-    c.extreme-greatest.result.here c.extreme-greatest.ensures.there c.if-not-greatest.false
+    ∙ with-both low high said c.extreme-least.result.here c.extreme-least.ensures.there (not-false _ c.if-not-least.false)
+    c.extreme-greatest.result.here c.extreme-greatest.ensures.there (not-false _ c.if-not-greatest.false)
 
 pub returns : goal.returns
 returns c =
@@ -55,5 +56,5 @@ returns c =
     let said = order_of c.args.low.ty c.args.equal low high in
             c.tested-2.ensures ∙ ap truth (ap₂ ltb c.extreme-least.ensures.number_is c.extreme-greatest.ensures.number_is)
     ∙ strictly c.args.low.ty c.args.equal low high c.if-low-ne-INT.false c.if-equal.false
-    ∙ with-both low high said c.extreme-least.result.here c.extreme-least.ensures.there c.if-not-least.false
-    c.extreme-greatest.result.here c.extreme-greatest.ensures.there c.if-not-greatest.false
+    ∙ with-both low high said c.extreme-least.result.here c.extreme-least.ensures.there (not-false _ c.if-not-least.false)
+    c.extreme-greatest.result.here c.extreme-greatest.ensures.there (not-false _ c.if-not-greatest.false)

@@ -1,7 +1,7 @@
 -- `office::command::read` meets its contract.
 use mathlib.Core.Path.{sym, ◌∙◌}
 use native.Mathlib.Omega.{arith}
-use borrow.Author.Tests.{not-false}
+use borrow.Author.Tests.{not-true, not-false}
 use lib.Seq.{length-take-le}
 use Rattle.office.proofs.Commands.{Requests, no_bytes, plus-call, minus-call, too_short, not-try, a-try, request-read, request-bad}
 use Rattle.office.proofs.command.read.Tie as tie
@@ -36,8 +36,8 @@ a-request c =
 
 pub returns-then-not-hex : goal.returns-then-not-hex
 returns-then-not-hex c =
-        request-bad _ 4 _ (a-request c.before.before.before.before.before) _ _ c.unhex-hex.result c.unhex-hex.ensures c.if-not-hex.true
+        request-bad _ 4 _ (a-request c.before.before.before.before.before) _ _ c.unhex-hex.result c.unhex-hex.ensures (not-true c.unhex-hex.result.ok c.if-not-hex.true)
 
 pub returns : goal.returns
 returns c =
-        request-read _ 4 _ (a-request c.before.before.before.before.before) _ _ c.unhex-hex.result c.unhex-hex.ensures c.if-not-hex.false
+        request-read _ 4 _ (a-request c.before.before.before.before.before) _ _ c.unhex-hex.result c.unhex-hex.ensures (not-false c.unhex-hex.result.ok c.if-not-hex.false)
