@@ -1,13 +1,13 @@
-// The office program: reads its input from standard input, and writes the output. A program has no exit status of its own, so a failing read or
-// write is told on standard error.
+// The office program: reads its input from standard input, and writes the output. A failing read or write is told on standard error, with status 1.
 #![tactic(auto)]
 
-ghost use Rattle.std.specs.Prelude.{◌≡◌, ◌+◌, ◌*◌, ◌≤◌, length, take};
-ghost use Rattle.io.specs.Counts.{IsPrefixLen};
+use std::io;
+use std::io::{ErrorKind, Read, Write};
+use std::process::ExitCode;
+
+ghost use Rattle.std.specs.Prelude.{◌≡◌, ◌+◌, ◌*◌, ◌≤◌, length, take, IfOk};
 ghost use Rattle.model.specs.Gate.{gate};
 ghost use Rattle.printing.specs.Printing.{answer_bytes};
-
-use libc::{STDIN_FILENO, STDOUT_FILENO};
 
 // One byte more than an input may have.
 const READ: usize = 65537;
@@ -28,24 +28,50 @@ fn output_buffer() -> [u8; WRITTEN] {
 // The output of an input, and its length in the words that lending a part of the buffer asks for.
 fn written(input: &[u8], out: &mut [u8]) -> usize
     requires { answer_bytes + answer_bytes * length input.now ≤ length out.old }
-    ensures prefix_len { IsPrefixLen result out.new }
+    ensures prefix_len { (result ≤ length out.new) × (result ≡ length (take result out.new)) }
     ensures out_after { take result out.new ≡ gate input.now }
 {
     office::run(input, out)
 }
 
-fn main() {
-    let mut input = input_buffer();
-    let n = io::read_full(STDIN_FILENO, &mut input);
-    // A short count is the end of the input or a read that failed; errno is 0 at a program's start, and a read that succeeds leaves it.
-    if os::errno() != 0 {
-        os::fail(b"gate: standard input cannot be read");
-        return;
+// Reads until the buffer is full or the input ends, and answers how many bytes it has then.
+fn read_full<R: Read>(from: &mut R, buffer: &mut [u8]) -> io::Result<usize>
+    ensures { IfOk result (λ n. n ≤ length buffer.new) }
+{
+    let mut at = 0;
+    for _ in 0..u64::MAX {
+        if at == buffer.len() {
+            break;
+        }
+        match from.read(&mut buffer[at..]) {
+            Ok(0) => break,
+            Ok(n) => at += n,
+            Err(e) => {
+                if e.kind() != ErrorKind::Interrupted {
+                    return Err(e);
+                }
+            }
+        }
     }
+    Ok(at)
+}
+
+// Tells what went wrong, where standard error can be written.
+fn failed(rt: &HostRuntime, message: &str) -> ExitCode {
+    match eprintln!(rt; "{message}") {
+        Ok(()) | Err(_) => ExitCode::FAILURE,
+    }
+}
+
+fn main(rt: HostRuntime) -> ExitCode {
+    let mut input = input_buffer();
+    let Ok(n) = read_full(&mut rt.reader(), &mut input) else {
+        return failed(&rt, "gate: standard input cannot be read");
+    };
     let mut out = output_buffer();
     let length = written(&input[..n], &mut out);
-    let is_written = io::write_all(STDOUT_FILENO, &out[..length]);
-    if !is_written {
-        os::fail(b"gate: standard output cannot be written");
+    match rt.stdout().write_all(&out[..length]) {
+        Ok(()) => ExitCode::SUCCESS,
+        Err(_) => failed(&rt, "gate: standard output cannot be written"),
     }
 }

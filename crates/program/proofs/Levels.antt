@@ -1,6 +1,6 @@
 -- Levels in a number, seven bits each.
 use Prim.Native.Nat.{ℕ, zero, suc, ◌+◌, ◌*◌, ◌/◌, ◌%◌, ◌^◌, ◌≤◌, ◌<◌}
-use mathlib.Core.Path.{◌≡◌, refl, sym, ap, ap₂, ◌∙◌}
+use mathlib.Core.Path.{◌≡◌, refl, ap, ap₂, ◌∙◌}
 use mathlib.Core.Bool.{Bool, true, false}
 use mathlib.Core.List.{List, [], ◌∷◌}
 use native.Mathlib.Omega.{arith}
@@ -11,10 +11,10 @@ use lib.ListN.{length}
 use Rattle.model.specs.Limits.{depth_limit}
 use Rattle.truth.specs.declared.Truth.TheVariants.{True}
 use Rattle.truth.specs.declared.verdict.Verdict as truth
-use Rattle.truth.specs.Verdicts.{Verdict, verdict_of, both, either, signed, flag_number, verdict_number, OfNumber}
+use Rattle.truth.specs.Verdicts.{verdict_of, both, either, signed, flag_number, verdict_number, OfNumber}
 use Rattle.truth.proofs.Verdicts.{flag-few, verdict-few, flag-test}
 use Rattle.program.specs.declared.Walk as code
-use Rattle.program.specs.Walks.{Level, level, no_conjunction, Walk, around, termed, comes_to, passed, level_number, levels, either_of, both_of, WalkIs, Termed, Around, Fresh}
+use Rattle.program.specs.Walks.{Level, no_conjunction, Walk, around, termed, comes_to, passed, levels, either_of, both_of, WalkIs, Termed, Around, Fresh}
 
 -- n levels are below 128 to the power of n
 levels-below : (n : ℕ) (ls : List Level) → length ls ≤ n → levels ls < 128 ^ n

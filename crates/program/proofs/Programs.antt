@@ -1,10 +1,9 @@
 -- A program stays one of the same tokens with other rows of the same attributes, and with more attributes.
-use Prim.Native.Nat.{ℕ, ◌+◌, ◌*◌}
-use mathlib.Core.Path.{◌≡◌, refl, sym, subst, ◌∙◌}
+use Prim.Native.Nat.{ℕ}
+use mathlib.Core.Path.{◌≡◌, sym, subst, ◌∙◌}
 use mathlib.Core.List.{List}
 use mathlib.Core.Option.{some}
 use lib.Dec.{eqb, leb, ltb}
-use lib.ListN.{get_or}
 use Rattle.model.specs.Notation.{if◌then◌else◌, nth}
 use Rattle.model.specs.Limits.{attribute_limit}
 use Rattle.model.specs.Bytes.{Bytes}

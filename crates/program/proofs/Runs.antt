@@ -1,8 +1,8 @@
 -- A run over a program, token by token and row by row.
-use Prim.Native.Nat.{ℕ, ◌+◌, ◌*◌, ◌≤◌, ◌<◌, max}
-use mathlib.Core.Path.{◌≡◌, refl, sym, ap, subst, ◌∙◌}
-use mathlib.Core.Bool.{Bool, true, false}
-use mathlib.Core.List.{List, []}
+use Prim.Native.Nat.{ℕ, ◌+◌, ◌≤◌}
+use mathlib.Core.Path.{◌≡◌, refl, sym, ap, ◌∙◌}
+use mathlib.Core.Bool.{Bool, true}
+use mathlib.Core.List.{[]}
 use native.Mathlib.Omega.{arith}
 use lib.ListN.{length, get_or}
 use Rattle.model.specs.Notation.{if◌then◌else◌}
@@ -13,7 +13,7 @@ use Rattle.truth.specs.Verdicts.{Verdict, verdict_of, either}
 use Rattle.values.specs.Operands.{Lent}
 use Rattle.program.specs.declared.Walk as code
 use Rattle.program.specs.Walks.{Walk, walk, fresh, Fresh, termed, passed, is_passed, either_of, both_of, WalkIs}
-use Rattle.program.specs.TermRows.{row_bytes, row_next, RowValue}
+use Rattle.program.specs.TermRows.{row_bytes, row_next}
 use Rattle.program.specs.Runs.{Runs, done, past, term, NextAt, next_row, Stepped, Ran}
 use Rattle.program.proofs.Levels.{verdict-is}
 

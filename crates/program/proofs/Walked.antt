@@ -1,18 +1,17 @@
 -- The walk over a policy's tokens comes to the verdict on the policy.
-use Prim.Native.Nat.{ℕ, zero, suc, ◌+◌, ◌≤◌, ◌<◌, max}
+use Prim.Native.Nat.{ℕ, ◌+◌, ◌≤◌}
 use mathlib.Core.Path.{◌≡◌, refl, sym, ap, ap₂, subst, ◌∙◌}
 use mathlib.Core.Bool.{Bool, true, false}
 use mathlib.Core.List.{List, [], ◌∷◌, ◌++◌, append-nil, append_assoc}
-use mathlib.Core.Option.{none, some}
+use mathlib.Core.Option.{none}
 use native.Mathlib.Omega.{arith}
 use lib.ListN.{length}
-use Rattle.model.specs.Notation.{◌or_else◌}
 use Rattle.model.specs.Limits.{depth_limit}
-use Rattle.model.specs.Truth.{Truth, FALSE, UNDEF, TRUE, ◌AND◌, ◌OR◌, is_undef}
+use Rattle.model.specs.Truth.{Truth, FALSE, UNDEF, TRUE, ◌AND◌, ◌OR◌}
 use Rattle.model.specs.Tokens.{Token, Mark}
 use Rattle.model.specs.Grammar.{Policy, constant, lone, compare, Part, simple, term, conjunction, policy, Obeys, a-truth, a-lone, in-parentheses, plain, negation, comparison, one-term, joined-by-and, one-conjunction, joined-by-or, read_operator, read_comparison, terms, depth}
-use Rattle.model.specs.Meaning.{Values, meaning}
-use Rattle.model.specs.Causes.{built, is_absent}
+use Rattle.model.specs.Meaning.{Values}
+use Rattle.model.specs.Causes.{built}
 use Rattle.model.proofs.WordTables.{false-is-true}
 use Rattle.model.proofs.Complete.{reads-comparison}
 use Rattle.model.proofs.Nesting.{AND-associates, OR-associates}

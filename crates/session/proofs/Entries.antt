@@ -14,7 +14,7 @@ use Rattle.model.specs.Notation.{if◌then◌else◌, map, filter, each, all_of,
 use Rattle.model.specs.Limits.{largest_int}
 use Rattle.model.specs.Bytes.{Bytes}
 use Rattle.model.specs.Attributes.{Source, AtomType}
-use Rattle.model.specs.Atoms.{Atom, int, bool}
+use Rattle.model.specs.Atoms.{Atom}
 use Rattle.model.specs.Declarations.{Attribute, same_source_and_name}
 use Rattle.model.specs.Block.{Entry, number, byte_at, value_at, entries_of}
 use Rattle.model.specs.Session.{given, entry_value}

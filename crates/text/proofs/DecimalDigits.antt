@@ -1,6 +1,6 @@
 -- Decimal digits on the way through a list.
 use Prim.Native.Nat.{ℕ, ◌+◌, ◌-◌, ◌*◌, ◌≤◌, ◌<◌}
-use mathlib.Core.Path.{◌≡◌, refl, ap}
+use mathlib.Core.Path.{◌≡◌, refl, ap, ◌∙◌}
 use mathlib.Core.Bool.{Bool, true, false, ◌&&◌, not}
 use mathlib.Core.List.{[], ◌∷◌}
 use mathlib.Core.Option.{none}
@@ -47,6 +47,13 @@ module _ (s : Bytes) (i v : ℕ) where
 
   pub number-end : length s ≤ i → number_from v (drop i s) ≡ v
   number-end h = rw (done s i h)
+
+-- the digit at place i, whose byte is x, is read
+pub digit-on : (s : Bytes) → is_decimal s ≡ true → (i v x : ℕ) → i < length s → x ≡ get_or s i 0 → number_from v (drop i s) ≡ number_from (v * 10 + x - 48) (drop (i + 1) s)
+digit-on s e i v x h is =
+    let d = decimal-at s e i h in
+    let sum : v * 10 + (get_or s i 0 - 48) ≡ v * 10 + x - 48 = omega arith in
+    number-on s i v h ∙ ap (λ (n : ℕ). number_from n (drop (i + 1) s)) sum
 
 pub number-grows : (v : ℕ) (s : Bytes) → v ≤ number_from v s
 number-grows v [] = omega arith

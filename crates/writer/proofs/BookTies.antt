@@ -11,7 +11,7 @@ use Rattle.model.specs.Notation.{if◌then◌else◌, ◌>>=◌, map, each, filt
 use Rattle.model.specs.Limits.{pair_limit}
 use Rattle.model.specs.Bytes.{Bytes, bytes}
 use Rattle.model.specs.Atoms.{write_atom}
-use Rattle.model.specs.Declarations.{Holder, Pair, Sort, holder_of, sort_of, holder_numbers_of, is_group, parent_sort, group_sort, groups}
+use Rattle.model.specs.Declarations.{Holder, Pair, Sort, holder_of, sort_of, holder_numbers_of, is_group, parent_sort, group_sort}
 use Rattle.model.specs.Lines.{Line, parent as parent_line, member as member_line, value as value_line}
 use Rattle.model.specs.Ties.{Tie, up}
 use Rattle.model.specs.State.{State}
@@ -225,10 +225,10 @@ module _ {book : List ℕ} {rules : Bytes} {S : State} (standing : Standing S) (
 
   module _ (pair-name : (p : ℕ) (q : Pair) → nth S.declared.pairs p ≡ some q → name_text book (row_of_pair book p + 2) ≡ q.name)
       (pair-atom : (p : ℕ) (q : Pair) → nth S.declared.pairs p ≡ some q → pair_atom_text book p ≡ write_atom q.atom) where
-    value_line : (h p : ℕ) → h < count → p < length S.declared.pairs
+    value-line : (h p : ℕ) → h < count → p < length S.declared.pairs
         → value_line_text book h p ≡ each line_text (listed (tie_line S.declared (Tie.value h p)))
     unfolding value_line_text listed_text word_text
-    value_line h p l m =
+    value-line h p l m =
         let (a, e) = holder-there standing held h l in
         let (q, f) = lt-nth S.declared.pairs p m in
         ap₂ (λ (x y : Bytes). bytes "value=" ++ (x ++ (bytes "," ++ (y ++ (bytes "," ++ (pair_atom_text book p ++ line_end))))))
@@ -246,7 +246,7 @@ module _ {book : List ℕ} {rules : Bytes} {S : State} (standing : Standing S) (
         sym (each_none (member_text (own_of book h) (value_line_text book h)) (length S.declared.pairs) pair_limit (pairs-fit standing)
         (λ p i j. ap (λ (t : Bool). if t then value_line_text book h p else []) (own_is h p few j ∙ off (S.ties (Tie.value h p)) (λ on. no-pair p i on))))
         ∙ each_same (member_text (own_of book h) (value_line_text book h)) (λ p. tie_text (Tie.value h p)) (length S.declared.pairs)
-        (λ p i. ap₂ (λ (t : Bool) (x : Bytes). if t then x else []) (own_is h p few (omega (arith, pairs-fit standing))) (value_line h p l i))
+        (λ p i. ap₂ (λ (t : Bool) (x : Bytes). if t then x else []) (own_is h p few (omega (arith, pairs-fit standing))) (value-line h p l i))
       where
         no-pair : (p : ℕ) → length S.declared.pairs ≤ p → S.ties (Tie.value h p) ≡ true → ⊥
         no-pair p i on = let m = nth-lt S.declared.pairs p (standing.ties-fit (Tie.value h p) on).pair_is in omega arith

@@ -13,7 +13,6 @@ use Rattle.model.specs.Limits.{Edition, table_words}
 use Rattle.model.specs.Numbers as refusal
 use Rattle.model.specs.Bytes.{Bytes}
 use Rattle.model.specs.State.{State, empty}
-use Rattle.model.specs.Edits.{edit}
 use Rattle.model.specs.Ledger.{Call, Answer, Outcome, outcome, ledger_from, ledger}
 use Rattle.model.specs.FileText.{FileWritten, file_lines, file_text, write_file, written_length}
 use Rattle.model.proofs.Lists.{◌∈◌}

@@ -9,7 +9,7 @@ use Rattle.engine.proofs.fill.Goals as goal
 
 pub fill-requires : goal.fill-requires
 fill-requires c =
-        let size : (s : section.Section) → s.start + s.size ≤ section.book_words → length (section.section_words s c.args.book.now) ≡ s.size =
+    let size : (s : section.Section) → s.start + s.size ≤ section.book_words → length (section.section_words s c.args.book.now) ≡ s.size =
     λ s f. part-size s c.args.book.now c.requires.0 f in
     let ups = size section.ups (omega arith) in
     let own = size section.own (omega arith) in

@@ -14,8 +14,8 @@ slice_bounds-name_field-end c = sym (length-take-le c.index_of-d.result c.args.f
 
 pub returns-then-not-field : goal.returns-then-not-field
 returns-then-not-field c =
-        no-operation c.args.f.now c.index_of-d.result (c.index_of-d.ensures.found c.if-f-d.false) c.name_field-field.ensures c.no_rule-then-not-field.ensures (not-true _ c.if-not-field.true)
+    no-operation c.args.f.now c.index_of-d.result (c.index_of-d.ensures.found c.if-f-d.false) c.name_field-field.ensures c.no_rule-then-not-field.ensures (not-true _ c.if-not-field.true)
 
 pub returns : goal.returns
 returns c =
-        rule-given c.args.f.now c.index_of-d.result (c.index_of-d.ensures.found c.if-f-d.false) c.name_field-field.ensures (omega arith) (not-false _ c.if-not-field.false)
+    rule-given c.args.f.now c.index_of-d.result (c.index_of-d.ensures.found c.if-f-d.false) c.name_field-field.ensures (omega arith) (not-false _ c.if-not-field.false)

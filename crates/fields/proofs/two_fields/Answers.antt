@@ -15,14 +15,14 @@ slice_bounds-name_field-end c = sym (length-take-le c.index_of-d.result c.args.f
 
 pub returns-then-not-lower : goal.returns-then-not-lower
 returns-then-not-lower c =
-            no_lower c.args.f.now (cut-there 44 c.args.f.now c.index_of-d.result c.index_of-d.ensures c.if-f-d.false) c.name_field-lower.ensures c.no_two-then-not-lower.ensures (not-true _ c.if-not-lower.true)
+    no_lower c.args.f.now (cut-there 44 c.args.f.now c.index_of-d.result c.index_of-d.ensures c.if-f-d.false) c.name_field-lower.ensures c.no_two-then-not-lower.ensures (not-true _ c.if-not-lower.true)
 
 pub returns-then-not-upper : goal.returns-then-not-upper
 returns-then-not-upper c =
-            no-upper c.args.f.now (cut-there 44 c.args.f.now c.index_of-d.result c.index_of-d.ensures c.if-f-d.false) c.name_field-lower.ensures c.name_field-upper.ensures
+    no-upper c.args.f.now (cut-there 44 c.args.f.now c.index_of-d.result c.index_of-d.ensures c.if-f-d.false) c.name_field-lower.ensures c.name_field-upper.ensures
     (not-false _ c.if-not-lower.false) c.no_two-then-not-upper.ensures (not-true _ c.if-not-upper.true)
 
 pub returns : goal.returns
 returns c =
-            two-given c.args.f.now (cut-there 44 c.args.f.now c.index_of-d.result c.index_of-d.ensures c.if-f-d.false) c.name_field-lower.ensures c.name_field-upper.ensures
+    two-given c.args.f.now (cut-there 44 c.args.f.now c.index_of-d.result c.index_of-d.ensures c.if-f-d.false) c.name_field-lower.ensures c.name_field-upper.ensures
     (not-false _ c.if-not-lower.false) (not-false _ c.if-not-upper.false)

@@ -1,9 +1,7 @@
 -- `index::add` meets its contract. Assumes nothing.
 use native.Mathlib.Omega.{arith}
 use lib.ListN.{length-set}
-use Rattle.index.specs.Index.{Added}
 use Rattle.index.proofs.Relinking.{row-added}
-use Rattle.index.proofs.add.Tie as tie
 use Rattle.index.proofs.add.Goals as goal
 
 pub bounds-section-place-2 : goal.bounds-section-place-2
@@ -12,12 +10,8 @@ bounds-section-place-2 c = rw length-set (omega (arith, c.link_place-place.ensur
 pub put_row-requires : goal.put_row-requires
 put_row-requires c = rw (length-set, length-set) (omega (arith, c.rows_in-n.ensures, c.requires))
 
--- what is made of the section
-made : (c : tie.After-slice_known-3-1) → Added c.args.section.now c.put_row.new.section c.args.number (c.args.a, c.args.b, c.args.c, c.args.d)
-made c = row-added _ _ _ _ _ _ c.requires.1 c.rows_in-n.ensures c.hash-chain.ensures.0 c.link_place-place.ensures c.put_row.ensures
-
 pub shape_of-section : goal.shape_of-section
-shape_of-section c = (made c).long
+shape_of-section c = (row-added _ _ _ _ _ _ c.requires.1 c.rows_in-n.ensures c.hash-chain.ensures.0 c.link_place-place.ensures c.put_row.ensures).long
 
 pub returns : goal.returns
-returns c = made c
+returns c = row-added _ _ _ _ _ _ c.requires.1 c.rows_in-n.ensures c.hash-chain.ensures.0 c.link_place-place.ensures c.put_row.ensures

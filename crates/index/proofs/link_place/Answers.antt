@@ -1,6 +1,5 @@
 -- `index::link_place` meets its contract. Assumes nothing.
 use native.Mathlib.Omega.{arith}
-use Rattle.index.specs.Index.{rows_in}
 use Rattle.index.proofs.Relinking.{passes-start, passes_on, passes-end}
 use Rattle.index.proofs.link_place.Goals as goal
 

@@ -14,9 +14,9 @@ returns-then-rows-row c = record { mark = λ p. refl; behind_row = λ p fits. ab
 
 pub returns-then-next-at : goal.returns-then-next-at
 returns-then-next-at c =
-        record { mark = λ p. refl; behind_row = λ p fits. omega arith; ahead = omega arith }
+    record { mark = λ p. refl; behind_row = λ p fits. omega arith; ahead = omega arith }
 
 pub returns : goal.returns
 returns c =
     let no = sym c.is_passed.ensures ∙ c.if-is_passed.false in
-        record { mark = λ p. false-is-true (sym no ∙ p); behind_row = λ p fits. omega arith; ahead = omega arith }
+    record { mark = λ p. false-is-true (sym no ∙ p); behind_row = λ p fits. omega arith; ahead = omega arith }

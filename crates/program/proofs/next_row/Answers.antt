@@ -8,8 +8,8 @@ use Rattle.program.proofs.next_row.Goals as goal
 
 pub returns-then-is_passed : goal.returns-then-is_passed
 returns-then-is_passed c =
-        (sym (ap (λ (b : Bool). if b then c.args.row else c.args.row + 16) (sym c.is_passed.ensures ∙ c.if-is_passed.true)), omega arith)
+    (sym (ap (λ (b : Bool). if b then c.args.row else c.args.row + 16) (sym c.is_passed.ensures ∙ c.if-is_passed.true)), omega arith)
 
 pub returns : goal.returns
 returns c =
-        (sym (ap (λ (b : Bool). if b then c.args.row else c.args.row + 16) (sym c.is_passed.ensures ∙ c.if-is_passed.false)), omega arith)
+    (sym (ap (λ (b : Bool). if b then c.args.row else c.args.row + 16) (sym c.is_passed.ensures ∙ c.if-is_passed.false)), omega arith)

@@ -9,4 +9,4 @@ use Rattle.program.proofs.operand_at.Goals as goal
 pub returns : goal.returns
 unfolding operand_at
 returns c =
-        ap₂ (λ (x y : ℕ). operand (get_or c.args.rows.now c.args.at 0) (get_or c.args.rows.now (c.args.at + 1) 0) x y) c.two.ensures.0 c.two-2.ensures.0
+    ap₂ (λ (x y : ℕ). operand (get_or c.args.rows.now c.args.at 0) (get_or c.args.rows.now (c.args.at + 1) 0) x y) c.two.ensures.0 c.two-2.ensures.0

@@ -1,6 +1,7 @@
 -- `program::passed` meets its contract. Assumes nothing.
 use Prim.Native.Nat.{ℕ}
 use mathlib.Core.Path.{sym, subst}
+use native.Mathlib.Omega.{arith}
 use Rattle.program.specs.Walks.{WalkIs, Passed}
 use Rattle.program.proofs.Levels.{passed-other}
 use Rattle.program.proofs.passed.Goals as goal
@@ -19,4 +20,5 @@ returns-in-11 c = subst (λ (k : ℕ). Passed k c.args.w c.joined.result) (sym c
 
 pub returns-in_default : goal.returns-in_default
 returns-in_default c = λ w is few.
-        subst (WalkIs c.args.w) (sym (passed-other c.args.kind w c.in_default.in_default-own.rest.0.0.0.1 c.in_default.in_default-own.rest.0.0.1 c.in_default.in_default-own.rest.0.1 c.in_default.in_default-own.rest.1)) is
+    subst (WalkIs c.args.w)
+    (sym (passed-other c.args.kind w (λ k. omega arith) (λ k. omega arith) (λ k. omega arith) (λ k. omega arith))) is

@@ -5,11 +5,11 @@ use Rattle.program.proofs.row_verdict.Goals as goal
 
 pub returns-then-not-is_undef : goal.returns-then-not-is_undef
 returns-then-not-is_undef c =
-        let L = lent c.args.code.now c.args.pairs.now c.args.session.now c.args.entries.now in
-            told-plain L c.args.rows.now c.args.row c.row_value-value.result c.row_value-value.ensures c.is_undef.result c.is_undef.ensures c.if-not-is_undef.true
+    let L = lent c.args.code.now c.args.pairs.now c.args.session.now c.args.entries.now in
+    told-plain L c.args.rows.now c.args.row c.row_value-value.result c.row_value-value.ensures c.is_undef.result c.is_undef.ensures c.if-not-is_undef.true
     c.plain.result c.plain.ensures
 
 pub returns : goal.returns
 returns c =
-        let L = lent c.args.code.now c.args.pairs.now c.args.session.now c.args.entries.now in
-        told-undef L c.args.rows.now c.args.row c.row_value-value.result c.row_value-value.ensures c.row_lacks.result c.row_lacks.ensures
+    let L = lent c.args.code.now c.args.pairs.now c.args.session.now c.args.entries.now in
+    told-undef L c.args.rows.now c.args.row c.row_value-value.result c.row_value-value.ensures c.row_lacks.result c.row_lacks.ensures

@@ -6,7 +6,7 @@ use Rattle.request.proofs.RequestAnswers.{not-held, by-rules}
 use Rattle.request.proofs.answered.Goals as goal
 
 pub overflow_cast-mask : goal.overflow_cast-mask
-overflow_cast-mask c = omega (arith, c.four-mask.ensures, value-small c.args.block.now (λ i. (c.shared_slice_known-7-1.given i).fits) 4)
+overflow_cast-mask c = omega (arith, c.four-mask.ensures, value-small c.args.block.now (λ i. (c.type_inv.block i).fits) 4)
 
 pub returns-then-unheld : goal.returns-then-unheld
 returns-then-unheld c = λ S b of.
@@ -18,5 +18,5 @@ returns c = λ S b of.
     by-rules of c.byte_to_index-user.result c.four-mask.result c.byte_to_index-user.ensures.0 c.four-mask.ensures
     c.unheld.result c.unheld.ensures
     c.byte_to_index-object.result c.byte_to_index-object.ensures.0 c.in_room-declared.result c.in_room-declared.ensures.1
-    c.open.new.1.1.1.1.1.1.0 c.open.ensures
+    c.open.new.session c.open.ensures
     c.if-unheld.false c.in_room-rules.result c.in_room-rules.ensures.1 _ refl c.decided.result c.decided.ensures

@@ -8,5 +8,5 @@ returns-then-attributes-k c = not-user c.args.attributes.now c.args.table.now c.
 
 pub returns : goal.returns
 returns c =
-        c.differs.ensures
+    c.differs.ensures
     ∙ some_pair c.args.attributes.now c.args.table.now c.args.user c.args.k c.if-attributes-k.false c.words_of-words.result c.words_of-words.ensures

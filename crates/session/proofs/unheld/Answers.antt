@@ -3,13 +3,12 @@ use Prim.Native.Nat.{ℕ, ◌<◌}
 use native.Mathlib.Omega.{arith}
 use native.Mathlib.Decide.{dec_lt}
 use mathlib.Core.Path.{◌≡◌, refl, sym, ap, ◌∙◌}
-use mathlib.Core.Bool.{Bool, true, false, not, ◌&&◌, ◌||◌, true≢false}
-use lib.Dec.{eqb}
-use Rattle.model.proofs.Options.{parts, both}
-use Rattle.bits.specs.Bits.{bit, any_below}
+use mathlib.Core.Bool.{true, not, ◌&&◌, true≢false}
+use Rattle.model.proofs.Options.{both}
+use Rattle.bits.specs.Bits.{bit}
 use Rattle.bits.proofs.Bits.{bit_high}
 use Rattle.bits.proofs.Counts.{find-any}
-use Rattle.bits.proofs.Walks.{any_left, fewer-left, none_left}
+use Rattle.bits.proofs.Walks.{fewer-left, none_left}
 use Rattle.session.specs.Words.{held_in}
 use Rattle.session.proofs.unheld.Goals as goal
 
@@ -20,37 +19,18 @@ loop-left-init c = (λ j e. go j e (dec_lt j 32), refl)
     go j e (yes l) = l
     go j e (no l) = absurd (true≢false (sym e ∙ bit_high 32 c.args.mask j (omega arith) (omega arith)))
 
-pub is_held-requires : goal.is_held-requires
-is_held-requires c =
-    let held = c.lowest-k.ensures.held c.loop-left-test.true in
-    (c.requires, c.loop-left.invariant.0 c.lowest-k.result held.1)
-
 pub returns-then-not-is_held : goal.returns-then-not-is_held
 returns-then-not-is_held c =
-                let on = (c.lowest-k.ensures.held c.loop-left-test.true).1 in
+    let on = (c.lowest-k.ensures.held c.loop-left-test.true).1 in
     sym (find-any 32 (λ j. bit c.loop-left.left j && not (held_in c.args.attributes.now c.args.table.now c.args.user j)) c.lowest-k.result (c.loop-left.invariant.0 c.lowest-k.result on)
-    (both on (sym (ap not c.is_held.ensures) ∙ c.if-not-is_held.true)))
+    (both on (sym (ap not c.is_held.ensures) ∙ ap not c.if-not-is_held.true)))
     ∙ c.loop-left.invariant.1
-
-pub without-left-requires : goal.without-left-requires
-without-left-requires c = (c.lowest-k.ensures.held c.loop-left-test.true).0
 
 pub loop-left-smaller : goal.loop-left-smaller
 loop-left-smaller c =
     let held = c.lowest-k.ensures.held c.loop-left-test.true in
     fewer-left c.loop-left.left c.without-left.result c.lowest-k.result held.1 c.without-left.ensures held.0
 
-pub loop-left-preserved : goal.loop-left-preserved
-loop-left-preserved c =
-                let on = (c.lowest-k.ensures.held c.loop-left-test.true).1 in
-    let f : ℕ → Bool = λ j. not (held_in c.args.attributes.now c.args.table.now c.args.user j) in
-    let off : f c.lowest-k.result ≡ false = sym (ap not c.is_held.ensures) ∙ c.if-not-is_held.false in (
-      λ j e. c.loop-left.invariant.0 j (parts (bit c.loop-left.left j) (not (eqb j c.lowest-k.result)) (sym (c.without-left.ensures j) ∙ e)).0,
-      sym (any_left c.loop-left.left c.without-left.result c.lowest-k.result on c.without-left.ensures 32 f (c.loop-left.invariant.0 c.lowest-k.result on)
-          ∙ ap (λ (t : Bool). t || any_below 32 (λ j. bit c.without-left.result j && f j)) off)
-          ∙ c.loop-left.invariant.1,
-    )
-
 pub returns : goal.returns
 returns c =
-        sym (none_left c.loop-left.left 32 (λ k. not (held_in c.args.attributes.now c.args.table.now c.args.user k)) c.loop-left-test.false) ∙ c.loop-left.invariant.1
+    sym (none_left c.loop-left.left 32 (λ k. not (held_in c.args.attributes.now c.args.table.now c.args.user k)) c.loop-left-test.false) ∙ c.loop-left.invariant.1

@@ -21,7 +21,7 @@ loop-i-init c = (omega arith, refl)
 
 pub returns-then-table-i : goal.returns-then-table-i
 returns-then-table-i c =
-    keyword-at c.args.table.now c.args.s.now (length c.args.s.now - 1) (omega (arith, c.if-s-lt1.false)) (λ k. (c.shared_slice_known-1.given k).fits)
+    keyword-at c.args.table.now c.args.s.now (length c.args.s.now - 1) (omega (arith, c.if-s-lt1.false)) (λ k. (c.type_inv.s k).fits)
     c.if-s-eq0.false _ _ (omega arith) c.word_of-word.ensures
     (sym (c.loop-i.invariant.1 ∙ place_here _ c.args.table.now c.loop-i.i (omega arith) c.if-table-i.true))
 
@@ -31,6 +31,6 @@ loop-i-preserved c =
 
 pub returns : goal.returns
 returns c =
-    keyword-at c.args.table.now c.args.s.now (length c.args.s.now - 1) (omega (arith, c.if-s-lt1.false)) (λ k. (c.shared_slice_known-1.given k).fits)
+    keyword-at c.args.table.now c.args.s.now (length c.args.s.now - 1) (omega (arith, c.if-s-lt1.false)) (λ k. (c.type_inv.s k).fits)
     c.if-s-eq0.false _ _ (omega arith) c.word_of-word.ensures
     (sym (c.loop-i.invariant.1 ∙ place_none _ c.args.table.now c.loop-i.i (omega arith)))

@@ -9,15 +9,15 @@ use Rattle.tielines.proofs.change_value.Goals as goal
 
 pub returns-then-h-ge-HOLDERS : goal.returns-then-h-ge-HOLDERS
 returns-then-h-ge-HOLDERS c =
-        no_value_lem c.args.book.now c.requires c.args.h c.args.p
+    no_value_lem c.args.book.now c.requires c.args.h c.args.p
     (λ l m. omega (arith, c.if-h-ge-HOLDERS.true))
 
 pub returns-then-p-ge-PAIRS : goal.returns-then-p-ge-PAIRS
 returns-then-p-ge-PAIRS c =
-        no_value_lem c.args.book.now c.requires c.args.h c.args.p
+    no_value_lem c.args.book.now c.requires c.args.h c.args.p
     (λ l m. omega (arith, c.if-p-ge-PAIRS.true))
 
 pub returns : goal.returns
 returns c =
-                    let size : length c.change_value.new.own ≡ (section.own).size = omega (arith, c.change_value.auto.0, part-size section.own c.args.book.now c.requires (omega arith)) in
+    let size : length c.change_value.new.own ≡ (section.own).size = omega (arith, c.change_value.auto.own, part-size section.own c.args.book.now c.requires (omega arith)) in
     value-changed c.args.book.now c.requires c.args.h c.args.p c.change_value.new.own size c.args.plus c.change_value.ensures

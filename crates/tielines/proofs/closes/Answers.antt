@@ -13,12 +13,12 @@ use Rattle.tielines.proofs.closes.Goals as goal
 
 pub returns-then-t-ne-KEY_PARENT : goal.returns-then-t-ne-KEY_PARENT
 returns-then-t-ne-KEY_PARENT c S code standing held =
-        no-circle c.args.t.key c.args.t.lower c.args.t.upper c.if-t-ne-KEY_PARENT.true (holder_numbers_of S.declared) S.ties
+    no-circle c.args.t.key c.args.t.lower c.args.t.upper c.if-t-ne-KEY_PARENT.true (holder_numbers_of S.declared) S.ties
 
 pub returns : goal.returns
 unfolding ClosesCircle
 returns c S code standing held =
-            let size = part-size section.ups c.args.book.now c.requires (omega arith) in
+    let size = part-size section.ups c.args.book.now c.requires (omega arith) in
     c.closes_circle.ensures S.declared S.ties (section_words section.own c.args.book.now) standing held.ties
     (λ k h. omega (arith, size, holder-in-book standing held k h))
     ∙ ap (tie_closes (holder_numbers_of S.declared) S.ties) (sym (parent-tie c.args.t.key c.args.t.lower c.args.t.upper c.if-t-ne-KEY_PARENT.false))

@@ -18,7 +18,7 @@ returns-then-g-ge-HOLDERS c S code standing held s e i = absurd (omega (arith, c
 
 pub returns : goal.returns
 returns c S code standing held s e i =
-            let q = group-slot standing held c.args.g s e i in
+    let q = group-slot standing held c.args.g s e i in
     let same : q.0 ≡ c.slot.result =
     sym (c.slot.ensures q.0 (sym (word_at section.slot_of c.args.book.now c.args.g (sorted-in-book standing held c.args.g e)) ∙ q.1) q.2) in
     subst (λ (r : ℕ). (r < group_limit) × (in_use book_holders (section_words section.slots c.args.book.now) r ≡ true) × (get_or (section_words section.slots c.args.book.now) r 0 ≡ c.args.g)) same

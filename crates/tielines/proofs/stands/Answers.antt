@@ -8,9 +8,9 @@ use Rattle.tielines.proofs.stands.Goals as goal
 
 pub returns-then-t-eq-KEY_VALUE : goal.returns-then-t-eq-KEY_VALUE
 returns-then-t-eq-KEY_VALUE c =
-            subst (λ (u : Tie). TieStands c.args.book.now u c.stands_value.result)
+    subst (λ (u : Tie). TieStands c.args.book.now u c.stands_value.result)
     (sym (value-tie c.args.t.key c.args.t.lower c.args.t.upper c.if-t-eq-KEY_VALUE.true)) c.stands_value.ensures
 
 pub returns : goal.returns
 returns c =
-            c.stands_up.ensures (tie_by c.args.t.key c.args.t.lower c.args.t.upper) (up-tie c.args.t.key c.args.t.lower c.args.t.upper c.if-t-eq-KEY_VALUE.false)
+    c.stands_up.ensures (tie_by c.args.t.key c.args.t.lower c.args.t.upper) (up-tie c.args.t.key c.args.t.lower c.args.t.upper c.if-t-eq-KEY_VALUE.false)

@@ -6,11 +6,11 @@ use Rattle.tielines.proofs.stands_up.Goals as goal
 
 pub returns-then-h-ge-HOLDERS : goal.returns-then-h-ge-HOLDERS
 returns-then-h-ge-HOLDERS c t leads S code standing held f =
-        absurd (omega (arith, c.if-h-ge-HOLDERS.true, (up_fits standing held t c.args.h c.args.g leads f).few))
+    absurd (omega (arith, c.if-h-ge-HOLDERS.true, (up_fits standing held t c.args.h c.args.g leads f).few))
 
 pub returns-then-q-ge-SLOT_NUMBERS : goal.returns-then-q-ge-SLOT_NUMBERS
 returns-then-q-ge-SLOT_NUMBERS c t leads S code standing held f =
-        absurd (omega (
+    absurd (omega (
       arith,
       c.if-q-ge-SLOT_NUMBERS.true,
       (in-use-here c.args.book.now c.requires c.args.h c.args.g c.slot_of-q.result
@@ -19,5 +19,5 @@ returns-then-q-ge-SLOT_NUMBERS c t leads S code standing held f =
 
 pub returns : goal.returns
 returns c =
-            up-stands c.args.book.now c.requires c.args.h c.args.g c.slot_of-q.result c.slot_of-q.ensures
+    up-stands c.args.book.now c.requires c.args.h c.args.g c.slot_of-q.result c.slot_of-q.ensures
     c.has.result (omega (arith, c.if-h-ge-HOLDERS.false)) c.has.ensures

@@ -8,7 +8,7 @@ use Rattle.tielines.proofs.two.Goals as goal
 
 pub returns-then-h-ge-HOLDERS : goal.returns-then-h-ge-HOLDERS
 returns-then-h-ge-HOLDERS c =
-                    let t = tie_by c.no_tie.result.key c.no_tie.result.lower c.no_tie.result.upper in
+    let t = tie_by c.no_tie.result.key c.no_tie.result.lower c.no_tie.result.upper in
     two-named c.args.book.now c.args.key c.args.lower c.args.upper c.no_tie.result.number t (λ a b na nb pa pb S code standing held.
     lower-gone S.declared (above_for c.args.key) (tie_by c.args.key) a b c.no_tie.result.number t
     (holder-absent standing held a na c.args.lower pa c.holder_number-h.result c.holder_number-h.ensures.1 (omega (arith, c.if-h-ge-HOLDERS.true)))
@@ -16,7 +16,7 @@ returns-then-h-ge-HOLDERS c =
 
 pub returns-then-g-ge-HOLDERS : goal.returns-then-g-ge-HOLDERS
 returns-then-g-ge-HOLDERS c =
-                        let t = tie_by c.no_tie-then-g-ge-HOLDERS.result.key c.no_tie-then-g-ge-HOLDERS.result.lower c.no_tie-then-g-ge-HOLDERS.result.upper in
+    let t = tie_by c.no_tie-then-g-ge-HOLDERS.result.key c.no_tie-then-g-ge-HOLDERS.result.lower c.no_tie-then-g-ge-HOLDERS.result.upper in
     two-named c.args.book.now c.args.key c.args.lower c.args.upper c.no_tie-then-g-ge-HOLDERS.result.number t (λ a b na nb pa pb S code standing held.
     upper-gone S.declared (above_for c.args.key) (tie_by c.args.key) a b c.holder_number-h.result
     (holder-there standing held a na c.args.lower pa c.holder_number-h.result c.holder_number-h.ensures.1 (omega (arith, c.if-h-ge-HOLDERS.false)))
@@ -26,7 +26,7 @@ returns-then-g-ge-HOLDERS c =
 
 pub returns-then-book-g : goal.returns-then-book-g
 returns-then-book-g c =
-                                let t = tie_by c.no_tie-then-book-g.result.key c.no_tie-then-book-g.result.lower c.no_tie-then-book-g.result.upper in
+    let t = tie_by c.no_tie-then-book-g.result.key c.no_tie-then-book-g.result.lower c.no_tie-then-book-g.result.upper in
     two-named c.args.book.now c.args.key c.args.lower c.args.upper c.no_tie-then-book-g.result.number t (λ a b na nb pa pb S code standing held.
     let D = S.declared in
     let is-a = holder-there standing held a na c.args.lower pa c.holder_number-h.result c.holder_number-h.ensures.1 (omega arith) in
@@ -39,7 +39,7 @@ returns-then-book-g c =
 
 pub returns : goal.returns
 returns c =
-                            two-named c.args.book.now c.args.key c.args.lower c.args.upper 0 (tie_by c.args.key c.holder_number-h.result c.holder_number-g.result) (λ a b na nb pa pb S code standing held.
+    two-named c.args.book.now c.args.key c.args.lower c.args.upper 0 (tie_by c.args.key c.holder_number-h.result c.holder_number-g.result) (λ a b na nb pa pb S code standing held.
     let D = S.declared in
     let is-a = holder-there standing held a na c.args.lower pa c.holder_number-h.result c.holder_number-h.ensures.1 (omega arith) in
     let is_b = holder-there standing held b nb c.args.upper pb c.holder_number-g.result c.holder_number-g.ensures.1 (omega arith) in

@@ -9,14 +9,14 @@ use Rattle.tielines.proofs.value.Goals as goal
 
 pub returns-then-h-ge-HOLDERS : goal.returns-then-h-ge-HOLDERS
 returns-then-h-ge-HOLDERS c h n a nh nn wa ph pn va S code standing held =
-                holder-gone S.declared h n a c.no_tie.result.number (tie_by c.no_tie.result.key c.no_tie.result.lower c.no_tie.result.upper)
+    holder-gone S.declared h n a c.no_tie.result.number (tie_by c.no_tie.result.key c.no_tie.result.lower c.no_tie.result.upper)
     (holder-absent standing held h nh c.args.holder ph c.holder_number-h.result c.holder_number-h.ensures.1 (omega (arith, c.if-h-ge-HOLDERS.true)))
     c.no_tie.ensures
 
 pub returns-then-p-ge-PAIRS : goal.returns-then-p-ge-PAIRS
 returns-then-p-ge-PAIRS c h n a nh nn wa ph pn va S code standing held =
-        let D = S.declared in
-                    let there = holder-there standing held h nh c.args.holder ph c.holder_number-h.result c.holder_number-h.ensures.1 (omega arith) in
+    let D = S.declared in
+    let there = holder-there standing held h nh c.args.holder ph c.holder_number-h.result c.holder_number-h.ensures.1 (omega arith) in
     let s = holder-sort standing.declarations h c.holder_number-h.result there in
     let from = source_for s.0 in
     let source = c.source_for-source.ensures s.0 (sort-word standing held c.holder_number-h.result s.0 s.1) in
@@ -28,8 +28,8 @@ returns-then-p-ge-PAIRS c h n a nh nn wa ph pn va S code standing held =
 pub returns : goal.returns
 unfolding tie_by
 returns c h n a nh nn wa ph pn va S code standing held =
-        let D = S.declared in
-                let there = holder-there standing held h nh c.args.holder ph c.holder_number-h.result c.holder_number-h.ensures.1 (omega arith) in
+    let D = S.declared in
+    let there = holder-there standing held h nh c.args.holder ph c.holder_number-h.result c.holder_number-h.ensures.1 (omega arith) in
     let s = holder-sort standing.declarations h c.holder_number-h.result there in
     let from = source_for s.0 in
     let source = c.source_for-source.ensures s.0 (sort-word standing held c.holder_number-h.result s.0 s.1) in

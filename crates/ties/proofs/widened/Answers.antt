@@ -1,12 +1,12 @@
 -- `ties::widened` meets its contract: of the slots that the walk has passed, those that are to be taken are. Assumes nothing.
 use mathlib.Core.Path.{sym, ap, ◌∙◌}
-use mathlib.Core.Logic.{⊎_elim}
 use Prim.Native.Nat.{ℕ}
 use Rattle.bits.specs.Bits.{bit}
 use Rattle.bits.proofs.Bits.{bit-none}
 use Rattle.bits.proofs.Walks.{fewer-left}
 use Rattle.ties.proofs.Widening.{left-of, pass-start, pass-end, pass_on, pass-off}
 use Rattle.ties.proofs.widened.Goals as goal
+use Rattle.ties.proofs.widened.Goals.{then-slot_is_under, else-slot_is_under}
 
 pub loop-left-init : goal.loop-left-init
 loop-left-init c =
@@ -26,10 +26,10 @@ loop-left-smaller c =
 
 pub loop-left-preserved : goal.loop-left-preserved
 loop-left-preserved c =
-    ⊎_elim
-    (λ w. rw w.2 (pass_on c.args.ups.now c.args.slots.now c.args.e c.loop-left.invariant (bit c.without-left.result) c.lowest-q.result c.without-left.ensures w.1.result w.1.ensures (sym c.slot_is_under.ensures ∙ w.0.taken)))
-    (λ w. rw w.1 (pass-off c.args.ups.now c.args.slots.now c.args.e c.loop-left.invariant (bit c.without-left.result) c.lowest-q.result c.without-left.ensures (sym c.slot_is_under.ensures ∙ w.0.left)))
-    c.if-slot_is_under.branch
+    elim c.if-slot_is_under.branch [
+      | then-slot_is_under w ↦ rw w.next-is (pass_on c.args.ups.now c.args.slots.now c.args.e c.loop-left.invariant (bit c.without-left.result) c.lowest-q.result c.without-left.ensures w.with-next.result w.with-next.ensures (sym c.slot_is_under.ensures ∙ w.if-slot_is_under.true))
+      | else-slot_is_under w ↦ rw w.next-is (pass-off c.args.ups.now c.args.slots.now c.args.e c.loop-left.invariant (bit c.without-left.result) c.lowest-q.result c.without-left.ensures (sym c.slot_is_under.ensures ∙ w.if-slot_is_under.false))
+    ]
 
 pub returns : goal.returns
 returns c =

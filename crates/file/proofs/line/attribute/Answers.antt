@@ -12,5 +12,5 @@ returns-then-not-parts c code =
 
 pub returns : goal.returns
 returns c =
-            attr-read c.args.book.now c.attribute.new.book c.attribute.result
+    attr-read c.args.book.now c.attribute.new.book c.attribute.result
     c.args.f.now c.attr_fields-parts.result c.attr_fields-parts.ensures (not-false _ c.if-not-parts.false) c.attribute.ensures.1

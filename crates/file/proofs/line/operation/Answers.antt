@@ -5,9 +5,9 @@ use Rattle.file.proofs.line.operation.Goals as goal
 
 pub returns-then-not-parts : goal.returns-then-not-parts
 returns-then-not-parts c code =
-        op-unread c.args.book.now c.args.book.now code c.args.f.now c.name_field-parts.result c.name_field-parts.ensures (not-true _ c.if-not-parts.true)
+    op-unread c.args.book.now c.args.book.now code c.args.f.now c.name_field-parts.result c.name_field-parts.ensures (not-true _ c.if-not-parts.true)
 
 pub returns : goal.returns
 returns c =
-            op-read c.args.book.now c.operation.new.book c.operation.result
+    op-read c.args.book.now c.operation.new.book c.operation.result
     c.args.f.now c.name_field-parts.result c.name_field-parts.ensures (not-false _ c.if-not-parts.false) c.operation.ensures.1

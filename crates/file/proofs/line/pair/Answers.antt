@@ -12,5 +12,5 @@ returns-then-not-parts c code =
 
 pub returns : goal.returns
 returns c =
-            pair_read c.args.book.now c.pair.new.book c.pair.result
+    pair_read c.args.book.now c.pair.new.book c.pair.result
     c.args.f.now c.pair_fields-parts.result c.pair_fields-parts.ensures (not-false _ c.if-not-parts.false) c.pair.ensures.1

@@ -12,8 +12,8 @@ returns-then-key-lt-KEY_PARENT c k e = c.declared.ensures (omega (arith, c.if-ke
 
 pub returns-then-key-eq-KEY_RULE : goal.returns-then-key-eq-KEY_RULE
 returns-then-key-eq-KEY_RULE c =
-            at_key c.args.book.now c.rule.new.book c.args.code.now c.rule.new.code c.args.key c.args.f.now c.rule.result Key.rule c.if-key-eq-KEY_RULE.true c.rule.ensures
+    at_key c.args.book.now c.rule.new.book c.args.code.now c.rule.new.code c.args.key c.args.f.now c.rule.result Key.rule c.if-key-eq-KEY_RULE.true c.rule.ensures
 
 pub returns : goal.returns
 returns c k e =
-                c.tie.ensures k (is-tie-key k (omega arith) (λ i. c.if-key-eq-KEY_RULE.false (e ∙ i))) e c.args.code.now
+    c.tie.ensures k (is-tie-key k (omega arith) (λ i. c.if-key-eq-KEY_RULE.false (e ∙ i))) e c.args.code.now

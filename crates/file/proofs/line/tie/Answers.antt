@@ -7,10 +7,10 @@ returns-then-t-ne0 c k i e = tie-unread k c.args.f.now i (c.of_fields-t.ensures 
 
 pub returns-then-number-ne0 : goal.returns-then-number-ne0
 returns-then-number-ne0 c k i e =
-        tie-refused k c.args.f.now i (c.of_fields-t.ensures k i e) c.if-t-ne0.false
+    tie-refused k c.args.f.now i (c.of_fields-t.ensures k i e) c.if-t-ne0.false
     c.refusal-number.ensures c.if-number-ne0.true
 
 pub returns : goal.returns
 returns c k i e =
-        tie-added k c.args.f.now i (c.of_fields-t.ensures k i e) c.if-t-ne0.false
+    tie-added k c.args.f.now i (c.of_fields-t.ensures k i e) c.if-t-ne0.false
     c.refusal-number.ensures c.if-number-ne0.false c.change.ensures

@@ -8,4 +8,4 @@ returns-then-k-ge-RULES c = judged-beyond _ _ _ _ _ _ _ (omega arith) c.judge.en
 
 pub returns : goal.returns
 returns c =
-                judged-into _ _ _ _ _ _ c.requires.2 (omega arith) c.judge-2.ensures (omega (arith, c.judge-2.auto))
+    judged-into _ _ _ _ _ _ c.requires.2 (omega arith) c.judge-2.ensures (omega (arith, c.judge-2.auto))

@@ -4,4 +4,4 @@ use Rattle.file.proofs.rule.put_rows.Goals as goal
 
 pub returns : goal.returns
 returns c =
-                compiled-into _ c.args.k c.args.code.now _ c.requires.1 c.requires.2 c.compile.ensures.1 c.compile.ensures.0 _ c.put.ensures.is
+    compiled-into _ c.args.k c.args.code.now _ c.requires.1 c.requires.2 c.compile.ensures.1 c.compile.ensures.0 _ c.put.ensures.is

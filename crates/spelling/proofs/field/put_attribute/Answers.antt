@@ -8,4 +8,4 @@ use Rattle.spelling.proofs.field.put_attribute.Goals as goal
 pub returns : goal.returns
 unfolding attribute_text
 returns c =
-                (laid_on (laid_as (ap (listed_text source_words) c.word.ensures) c.put_source-a.ensures.0) (laid_on c.put_byte-b.ensures c.put_name.ensures.0), omega (arith, c.put_source-a.ensures.1, c.put_byte-b.ensures.behind, c.put_name.ensures.1))
+    (laid_on (laid_as (ap (listed_text source_words) c.word.ensures) c.put_source-a.ensures.0) (laid_on c.put_byte-b.ensures c.put_name.ensures.0), omega (arith, c.put_source-a.ensures.1, c.put_byte-b.ensures.behind, c.put_name.ensures.1))

@@ -14,5 +14,5 @@ returns-then-number-table c = c.put_word.ensures
 pub returns : goal.returns
 unfolding listed_text word_text
 returns c =
-        let none : get_or c.args.table.now c.args.number 0 ≡ 0 = get_or-eq_default c.args.table.now 0 (omega arith) in
+    let none : get_or c.args.table.now c.args.number 0 ≡ 0 = get_or-eq_default c.args.table.now 0 (omega arith) in
     (laid_as (sym (ap (word_text 8) none)) (laid_none c.args.out.now c.args.at), omega arith)

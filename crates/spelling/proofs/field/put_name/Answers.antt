@@ -9,4 +9,4 @@ use Rattle.spelling.proofs.field.put_name.Goals as goal
 pub returns : goal.returns
 unfolding name_text
 returns c =
-            (laid_on (laid_as (ap (word_text 8) c.word.ensures) c.put_word-n.ensures.0) (laid_as (ap (word_text 8) c.word-2.ensures) c.put_rest.ensures.0), omega (arith, c.put_word-n.ensures.1, c.put_rest.ensures.1))
+    (laid_on (laid_as (ap (word_text 8) c.word.ensures) c.put_word-n.ensures.0) (laid_as (ap (word_text 8) c.word-2.ensures) c.put_rest.ensures.0), omega (arith, c.put_word-n.ensures.1, c.put_rest.ensures.1))

@@ -8,4 +8,4 @@ use Rattle.spelling.proofs.line.put_pair_atom.Goals as goal
 
 pub returns : goal.returns
 returns c =
-                    (laid_as (ap (λ (k : ℕ). atom_text c.args.book.now k (pair_at c.args.p + 1)) (c.word-ty.ensures ∙ ap (λ (k : ℕ). get_or c.args.book.now (k + 1) 0) c.row_of_pair-row.ensures.0)) c.put_atom.ensures.0, c.put_atom.ensures.1)
+    (laid_as (ap (λ (k : ℕ). atom_text c.args.book.now k (pair_at c.args.p + 1)) (c.word-ty.ensures ∙ ap (λ (k : ℕ). get_or c.args.book.now (k + 1) 0) c.row_of_pair-row.ensures.0)) c.put_atom.ensures.0, c.put_atom.ensures.1)

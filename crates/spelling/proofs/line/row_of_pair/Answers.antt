@@ -6,4 +6,4 @@ use Rattle.spelling.proofs.line.row_of_pair.Goals as goal
 
 pub returns : goal.returns
 returns c =
-        (ap (λ (k : ℕ). 8 + 8 * (k % 64) - 8) c.word-number.ensures, omega arith)
+    (ap (λ (k : ℕ). 8 + 8 * (k % 64) - 8) c.word-number.ensures, omega arith)

@@ -1,5 +1,4 @@
 -- `put_rules` meets its contract.
-use borrow.Author.Rules.{rules}
 use Prim.Native.Nat.{◌-◌, ◌≤◌}
 use Rattle.spelling.specs.LineTexts.{rule_line_text}
 use Rattle.spelling.proofs.LaidTexts.{EachLaid}

@@ -5,8 +5,8 @@ use Rattle.writer.proofs.tie.key_of_ups.Goals as goal
 
 pub returns-then-word-eq0 : goal.returns-then-word-eq0
 returns-then-word-eq0 c =
-            member-key c.args.book.now c.args.h (sym c.word.ensures ∙ c.if-word-eq0.true)
+    member-key c.args.book.now c.args.h (sym c.word.ensures ∙ c.if-word-eq0.true)
 
 pub returns : goal.returns
 returns c =
-            parent-key c.args.book.now c.args.h (λ e. c.if-word-eq0.false (c.word.ensures ∙ e))
+    parent-key c.args.book.now c.args.h (λ e. c.if-word-eq0.false (c.word.ensures ∙ e))

@@ -7,8 +7,8 @@ use Rattle.writer.proofs.tie.put_holder_ups.Goals as goal
 
 pub returns-then-key_of_ups-key : goal.returns-then-key_of_ups-key
 returns-then-key_of_ups-key c =
-        (laid_as (ups-of-other c.args.book.now c.args.h c.args.n c.args.key (λ e. c.if-key_of_ups-key.true (c.key_of_ups.ensures ∙ e))) (laid_none c.args.out.now c.args.at), omega arith)
+    (laid_as (ups-of-other c.args.book.now c.args.h c.args.n c.args.key (λ e. c.if-key_of_ups-key.true (c.key_of_ups.ensures ∙ e))) (laid_none c.args.out.now c.args.at), omega arith)
 
 pub returns : goal.returns
 returns c =
-            (laid_as (ups-of-key c.args.book.now c.args.h c.args.n c.args.key (sym c.key_of_ups.ensures ∙ c.if-key_of_ups-key.false)) c.put_ups.ensures.0, c.put_ups.ensures.1)
+    (laid_as (ups-of-key c.args.book.now c.args.h c.args.n c.args.key (sym c.key_of_ups.ensures ∙ c.if-key_of_ups-key.false)) c.put_ups.ensures.0, c.put_ups.ensures.1)

@@ -14,7 +14,7 @@ first_from-p-requires c = omega (arith, lent-long c.args.book.now c.args.h c.req
 
 pub loop-p-init : goal.loop-p-init
 loop-p-init c =
-        walk_start (lent-long c.args.book.now c.args.h c.requires.2 c.requires.1) (omega arith) c.args.out.now c.args.at c.first_from-p.ensures
+    walk_start (lent-long c.args.book.now c.args.h c.requires.2 c.requires.1) (omega arith) c.args.out.now c.args.at c.first_from-p.ensures
 
 pub first_from-p-requires-in-loop-p : goal.first_from-p-requires-in-loop-p
 first_from-p-requires-in-loop-p c = omega (arith, lent-long c.args.book.now c.args.h c.requires.2 c.requires.1)
@@ -32,5 +32,5 @@ shape_of-out c = laid-length c.loop-p.invariant.so_far.laid
 
 pub returns : goal.returns
 returns c =
-        let (laid, room) = walk_end (lent-long c.args.book.now c.args.h c.requires.2 c.requires.1) (omega arith) c.loop-p.invariant (omega arith) in
+    let (laid, room) = walk_end (lent-long c.args.book.now c.args.h c.requires.2 c.requires.1) (omega arith) c.loop-p.invariant (omega arith) in
     (laid_as (ap (λ (s : List ℕ). each (member_text s (value_line_text c.args.book.now c.args.h)) (below 256)) (lent-own c.args.book.now c.args.h)) laid, room)

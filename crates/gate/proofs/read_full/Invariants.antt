@@ -1,0 +1,6 @@
+-- The bytes that were read lie within the buffer.
+use Rattle.std.proofs.Common.{◌≤◌, length}
+use Rattle.gate.proofs.read_full.Given as goal
+
+abbrev pub invariant-loop : goal.invariant-loop
+invariant-loop g l = l.at ≤ length l.buffer
