@@ -1,4 +1,4 @@
-//! Links the library that `rt staticlib host` writes.
+//! Links the library that `hosts/build host` writes.
 
 use std::path::Path;
 
@@ -6,7 +6,7 @@ fn main() {
     let folder = Path::new(env!("CARGO_MANIFEST_DIR")).join("../target/staticlib");
     let library = folder.join("libhost.a");
     if !library.is_file() {
-        println!("cargo::error=target/staticlib/libhost.a is not there: run `rt staticlib host`, or bench/compare, which does");
+        println!("cargo::error=target/staticlib/libhost.a is not there: run `hosts/build host`, or bench/compare, which does");
     }
     println!("cargo::rerun-if-changed={}", library.display());
     println!("cargo::rustc-link-search=native={}", folder.display());

@@ -1,15 +1,13 @@
 -- Texts laid over a buffer, one behind another. Assumes nothing.
 use Prim.Native.Nat.{ℕ, zero, suc, ◌+◌, ◌-◌, ◌≤◌, ◌<◌, min}
 use mathlib.Core.Path.{◌≡◌, refl, sym, ap, ap₂, subst, ◌∙◌}
-use mathlib.Core.Logic.{◌⊎◌, inl, inr}
-use mathlib.Core.List.{List, [], ◌∷◌, ◌++◌, append-nil, append_assoc}
+use mathlib.Core.List.{[], ◌∷◌, ◌++◌, append_assoc}
 use native.Mathlib.Decide.{dec_lt}
 use native.Mathlib.Omega.{arith}
-use lib.ListN.{length, take, drop, set, length-append, length-drop, length-set, take-append-drop, drop_of_length-le}
+use lib.ListN.{length, take, drop, set, length-append, take-append-drop}
 use lib.Seq.{sets, length-sets, sets-eq, length-take-le, take_all, take_at, drop_at, drop-drop}
 use borrow.Rule.Slice.PartMut.{put_mid}
 use Rattle.model.specs.Bytes.{Bytes}
-use Rattle.text.proofs.LoopPlaces.{tail-part}
 use Rattle.output.specs.Laid.{Laid}
 
 -- ---- stores behind a list's end
@@ -81,34 +79,20 @@ module _ {b : Bytes} {at : ℕ} {s a : Bytes} {r : ℕ} (p : Laid b at s a r) wh
 
 -- ---- a copy
 
--- bytes copied to the start of the part from a place on
-copied : (b : Bytes) (at : ℕ) (s : Bytes) → at + length s ≤ length b
-    → put_mid at (length b - at) b (take (length s) s ++ drop (length s) (take (length b - at) (drop at b))) ≡ sets b at s
-copied b at s fits =
-    let post : drop (length b - at) (drop at b) ≡ [] = drop_of_length-le (drop at b) (short (length-drop at b)) in
-    ap₂ (λ (x y : Bytes). take at b ++ ((x ++ drop (length s) y) ++ drop (length b - at) (drop at b))) (take_all (length s) s (omega arith)) (tail-part at b)
-    ∙ ap (λ (y : Bytes). take at b ++ ((s ++ drop (length s) (drop at b)) ++ y)) post
-    ∙ ap (λ (y : Bytes). take at b ++ y) (append-nil (s ++ drop (length s) (drop at b)))
-    ∙ ap (λ (y : Bytes). take at b ++ (s ++ y)) (drop-drop (length s) at b)
+-- the part from a place on, as long as the text, is the text now
+part-laid : (b : Bytes) (at : ℕ) (s : Bytes) → at + length s ≤ length b → put_mid at (length s) b s ≡ sets b at s
+part-laid b at s fits =
+    ap (λ (y : Bytes). take at b ++ (s ++ y)) (drop-drop (length s) at b)
     ∙ sym (append_assoc (take at b) s (drop (at + length s) b))
     ∙ sym (sets-eq s b at fits)
-  where
-    short : {m n : ℕ} → m ≡ n → m ≤ n
-    short e = omega arith
 
--- what fits has room in the part from a place on
-pub copy-fits : (s b : Bytes) (at k : ℕ) → at < length b → k ≡ min (length s) (length b - at) → length (take k s) ≤ length (take (length b - at) (drop at b))
-copy-fits s b at k below fitting =
+-- as many bytes as fit were copied over a part of n from a place on
+pub laid-copied : (b : Bytes) (at : ℕ) (s : Bytes) (k n : ℕ) {t : Bytes} → at < length b → k ≡ min (length s) (length b - at) → n ≡ k → t ≡ take k s
+    → Laid b at s (put_mid at n b t) (at + length s)
+laid-copied b at s k n below fitting part copied =
     let l = length-take-le k s (omega arith) in
-    let m = length-take-le (length b - at) (drop at b) (omega (arith, length-drop at b)) in
-    omega arith
-
--- a part that was lent from a place on, with the bytes that fit copied to its start
-pub laid-copied : (b : Bytes) (at : ℕ) (s : Bytes) (k : ℕ) {r : ℕ} {a : Bytes} → at < length b → k ≡ min (length s) (length b - at) → r ≡ at + length s
-    → a ≡ put_mid at (length b - at) b (take (length (take k s)) (take k s) ++ drop (length (take k s)) (take (length b - at) (drop at b))) → Laid b at s a r
-laid-copied b at s k below fitting behind e =
-    let l = length-take-le k s (omega arith) in
-    record { is = e ∙ copied b at (take k s) (omega arith) ∙ cut (dec_lt k (length s)); behind = behind }
+    let w : n ≡ length (take k s) = omega arith in
+    record { is = ap₂ (λ (j : ℕ) (t : Bytes). put_mid at j b t) w copied ∙ part-laid b at (take k s) (omega arith) ∙ cut (dec_lt k (length s)); behind = refl }
   where
     cut : Dec (k < length s) → sets b at (take k s) ≡ sets b at s
     cut (yes h) = sets-cut b at k s (omega arith) (omega arith)

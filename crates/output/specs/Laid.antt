@@ -1,5 +1,5 @@
 -- Texts laid over a buffer from a place on, each byte behind the one before. What lies behind the buffer's end is dropped: `sets` writes no byte there.
-use Rattle.std.specs.Prelude.{ℕ, zero, suc, ◌+◌, ◌/◌, ◌%◌, ◌≤◌, ◌<◌, ◌≡◌, [], ◌∷◌, length, drop, eqb}
+use Rattle.std.specs.Prelude.{ℕ, zero, suc, ◌+◌, ◌/◌, ◌%◌, ◌<◌, ◌≡◌, [], ◌∷◌, length, drop, eqb}
 use Rattle.std.proofs.lemmas.List.Edits.{sets}
 use Rattle.model.specs.Notation.{if◌then◌else◌}
 use Rattle.model.specs.Bytes.{Bytes}

@@ -39,7 +39,7 @@ pub fn put(out: &mut [u8], at: usize, text: &[u8]) -> usize
         return end;
     }
     let fitting = least(text.len(), out.len() - at);
-    bytes::copy(&text[..fitting], &mut out[at..]);
+    out[at..at + fitting].copy_from_slice(&text[..fitting]);
     end
 }
 
