@@ -6,6 +6,8 @@ usage: tools/spell.py [ROOT]     rewrites below ROOT/crates the files of specs/ 
 A row has an old name, a tab and the new one, and may have a third column: the beginning of the paths, from ROOT, where it holds. Where several rows of a
 name hold in a file, the longest beginning wins. A name is a whole word, as antt cuts words; in a dashed name each part that is a row turns too. Rust's own
 functions, fields and constants are in snake case or capitals, so no row is one of them. Quoted text stays as it is.
+The choice between two values, `if c then a else b` of model's Notation, has the name of an operator of std that groups otherwise, which a crate may not give to
+its own: it is written `if c then a otherwise b`, in specs/, proofs/, clauses and edits.
 It runs once, on what /opt/rattle/port/port.py made: a lemma that would fall together with a definition's new name gets `_lem`.
 """
 
@@ -39,6 +41,36 @@ def turned(text, names):
     return WORD.sub(word, text)
 
 
+# In antt `else` is a word of that operator alone; in Rust's text it is one where `then` stands before it.
+CHOICE = re.compile(r"if◌then◌else◌|(?<![\w-])else(?![\w-])")
+CLAUSE = re.compile(r"(?<![\w-])then\s(?:(?!(?<![\w-])else(?![\w-])).)*?(?<![\w-])else(?![\w-])")
+
+
+def with_otherwise(path, text):
+    def one(m):
+        return "if◌then◌otherwise◌" if m[0].startswith("if") else "otherwise"
+
+    def code(line, sign):
+        """The line without its comment, and that."""
+        at = re.search(rf"(?<!\S){sign}", line)
+        return (line[: at.start()], line[at.start() :]) if at else (line, "")
+
+    made = []
+    for line in text.split("\n"):
+        if path.endswith(".antt"):
+            it, rest = code(line, "--")
+            made.append(CHOICE.sub(one, it) + rest)
+        elif path.endswith(".edit"):
+            made.append(CHOICE.sub(one, line) if re.match("(old|new): ", line) and re.search(r"\bthen\b|if◌then◌else◌", line) else line)
+        else:
+            it, rest = code(line, "//")
+            it = it.replace("if◌then◌else◌", "if◌then◌otherwise◌")
+            while re.search(r"\bthen\b", it) and CLAUSE.search(it):
+                it = CLAUSE.sub(lambda m: m[0][:-4] + "otherwise", it)
+            made.append(it + rest)
+    return "\n".join(made)
+
+
 def main(root):
     rows = table()
     for folder, dirs, files in os.walk(os.path.join(root, "crates")):
@@ -54,7 +86,7 @@ def main(root):
                     names[old], reach[old] = new, len(where)
             with open(path, encoding="utf-8") as it:
                 text = it.read()
-            made = turned(text, names)
+            made = with_otherwise(path, turned(text, names))
             if made != text:
                 with open(path, "w", encoding="utf-8") as it:
                     it.write(made)

@@ -14,7 +14,7 @@ use lib.Pow.{shr_lt}
 use lib.Dec.{eqb}
 use lib.ListN.{get_or}
 use borrow.Author.Tests.{eq-eqb, eqb-true, ne_eqb}
-use Rattle.model.specs.Notation.{if◌then◌else◌, any_of, count_of, below}
+use Rattle.model.specs.Notation.{if◌then◌otherwise◌, any_of, count_of, below}
 use Rattle.model.proofs.Options.{parts}
 use Rattle.model.proofs.Lists.{or-none, any-in, in-any, in-below, below_in, count-or as list-or}
 use Rattle.model.proofs.Sums.{sum-none, count-sum}
@@ -146,12 +146,12 @@ count-rest n (suc m) f l e = ⊎_elim
 count-once : (x n : ℕ) → x < n → count_below n (eqb x) ≡ 1
 unfolding count_below
 count-once x n l =
-    let rest = sum-none (λ g. if eqb g x then 0 else (if eqb x g then 1 else 0)) (below n) (λ g m. other g (ℕ_discrete g x)) in
-    count-sum (eqb x) (below n) ∙ sum-split (λ g. if eqb x g then 1 else 0) x n l ∙ omega (arith, rest, ap num (eq-eqb x x refl))
+    let rest = sum-none (λ g. if eqb g x then 0 otherwise (if eqb x g then 1 otherwise 0)) (below n) (λ g m. other g (ℕ_discrete g x)) in
+    count-sum (eqb x) (below n) ∙ sum-split (λ g. if eqb x g then 1 otherwise 0) x n l ∙ omega (arith, rest, ap num (eq-eqb x x refl))
   where
-    other : (g : ℕ) → Dec (g ≡ x) → ◌≡◌ {A = ℕ} (if eqb g x then 0 else (if eqb x g then 1 else 0)) 0
-    other g (yes e) = ap (λ (b : Bool). if b then 0 else (if eqb x g then 1 else 0)) (eq-eqb g x e)
-    other g (no n) = ap₂ (λ (a b : Bool). if a then 0 else (if b then 1 else 0)) (ne_eqb g x n) (ne_eqb x g (λ e. n (sym e)))
+    other : (g : ℕ) → Dec (g ≡ x) → ◌≡◌ {A = ℕ} (if eqb g x then 0 otherwise (if eqb x g then 1 otherwise 0)) 0
+    other g (yes e) = ap (λ (b : Bool). if b then 0 otherwise (if eqb x g then 1 otherwise 0)) (eq-eqb g x e)
+    other g (no n) = ap₂ (λ (a b : Bool). if a then 0 otherwise (if b then 1 otherwise 0)) (ne_eqb g x n) (ne_eqb x g (λ e. n (sym e)))
 
 -- where the numbers that pass have places below n, each its own, as many places are taken as numbers pass
 pub count-places : (f : ℕ → Bool) (place : ℕ → ℕ) (n m : ℕ) → ((q : ℕ) → q < m → f q ≡ true → place q < n)

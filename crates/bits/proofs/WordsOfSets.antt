@@ -8,7 +8,7 @@ use native.Mathlib.Omega.{arith}
 use lib.Dec.{eqb}
 use lib.ListN.{length, get_or}
 use lib.Seq.{ext_get_or}
-use Rattle.model.specs.Notation.{if◌then◌else◌}
+use Rattle.model.specs.Notation.{if◌then◌otherwise◌}
 use Rattle.model.specs.Table.{word, words_of}
 use Rattle.bits.specs.Bits.{odd, bit, member}
 use Rattle.bits.proofs.Bits.{bit-zero, bit-suc, bit-ext}
@@ -16,11 +16,11 @@ use Rattle.bits.proofs.Sets.{four}
 use Rattle.bits.proofs.Counts.{num, num-le}
 
 -- the highest bit of a word, and the lowest
-place-value : (b : Bool) (n : ℕ) → (if b then 2 ^ suc n else 0) ≡ 2 * (if b then 2 ^ n else 0)
+place-value : (b : Bool) (n : ℕ) → (if b then 2 ^ suc n otherwise 0) ≡ 2 * (if b then 2 ^ n otherwise 0)
 place-value true n = omega (arith, pow-suc 2 n)
 place-value false n = refl
 
-lowest : (b : Bool) → (if b then 2 ^ 0 else 0) ≡ num b
+lowest : (b : Bool) → (if b then 2 ^ 0 otherwise 0) ≡ num b
 lowest true = refl
 lowest false = refl
 

@@ -2,7 +2,7 @@
 #![tactic(auto)]
 
 ghost use Rattle.std.specs.Prelude.{◌≡◌, ◌||◌, ◌&&◌, not, ℕ, ◌*◌, ◌<◌, ◌≤◌, eqb, leb, length};
-ghost use Rattle.model.specs.Notation.{if◌then◌else◌};
+ghost use Rattle.model.specs.Notation.{if◌then◌otherwise◌};
 ghost use Rattle.bits.specs.Bits.{bit, member, Bits, Numbers, differ, count_below};
 ghost use Rattle.bits.specs.Lowest.{Lowest, FirstFrom};
 
@@ -33,7 +33,7 @@ pub fn without(w: u64, i: usize) -> u64
 // w with bit i set or clear.
 pub fn put(w: u64, i: usize, on: bool) -> u64
     requires { i < 64 }
-    ensures { Bits result (λ j. if eqb j i then on else bit w j) }
+    ensures { Bits result (λ j. if eqb j i then on otherwise bit w j) }
 {
     if on {
         return with(w, i);

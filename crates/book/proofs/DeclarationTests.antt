@@ -6,7 +6,7 @@ use mathlib.Core.List.{List, [], ◌∷◌}
 use mathlib.Core.Option.{Option, none, some}
 use native.Mathlib.Omega.{arith}
 use lib.ListN.{length}
-use Rattle.model.specs.Notation.{if◌then◌else◌, ◌is◌, is_none, place}
+use Rattle.model.specs.Notation.{if◌then◌otherwise◌, ◌is◌, is_none, place}
 use Rattle.model.specs.Numbers as refusal
 use Rattle.model.specs.Lines.{Line}
 use Rattle.model.specs.Declarations.{holder_numbers_of}
@@ -19,7 +19,7 @@ use Rattle.book.specs.Steps.{later_tests}
 use Rattle.book.specs.Declaring.{Keeps}
 
 in_order_lem : (a b c d e f : Bool) → e ≡ false → f ≡ false
-    → first (refusal.over_limits if e ∷ refusal.undeclared if a ∷ refusal.wrong_sort if b ∷ refusal.repeated if c ∷ refusal.full if d ∷ refusal.circular if f ∷ []) ≡ (if a then refusal.undeclared else if b then refusal.wrong_sort else if c then refusal.repeated else if d then refusal.full else 0)
+    → first (refusal.over_limits if e ∷ refusal.undeclared if a ∷ refusal.wrong_sort if b ∷ refusal.repeated if c ∷ refusal.full if d ∷ refusal.circular if f ∷ []) ≡ (if a then refusal.undeclared otherwise if b then refusal.wrong_sort otherwise if c then refusal.repeated otherwise if d then refusal.full otherwise 0)
 in_order_lem true b c d e f p q = rw p
 in_order_lem false true c d e f p q = rw p
 in_order_lem false false true d e f p q = rw p
@@ -29,7 +29,7 @@ in_order_lem false false false false e f p q = rw (p, q)
 -- a line that declares has no policy and no tie: the first of four conditions that holds decides
 module _ (S : State) (l : Line) (plain : over_limits l ≡ false) (free : tie_of S.declared l ≡ none) where
   tested : first (later_tests S l)
-      ≡ (if undeclared S.declared l then 8 else if wrong_sort S.declared l then 9 else if repeated S l then 10 else if full S.declared l then 11 else 0)
+      ≡ (if undeclared S.declared l then 8 otherwise if wrong_sort S.declared l then 9 otherwise if repeated S l then 10 otherwise if full S.declared l then 11 otherwise 0)
   unfolding circular
   tested =
       in_order_lem (undeclared S.declared l) (wrong_sort S.declared l) (repeated S l) (full S.declared l) (over_limits l) (circular S l) plain

@@ -10,7 +10,7 @@ use lib.ListN.{length, get_or, set, length-set}
 use lib.Seq.{get_or-set_same, get_or-set_other}
 use lib.Dec.{ltb}
 use borrow.Author.Tests.{eq-eqb, ne_eqb}
-use Rattle.model.specs.Notation.{if◌then◌else◌, ◌>>=◌}
+use Rattle.model.specs.Notation.{if◌then◌otherwise◌, ◌>>=◌}
 use Rattle.model.specs.Limits.{pair_limit, group_limit}
 use Rattle.model.specs.Bytes.{Bytes}
 use Rattle.model.specs.Declarations.{Declarations, Holder, Sort, attribute_number, operation_number, holder_of, holder_numbers_of, is_group, groups, sort_of}
@@ -181,7 +181,7 @@ module _ (D : Declarations) (h : Holder) (free : holder_of D h.number ≡ none) 
   unfolding sort_of
   sort-other k s e z = none-is-some (sym (ap (λ (o : Option Holder). o >>= λ x. some x.sort) (ap (holder_of D) z ∙ free)) ∙ e)
 
-  groups-more : groups E ≡ groups D + (if is_group h.sort then 1 else 0)
+  groups-more : groups E ≡ groups D + (if is_group h.sort then 1 otherwise 0)
   unfolding groups
   groups-more = count-inserted (λ x. x.number) h (λ x. is_group x.sort) D.holders
 

@@ -10,7 +10,7 @@ use lib.Dec.{eqb}
 use lib.ListN.{length, get_or, set, length-set}
 use lib.Seq.{get_or-set_other}
 use borrow.Author.Tests.{eq-eqb, ne_eqb, eqb-true}
-use Rattle.model.specs.Notation.{if◌then◌else◌, ◌>>=◌, ◌is◌, nth}
+use Rattle.model.specs.Notation.{if◌then◌otherwise◌, ◌>>=◌, ◌is◌, nth}
 use Rattle.model.specs.Limits.{attribute_limit, pair_limit, word_bits}
 use Rattle.model.specs.Bytes.{Bytes}
 use Rattle.model.specs.Declarations.{Declarations, Pair, attribute_number, operation_number, holder_numbers_of, groups}
@@ -217,7 +217,7 @@ module _ (D : Declarations) (q : Pair) (k n : ℕ) (number : attribute_number D 
               ∙ sym
               (ap (λ (o : Option Pair). o >>= row_in) (ap (nth E.pairs) (z ∙ at) ∙ nth-new D.pairs q)
               ∙ ap (λ (o : Option ℕ). o >>= λ i. some (row_of i (atom_words q.atom))) number)
-          go (no z) = ap (λ (b : Bool). if b then some w else pair_row D j) (ne_eqb j n z) ∙ sym (ap (λ (o : Option Pair). o >>= row_in) (nth-old D.pairs q j (λ y. z (y ∙ sym at))))
+          go (no z) = ap (λ (b : Bool). if b then some w otherwise pair_row D j) (ne_eqb j n z) ∙ sym (ap (λ (o : Option Pair). o >>= row_in) (nth-old D.pairs q j (λ y. z (y ∙ sym at))))
 
   counts-more : (words : List ℕ) → 2 < length words → CountsOf words D → CountsOf (set words 2 (n + 1)) E
   unfolding holder_numbers_of groups

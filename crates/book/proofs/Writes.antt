@@ -10,7 +10,7 @@ use lib.ListN.{length, get_or, take, drop, set, length-drop}
 use lib.Seq.{length-take-le, get_or-take, get_or-drop, get_or-set_same, get_or-set_other, take-set-le, take-set-lt, drop-set-lt, drop-set-add}
 use borrow.Author.Tests.{eqb-true, eqb-false, leb-true}
 use borrow.Rule.Slice.PartMut.{same_len_mid}
-use Rattle.model.specs.Notation.{if◌then◌else◌}
+use Rattle.model.specs.Notation.{if◌then◌otherwise◌}
 use Rattle.model.proofs.Lists.{or_cases}
 use Rattle.book.specs.Sections.{Section, section_words}
 use Rattle.book.specs.Declaring.{with_section}
@@ -61,9 +61,9 @@ module _ (s : Section) (book : List ℕ) where
   section-word i h = get_or-take s.size (drop s.start book) i 0 h ∙ get_or-drop s.start book i 0
 
 -- a word of a list in which one was written
-pub word_at : (words : List ℕ) (j v i : ℕ) → j < length words → get_or (set words j v) i 0 ≡ (if eqb i j then v else get_or words i 0)
+pub word_at : (words : List ℕ) (j v i : ℕ) → j < length words → get_or (set words j v) i 0 ≡ (if eqb i j then v otherwise get_or words i 0)
 word_at words j v i h = go (eqb i j) refl
   where
-    go : (t : Bool) → eqb i j ≡ t → get_or (set words j v) i 0 ≡ (if t then v else get_or words i 0)
+    go : (t : Bool) → eqb i j ≡ t → get_or (set words j v) i 0 ≡ (if t then v otherwise get_or words i 0)
     go true e = ap (λ (k : ℕ). get_or (set words j v) k 0) (eqb-true i j e) ∙ get_or-set_same words j v 0 h
     go false e = get_or-set_other words j i v 0 (eqb-false i j e)

@@ -6,7 +6,7 @@ use mathlib.Core.List.{List, [], ◌∷◌}
 use mathlib.Core.Option.{Option, none, some, some-injective}
 use native.Mathlib.Omega.{arith}
 use lib.Dec.{eqb}
-use Rattle.model.specs.Notation.{if◌then◌else◌}
+use Rattle.model.specs.Notation.{if◌then◌otherwise◌}
 use Rattle.model.specs.Bytes.{Bytes, same, one_of}
 use Rattle.model.specs.Attributes.{Source, user, object, admin, env, connect, sources, AtomType, types}
 use Rattle.model.specs.Keys.{Key, keys}
@@ -17,14 +17,14 @@ module _ {A : Type 0} (word : A → Bytes) (code : A → ℕ) where
   -- the number of the first word that is s, else 0
   abbrev pub selected : List A → Bytes → ℕ
   selected [] s = 0
-  selected (a ∷ rest) s = if same (word a) s then code a else selected rest s
+  selected (a ∷ rest) s = if same (word a) s then code a otherwise selected rest s
 
   pub coded-one-of : (table : List A) (s : Bytes) → coded code (one_of word table s) ≡ selected table s
   coded-one-of [] s = refl
   coded-one-of (a ∷ rest) s = go (same (word a) s) (coded-one-of rest s)
     where
       go : (t : Bool) → coded code (one_of word rest s) ≡ selected rest s
-          → coded code (elim t as (λ _. Option A) [ true ↦ some a | false ↦ one_of word rest s ]) ≡ (if t then code a else selected rest s)
+          → coded code (elim t as (λ _. Option A) [ true ↦ some a | false ↦ one_of word rest s ]) ≡ (if t then code a otherwise selected rest s)
       go true e = refl
       go false e = e
 

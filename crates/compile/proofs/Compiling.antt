@@ -10,7 +10,7 @@ use lib.Dec.{ltb}
 use lib.ListN.{length, get_or, take}
 use lib.Seq.{sets, length-sets}
 use borrow.Author.Tests.{ltb-false}
-use Rattle.model.specs.Notation.{if◌then◌else◌, any_of, all_of}
+use Rattle.model.specs.Notation.{if◌then◌otherwise◌, any_of, all_of}
 use Rattle.model.specs.Limits.{term_limit, depth_limit, set_limit}
 use Rattle.model.specs.Bytes.{Bytes}
 use Rattle.truth.specs.Verdicts.{Verdict, policy_verdict}
@@ -185,9 +185,9 @@ module _ (code : Bytes) (attributes : List ℕ) where
         go : (b : Bool) → is_passed (get_or code at 0) ≡ b → Compiling code attributes rows' m next
         go true y =
             let (same_rows, further) = T.mark y in
-            let same_row : m ≡ row = e ∙ ap (λ (b : Bool). if b then row else row + row_bytes) y in
+            let same_row : m ≡ row = e ∙ ap (λ (b : Bool). if b then row otherwise row + row_bytes) y in
             rw (same_rows, further, same_row) (compile-passes y n)
         go false y =
             let (t, X, written, further) = T.a-term y in
-            let same_row : m ≡ row + row_bytes = e ∙ ap (λ (b : Bool). if b then row else row + row_bytes) y in
+            let same_row : m ≡ row + row_bytes = e ∙ ap (λ (b : Bool). if b then row otherwise row + row_bytes) y in
             rw (written, same_row) (compile-puts y n t X next further short)

@@ -7,7 +7,7 @@ use mathlib.Core.Option.{Option, some}
 use native.Mathlib.Omega.{arith}
 use lib.ListN.{length}
 use borrow.Author.Tests.{eq-eqb, ne_eqb}
-use Rattle.model.specs.Notation.{if◌then◌else◌}
+use Rattle.model.specs.Notation.{if◌then◌otherwise◌}
 use Rattle.model.specs.Limits.{Edition, table_words}
 use Rattle.model.specs.Numbers as refusal
 use Rattle.model.specs.Bytes.{Bytes}
@@ -38,11 +38,11 @@ module _ (S : State) (words : List ℕ) (line : Bytes) where
 
   kept_table : length words ≡ table_words S.declared.edition → table_after words S ≡ words → words ≡ table S.declared S.ties
   unfolding table_after wrong_table
-  kept_table size e = sym e ∙ ap (λ (b : Bool). if not b then words else table S.declared S.ties) (eq-eqb (length words) (table_words S.declared.edition) size)
+  kept_table size e = sym e ∙ ap (λ (b : Bool). if not b then words otherwise table S.declared S.ties) (eq-eqb (length words) (table_words S.declared.edition) size)
 
   refuses : (edit_refusal S line ≡ 0 → ⊥) → model.edit S line ≡ refusing S line
   unfolding model.edit
-  refuses z = ap (λ (b : Bool). if b then accepting S line else refusing S line) (ne_eqb (edit_refusal S line) 0 z)
+  refuses z = ap (λ (b : Bool). if b then accepting S line otherwise refusing S line) (ne_eqb (edit_refusal S line) 0 z)
 
   accepts : edit_refusal S line ≡ 0 → {plus : Bool} {t : Tie} → adds line ≡ plus → edited_tie S line ≡ some t
       → model.edit S line ≡ record {
@@ -53,7 +53,7 @@ module _ (S : State) (words : List ℕ) (line : Bytes) where
       }
   unfolding model.edit
   accepts z a e =
-      ap (λ (b : Bool). if b then accepting S line else refusing S line) (eq-eqb (edit_refusal S line) 0 z)
+      ap (λ (b : Bool). if b then accepting S line otherwise refusing S line) (eq-eqb (edit_refusal S line) 0 z)
       ∙ ap₂ (λ (b : Bool) (o : Option Tie). record {
         number = 0;
         changed = changes S.declared S.ties (edited_ties b o S.ties);

@@ -8,7 +8,7 @@ use native.Mathlib.Omega.{arith}
 use lib.Dec.{eqb}
 use lib.ListN.{length, get_or, take}
 use lib.Seq.{length-take-le}
-use Rattle.model.specs.Notation.{if◌then◌else◌}
+use Rattle.model.specs.Notation.{if◌then◌otherwise◌}
 use Rattle.model.specs.Limits.{Edition, holder_numbers, table_words}
 use Rattle.model.specs.Bytes.{Bytes}
 use Rattle.model.specs.Declarations.{Declarations, is_holder}
@@ -39,7 +39,7 @@ pub edited-lower : (key h u : ℕ) → edited_holder (tie_by key h u) ≡ h
 unfolding tie_by
 edited-lower key h u = go (eqb key 10) (eqb key 8)
   where
-    go : (a b : Bool) → edited_holder (if a then Tie.value h u else if b then Tie.parent h u else Tie.member h u) ≡ h
+    go : (a b : Bool) → edited_holder (if a then Tie.value h u otherwise if b then Tie.parent h u otherwise Tie.member h u) ≡ h
     go true b = refl
     go false true = refl
     go false false = refl

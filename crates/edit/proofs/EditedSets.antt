@@ -8,7 +8,7 @@ use mathlib.Core.Option.{some}
 use native.Mathlib.Omega.{arith}
 use lib.ListN.{replicate}
 use lib.Dec.{eqb}
-use Rattle.model.specs.Notation.{if◌then◌else◌, count_of, below}
+use Rattle.model.specs.Notation.{if◌then◌otherwise◌, count_of, below}
 use Rattle.model.specs.Limits.{Edition, holder_numbers, join_limit, set_words}
 use Rattle.model.specs.Bytes.{Bytes}
 use Rattle.model.specs.Declarations.{Declarations, is_holder}
@@ -35,7 +35,7 @@ use Rattle.edit.specs.EditSteps.{SetsElsewhere}
 stored_same : (D E : Declarations) (T U : Ties) (k : ℕ) → E ≡ D → ((p : ℕ) → effective_set D U k p ≡ effective_set D T k p) → stored_set E U k ≡ stored_set D T k
 unfolding stored_set
 stored_same D E T U k e same =
-    ap (λ (F : Declarations). stored_set F U k) e ∙ ap (λ (w : List ℕ). if is_holder D k then w else replicate set_words 0) (words_same (effective_set D U k) (effective_set D T k) (λ p l. same p))
+    ap (λ (F : Declarations). stored_set F U k) e ∙ ap (λ (w : List ℕ). if is_holder D k then w otherwise replicate set_words 0) (words_same (effective_set D U k) (effective_set D T k) (λ p l. same p))
 
 -- no set of a table differs from itself
 none-changed : (n : ℕ) (w : List ℕ) → count_of (set_changed w w) (below n) ≡ 0
@@ -49,9 +49,9 @@ count-exact : {S : State} → Standing S → (line : Bytes)
 unfolding model.edit
 count-exact {S} standing line = go (eqb (edit_refusal S line) 0) (edit-standing S line standing)
   where
-    go : (b : Bool) → Standing (if b then model.accepting S line else model.refusing S line).state
-        → (if b then model.accepting S line else model.refusing S line).changed
-        ≡ count_of (set_changed (table S.declared S.ties) (table (if b then model.accepting S line else model.refusing S line).state.declared (if b then model.accepting S line else model.refusing S line).state.ties)) (below (holder_numbers S.declared.edition))
+    go : (b : Bool) → Standing (if b then model.accepting S line otherwise model.refusing S line).state
+        → (if b then model.accepting S line otherwise model.refusing S line).changed
+        ≡ count_of (set_changed (table S.declared S.ties) (table (if b then model.accepting S line otherwise model.refusing S line).state.declared (if b then model.accepting S line otherwise model.refusing S line).state.ties)) (below (holder_numbers S.declared.edition))
     go true after = changes-exact S.declared S.ties (model.accepting S line).state.ties standing after
     go false after = sym (none-changed (holder_numbers S.declared.edition) (table S.declared S.ties))
 

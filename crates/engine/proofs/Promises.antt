@@ -5,7 +5,7 @@ use mathlib.Core.Bool.{Bool, true, false, true≢false}
 use mathlib.Core.List.{List}
 use lib.ListN.{length}
 use borrow.Author.Tests.{eq-eqb}
-use Rattle.model.specs.Notation.{if◌then◌else◌}
+use Rattle.model.specs.Notation.{if◌then◌otherwise◌}
 use Rattle.model.specs.Limits.{Edition, table_words}
 use Rattle.model.specs.Bytes.{Bytes}
 use Rattle.model.specs.Table.{table}
@@ -20,15 +20,15 @@ use Rattle.engine.specs.Runs.{Memory, Does, loads, edits, decides}
 -- a table that is refused has not the words of the edition
 right-length : (d : Edition) (n : ℕ) → wrong_table d n ≡ true → n ≡ table_words d → ⊥
 unfolding wrong_table
-right-length d n e long = true≢false (sym e ∙ ap (λ (b : Bool). if b then false else true) (eq-eqb n (table_words d) long))
+right-length d n e long = true≢false (sym e ∙ ap (λ (b : Bool). if b then false otherwise true) (eq-eqb n (table_words d) long))
 
 -- `decide`
 pub request-answered : {block code : Bytes} {book words : List ℕ} {r : Decision} → Decides block book code words r → AnswersRequest block book code words (decided (decision_of r))
 unfolding step table_after
 request-answered {block} {code} {book} {words} {r} promise S together = go (wrong_table S.declared.edition (length words)) refl together.kept
   where
-    go : (b : Bool) → wrong_table S.declared.edition (length words) ≡ b → (if b then words else table S.declared S.ties) ≡ words
-        → (if b then without_table S (Call.request block) else with_table S (Call.request block)).answer ≡ decided (decision_of r)
+    go : (b : Bool) → wrong_table S.declared.edition (length words) ≡ b → (if b then words otherwise table S.declared S.ties) ≡ words
+        → (if b then without_table S (Call.request block) otherwise with_table S (Call.request block)).answer ≡ decided (decision_of r)
     go true e k = ap decided (sym (promise.other-table (λ long. right-length S.declared.edition (length words) e (long ∙ ap table_words (sym together.holds.edition)))))
     go false e k = ap decided (sym (promise.decision S together.standing together.holds (sym k)))
 

@@ -5,7 +5,7 @@ use mathlib.Core.Path.{◌≡◌, refl, sym, ap, ap₂, subst, ◌∙◌}
 use mathlib.Core.Bool.{Bool, true, false}
 use mathlib.Core.List.{List, [], ◌∷◌, ◌++◌}
 use lib.ListN.{length}
-use Rattle.model.specs.Notation.{if◌then◌else◌, map}
+use Rattle.model.specs.Notation.{if◌then◌otherwise◌, map}
 use Rattle.model.specs.Limits.{Edition}
 use Rattle.model.specs.Bytes.{Bytes}
 use Rattle.model.specs.Lines.{named_edition}
@@ -27,7 +27,7 @@ load-anew S words file = go (wrong_table (named_edition file) (length words))
   where
     from : Bool → State → Outcome
     from b T =
-        let s = if b then without_table T (Call.load file) else with_table T (Call.load file) in
+        let s = if b then without_table T (Call.load file) otherwise with_table T (Call.load file) in
         record { answer = s.answer; words = table_after words s.state; state = s.state }
 
     go : (b : Bool) → from b S ≡ from b (empty Edition.first)
@@ -42,12 +42,12 @@ kept-after words S = go (wrong_table S.declared.edition (length words)) refl
     kept : List ℕ
     kept = table S.declared S.ties
 
-    either : (c : Bool) → (if c then kept else kept) ≡ kept
+    either : (c : Bool) → (if c then kept otherwise kept) ≡ kept
     either true = refl
     either false = refl
 
-    go : (b : Bool) → wrong_table S.declared.edition (length words) ≡ b → (if wrong_table S.declared.edition (length (if b then words else kept)) then (if b then words else kept) else kept) ≡ (if b then words else kept)
-    go true e = ap (λ (c : Bool). if c then words else kept) e
+    go : (b : Bool) → wrong_table S.declared.edition (length words) ≡ b → (if wrong_table S.declared.edition (length (if b then words otherwise kept)) then (if b then words otherwise kept) otherwise kept) ≡ (if b then words otherwise kept)
+    go true e = ap (λ (c : Bool). if c then words otherwise kept) e
     go false e = either (wrong_table S.declared.edition (length kept))
 
 -- what a call leaves goes with the ledger's state

@@ -9,7 +9,7 @@ use lib.Dec.{eqb}
 use lib.ListN.{length, take, drop, length-append, length-drop, take-append-drop}
 use lib.Seq.{take_at, drop-drop, take_all, length-take-le}
 use borrow.Author.Tests.{eqb-true, eq-eqb, ne_eqb, lt-ltb, le-ltb, not-true, not-false}
-use Rattle.model.specs.Notation.{if◌then◌else◌, ◌>>=◌, is_none}
+use Rattle.model.specs.Notation.{if◌then◌otherwise◌, ◌>>=◌, is_none}
 use Rattle.model.specs.Limits.{Edition, file_bytes}
 use Rattle.model.specs.Numbers as refusal
 use Rattle.model.specs.Bytes.{Bytes, newline, cut, begun, lines_of, behind, same}
@@ -82,8 +82,8 @@ cut-lines [] l r e = none-is-some e
 cut-lines (x ∷ xs) l r e = go (eqb x newline) refl (λ m k. cut-lines xs m k) e
   where
     go : (b : Bool) → eqb x newline ≡ b → ((m k : Bytes) → cut newline xs ≡ some (m, k) → lines_of xs ≡ (m ++ newline ∷ []) ∷ lines_of k)
-        → if◌then◌else◌ {A = Option (Bytes × Bytes)} b (some ([], xs)) (cut newline xs >>= λ (l, r). some (x ∷ l, r)) ≡ some (l, r)
-        → (if b then (x ∷ []) ∷ lines_of xs else begun x (lines_of xs)) ≡ (l ++ newline ∷ []) ∷ lines_of r
+        → if◌then◌otherwise◌ {A = Option (Bytes × Bytes)} b (some ([], xs)) (cut newline xs >>= λ (l, r). some (x ∷ l, r)) ≡ some (l, r)
+        → (if b then (x ∷ []) ∷ lines_of xs otherwise begun x (lines_of xs)) ≡ (l ++ newline ∷ []) ∷ lines_of r
     go true f more g =
         let (p, q) = fields g in
         let z = eqb-true x newline f in
@@ -101,7 +101,7 @@ uncut-behind x xs e = go (eqb x newline) e
     left none f = refl
     left (some c) f = none-is-some (sym f)
 
-    go : (b : Bool) → if◌then◌else◌ {A = Option (Bytes × Bytes)} b (some ([], xs)) (cut newline xs >>= λ (l, r). some (x ∷ l, r)) ≡ none → (b ≡ false) × (cut newline xs ≡ none)
+    go : (b : Bool) → if◌then◌otherwise◌ {A = Option (Bytes × Bytes)} b (some ([], xs)) (cut newline xs >>= λ (l, r). some (x ∷ l, r)) ≡ none → (b ≡ false) × (cut newline xs ≡ none)
     go true g = none-is-some (sym g)
     go false g = (refl, left (cut newline xs) g)
 
@@ -111,7 +111,7 @@ uncut-lines x (y ∷ ys) e =
     let (p, q) = uncut-behind x (y ∷ ys) e in
     first_of (eqb x newline) p ∙ ap (begun x) (uncut-lines y ys q)
   where
-    first_of : (b : Bool) → b ≡ false → (if b then (x ∷ []) ∷ lines_of (y ∷ ys) else begun x (lines_of (y ∷ ys))) ≡ begun x (lines_of (y ∷ ys))
+    first_of : (b : Bool) → b ≡ false → (if b then (x ∷ []) ∷ lines_of (y ∷ ys) otherwise begun x (lines_of (y ∷ ys))) ≡ begun x (lines_of (y ∷ ys))
     first_of b f = rw f
 
 -- byte 10 behind bytes without it

@@ -7,7 +7,7 @@ use mathlib.Core.List.{List, [], ◌∷◌}
 use lib.ListN.{length}
 use lib.Dec.{eqb}
 use borrow.Author.Tests.{eq-eqb, eqb-true}
-use Rattle.model.specs.Notation.{if◌then◌else◌}
+use Rattle.model.specs.Notation.{if◌then◌otherwise◌}
 use Rattle.model.specs.Limits.{Edition, table_words}
 use Rattle.model.specs.Numbers as refusal
 use Rattle.model.specs.Bytes.{Bytes}
@@ -52,13 +52,13 @@ decide-does lent promise = (decision_of promise.decision, request-decided lent p
 -- the first number of a list's outcomes that is not 0, and 0 where all are
 abbrev pub first_number : List Outcome → ℕ
 first_number [] = 0
-first_number (o ∷ rest) = if eqb (answer_number o.answer) 0 then first_number rest else answer_number o.answer
+first_number (o ∷ rest) = if eqb (answer_number o.answer) 0 then first_number rest otherwise answer_number o.answer
 
 -- a number, told by whether it is 0
-itself : (n : ℕ) → (if eqb n 0 then 0 else n) ≡ n
+itself : (n : ℕ) → (if eqb n 0 then 0 otherwise n) ≡ n
 itself n = go (eqb n 0) refl
   where
-    go : (b : Bool) → eqb n 0 ≡ b → (if b then 0 else n) ≡ n
+    go : (b : Bool) → eqb n 0 ≡ b → (if b then 0 otherwise n) ≡ n
     go true e = sym (eqb-true n 0 e)
     go false e = refl
 
@@ -74,7 +74,7 @@ module _ (file block : Bytes) (words : List ℕ) where
   by-outcomes : {A : Type 0} (f : List Outcome → A) (b : Bool) → wrong_table (named_edition file) (length words) ≡ b
       → f (ledger words file (Call.request block ∷ []))
       ≡ (if b then f (outcome_by true (empty Edition.first) words (Call.load file) ∷ outcome_by true (empty (named_edition file)) words (Call.request block) ∷ [])
-      else f (outcome_by false (empty Edition.first) words (Call.load file) ∷ outcome_by false read (table read.declared read.ties) (Call.request block) ∷ []))
+      otherwise f (outcome_by false (empty Edition.first) words (Call.load file) ∷ outcome_by false read (table read.declared read.ties) (Call.request block) ∷ []))
   unfolding ledger
   by-outcomes f true e =
       ap (λ (o : Outcome). f (o ∷ outcome o.state o.words (Call.request block) ∷ [])) (outcome-by (empty Edition.first) words (Call.load file) e)
@@ -91,13 +91,13 @@ module _ (file block : Bytes) (words : List ℕ) where
       number : Bool → ℕ
       number b =
           if b then refusal.wrong_table
-          else (if eqb (model.load file).number 0 then (number_and_values (decision.decide read block)).0 else (model.load file).number)
+          otherwise (if eqb (model.load file).number 0 then (number_and_values (decision.decide read block)).0 otherwise (model.load file).number)
 
       go : (b : Bool) → wrong_table (named_edition file) (length words) ≡ b → number (wrong_table (named_edition file) (length words)) ≡ first_number (ledger words file (Call.request block ∷ []))
       go true e = ap number e ∙ sym (by-outcomes first_number true e)
       go false e =
           ap number e
-          ∙ ap (λ (n : ℕ). if eqb (model.load file).number 0 then n else (model.load file).number) (sym (itself (number_and_values (decision.decide read block)).0))
+          ∙ ap (λ (n : ℕ). if eqb (model.load file).number 0 then n otherwise (model.load file).number) (sym (itself (number_and_values (decision.decide read block)).0))
           ∙ sym (by-outcomes first_number false e)
 
   -- and its table that of the list
@@ -107,7 +107,7 @@ module _ (file block : Bytes) (words : List ℕ) where
       ap (λ (e : Edition). kept (wrong_table e (length words))) (load-edition file) ∙ go (wrong_table (named_edition file) (length words)) refl
     where
       kept : Bool → List ℕ
-      kept b = if b then words else table read.declared read.ties
+      kept b = if b then words otherwise table read.declared read.ties
 
       go : (b : Bool) → wrong_table (named_edition file) (length words) ≡ b → kept (wrong_table (named_edition file) (length words)) ≡ end_words words (ledger words file (Call.request block ∷ []))
       go true e = ap kept e ∙ sym (by-outcomes (end_words words) true e)

@@ -7,7 +7,7 @@ use native.Mathlib.Omega.{arith}
 use lib.ListN.{length}
 use lib.Dec.{eqb}
 use borrow.Author.Tests.{eq-eqb, ne_eqb}
-use Rattle.model.specs.Notation.{if◌then◌else◌}
+use Rattle.model.specs.Notation.{if◌then◌otherwise◌}
 use Rattle.model.specs.Limits.{Edition}
 use Rattle.model.specs.Numbers as refusal
 use Rattle.model.specs.Bytes.{Bytes}
@@ -40,7 +40,7 @@ module _ (file block : Bytes) (words words' book : List ℕ) (code : Bytes) (num
   pass-table = go wrong refl ∙ ap (λ (e : Edition). kept (wrong_table e (length words))) (sym (load-edition file))
     where
       kept : Bool → List ℕ
-      kept b = if b then words else table (model.load file).state.declared (model.load file).state.ties
+      kept b = if b then words otherwise table (model.load file).state.declared (model.load file).state.ties
 
       go : (b : Bool) → wrong ≡ b → words' ≡ kept wrong
       go true e = sym (given_by true e).table ∙ ap kept (sym e)
@@ -50,7 +50,7 @@ module _ (file block : Bytes) (words words' book : List ℕ) (code : Bytes) (num
   abbrev number_by : Bool → ℕ
   number_by b =
       if b then refusal.wrong_table
-      else (if eqb (model.load file).number 0 then (number_and_values (decision.decide (model.load file).state block)).0 else (model.load file).number)
+      otherwise (if eqb (model.load file).number 0 then (number_and_values (decision.decide (model.load file).state block)).0 otherwise (model.load file).number)
 
   pub pass-refused : (number ≡ 0 → ⊥) → number ≡ host_call file block (length words)
   unfolding host_call
@@ -61,7 +61,7 @@ module _ (file block : Bytes) (words words' book : List ℕ) (code : Bytes) (num
       go false e =
           let a = (given_by false e).answered in
           let n : (model.load file).number ≡ number = cc in
-          sym n ∙ sym (ap (λ (t : Bool). if t then (number_and_values (decision.decide (model.load file).state block)).0 else (model.load file).number) (ne_eqb (model.load file).number 0 (λ z. off (sym n ∙ z))))
+          sym n ∙ sym (ap (λ (t : Bool). if t then (number_and_values (decision.decide (model.load file).state block)).0 otherwise (model.load file).number) (ne_eqb (model.load file).number 0 (λ z. off (sym n ∙ z))))
 
   pub pass-decided : number ≡ 0 → (r : Decision) → Decides block book code words' r → (number_and_values_of r).0 ≡ host_call file block (length words)
   unfolding host_call
@@ -74,4 +74,4 @@ module _ (file block : Bytes) (words words' book : List ℕ) (code : Bytes) (num
           let a = g.answered in
           let n : (model.load file).number ≡ 0 = cc in
           ap (λ (d : decision.Decision). (number_and_values d).0) (promise.decision (model.load file).state (load-standing file) g.holds (sym g.table))
-          ∙ sym (ap (λ (b : Bool). if b then (number_and_values (decision.decide (model.load file).state block)).0 else (model.load file).number) (eq-eqb (model.load file).number 0 n))
+          ∙ sym (ap (λ (b : Bool). if b then (number_and_values (decision.decide (model.load file).state block)).0 otherwise (model.load file).number) (eq-eqb (model.load file).number 0 n))

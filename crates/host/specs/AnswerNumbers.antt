@@ -2,7 +2,7 @@
 use Rattle.std.specs.Prelude.{ℕ, ◌/◌, ◌%◌, ◌≡◌, List, [], ◌∷◌, eqb}
 use Rattle.model.specs.Bytes.{Bytes}
 use Rattle.model.specs.Ledger.{Answer, loaded, edited}
-use Rattle.model.specs.Notation.{if◌then◌else◌}
+use Rattle.model.specs.Notation.{if◌then◌otherwise◌}
 use Rattle.model.specs.Decision.{Decision, number_and_values}
 use Rattle.request.specs.declared.Decision as request
 use Rattle.request.specs.Decisions.{decision_of, number_and_values_of, Decides}
@@ -31,7 +31,7 @@ edit_answer r = edited (r % high) (r / high % count_numbers) (r / high / count_n
 -- the value that an answer carries, if it has that number; else 0
 abbrev pub carried_with : ℕ → ℕ × List ℕ → ℕ
 carried_with n (m, []) = 0
-carried_with n (m, v ∷ values) = if eqb m n then v else 0
+carried_with n (m, v ∷ values) = if eqb m n then v otherwise 0
 
 -- by this paper's number and values: the rule of a permit, 0, and the cause of what is undefined, 65
 abbrev pub rule_in : Decision → ℕ

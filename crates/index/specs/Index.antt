@@ -2,7 +2,7 @@
 -- n rows has 256 words of firsts, n words of nexts, and 4n words of rows.
 use Rattle.std.specs.Prelude.{ℕ, suc, ◌+◌, ◌-◌, ◌*◌, ◌/◌, ◌%◌, ◌≤◌, ◌<◌, ◌≡◌, ◌⊎◌, Bool, ◌&&◌, List, eqb, leb, length, get_or, set}
 use Rattle.std.proofs.Math.Option.{Option, none, some}
-use Rattle.model.specs.Notation.{if◌then◌else◌, ◌>>=◌, nth}
+use Rattle.model.specs.Notation.{if◌then◌otherwise◌, ◌>>=◌, nth}
 
 -- how many chains a section has
 abbrev pub chains : ℕ
@@ -34,7 +34,7 @@ is_at s place w =
 
 -- a word of a chain that leads below `top`; 0, the chain's end, for any other
 abbrev pub link_of : ℕ → ℕ → ℕ
-link_of v top = if leb v top then v else 0
+link_of v top = if leb v top then v otherwise 0
 
 -- which rows are there: none where nobody is
 abbrev pub Rows : Type 0
@@ -84,10 +84,10 @@ rows_of row xs k = nth xs k >>= λ x. some (row x)
 
 -- the rows with row k, and without it
 abbrev pub with_row : Rows → ℕ → Row → Rows
-with_row rows k w j = if eqb j k then some w else rows j
+with_row rows k w j = if eqb j k then some w otherwise rows j
 
 abbrev pub without_row : Rows → ℕ → Rows
-without_row rows k j = if eqb j k then none else rows j
+without_row rows k j = if eqb j k then none otherwise rows j
 
 -- four words from a place on, written as a row's
 unfoldable pub put_row : List ℕ → ℕ → Row → List ℕ

@@ -6,7 +6,7 @@ use mathlib.Core.List.{◌++◌}
 use mathlib.Core.Option.{Option, none, some, some-injective}
 use lib.Dec.{eqb}
 use borrow.Author.Tests.{eq-eqb, not-false}
-use Rattle.model.specs.Notation.{if◌then◌else◌, ◌>>=◌, ◌or_else◌, ◌is◌, is_none}
+use Rattle.model.specs.Notation.{if◌then◌otherwise◌, ◌>>=◌, ◌or_else◌, ◌is◌, is_none}
 use Rattle.model.specs.Bytes.{Bytes, bytes}
 use Rattle.model.specs.Names.{read_name}
 use Rattle.model.specs.Attributes.{read_source}
@@ -171,7 +171,7 @@ module _ (S : State) (line : Bytes) where
 
   accepts : edit_refusal S line ≡ 0 → edit S line ≡ accepting S line
   unfolding edit
-  accepts e = ap (λ (b : Bool). if b then accepting S line else refusing S line) (eq-eqb (edit_refusal S line) 0 e)
+  accepts e = ap (λ (b : Bool). if b then accepting S line otherwise refusing S line) (eq-eqb (edit_refusal S line) 0 e)
 
   -- an accepted edit adds or removes its tie, and does no more
   pub edit-changes : (edit S line).number ≡ 0 → Changes S line (edit S line).state
@@ -204,7 +204,7 @@ module _ (S : State) (line : Bytes) where
   unfolding edit
   edit-declared = go (eqb (edit_refusal S line) 0)
     where
-      go : (b : Bool) → (if b then accepting S line else refusing S line).state.declared ≡ S.declared
+      go : (b : Bool) → (if b then accepting S line otherwise refusing S line).state.declared ≡ S.declared
       go true = refl
       go false = refl
 

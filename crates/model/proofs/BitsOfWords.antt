@@ -9,7 +9,7 @@ use lib.Arith.{lt-one}
 use lib.Pow.{shr-shr, shr_lt}
 use lib.Dec.{eqb}
 use borrow.Author.Tests.{eqb-true, eqb-false}
-use Rattle.model.specs.Notation.{if◌then◌else◌}
+use Rattle.model.specs.Notation.{if◌then◌otherwise◌}
 use Rattle.model.specs.Table.{word}
 
 -- bit i of w
@@ -34,7 +34,7 @@ bit-none (suc i) = bit-suc 0 i ∙ bit-none i
 
 -- 1 or 0
 abbrev digit : Bool → ℕ
-digit b = if b then 1 else 0
+digit b = if b then 1 otherwise 0
 
 digit-le : (b : Bool) → digit b ≤ 1
 digit-le true = omega arith
@@ -45,7 +45,7 @@ digit-odd true m = let e : (1 + 2 * m) % 2 ≡ 1 = omega arith in ap (λ (x : �
 digit-odd false m = let e : (0 + 2 * m) % 2 ≡ 0 = omega arith in ap (λ (x : ℕ). eqb x 1) e
 
 -- the highest bit of a word, and the lowest
-place-value : (b : Bool) (n : ℕ) → (if b then 2 ^ suc n else 0) ≡ 2 * (if b then 2 ^ n else 0)
+place-value : (b : Bool) (n : ℕ) → (if b then 2 ^ suc n otherwise 0) ≡ 2 * (if b then 2 ^ n otherwise 0)
 place-value true n = omega (arith, pow-suc 2 n)
 place-value false n = refl
 
@@ -60,7 +60,7 @@ word_lt (suc n) f = omega (arith, pow-suc 2 n, word-front n f, digit-le (f 0), w
 pub word_same : (n : ℕ) (f g : ℕ → Bool) → ((i : ℕ) → i < n → f i ≡ g i) → word n f ≡ word n g
 word_same zero f g e = refl
 word_same (suc n) f g e =
-    ap₂ (λ (w : ℕ) (b : Bool). w + (if b then 2 ^ n else 0)) (word_same n f g (λ i l. e i (omega arith))) (e n (omega arith))
+    ap₂ (λ (w : ℕ) (b : Bool). w + (if b then 2 ^ n otherwise 0)) (word_same n f g (λ i l. e i (omega arith))) (e n (omega arith))
 
 -- bit i of the word tells whether i passes
 pub bit_word : (n : ℕ) (f : ℕ → Bool) (i : ℕ) → i < n → bit_of (word n f) i ≡ f i

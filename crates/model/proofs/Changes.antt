@@ -8,7 +8,7 @@ use mathlib.Core.Option.{Option, none, some}
 use native.Mathlib.Decide.{dec_lt}
 use native.Mathlib.Omega.{arith}
 use lib.ListN.{length, replicate}
-use Rattle.model.specs.Notation.{if◌then◌else◌, count_of, below, map}
+use Rattle.model.specs.Notation.{if◌then◌otherwise◌, count_of, below, map}
 use Rattle.model.specs.Limits.{holder_numbers, pair_limit, set_words}
 use Rattle.model.specs.Bytes.{same}
 use Rattle.model.specs.Declarations.{Declarations, Holder, is_holder, holder_numbers_of}

@@ -5,7 +5,7 @@ use mathlib.Core.Path.{refl}
 use mathlib.Core.Bool.{true, false}
 use mathlib.Core.List.{List, [], ◌∷◌}
 use mathlib.Core.Option.{Option, none, some}
-use Rattle.model.specs.Notation.{if◌then◌else◌, ◌>>=◌}
+use Rattle.model.specs.Notation.{if◌then◌otherwise◌, ◌>>=◌}
 use Rattle.model.specs.Bytes.{Bytes, bytes, same}
 use Rattle.model.specs.Attributes.{Source}
 use Rattle.model.specs.Atoms.{Atom}
@@ -25,13 +25,13 @@ pub data Judged : Type 0 where
 abbrev pub values : Source → Bytes → List Atom
 values s n =
     if same n (bytes "zones") then Atom.int 1 ∷ Atom.int 9 ∷ []
-    else (if same n (bytes "snow") then Atom.bool false ∷ []
-    else (if same n (bytes "both") then Atom.bool true ∷ Atom.bool false ∷ []
-    else (if same n (bytes "kind") then Atom.str (bytes "day") ∷ Atom.str (bytes "season") ∷ [] else [])))
+    otherwise (if same n (bytes "snow") then Atom.bool false ∷ []
+    otherwise (if same n (bytes "both") then Atom.bool true ∷ Atom.bool false ∷ []
+    otherwise (if same n (bytes "kind") then Atom.str (bytes "day") ∷ Atom.str (bytes "season") ∷ [] otherwise [])))
 
 abbrev pub judged_policy : Option Policy → Judged
 judged_policy none = refused 6
-judged_policy (some p) = if too_large p then refused 7 else value (meaning values p)
+judged_policy (some p) = if too_large p then refused 7 otherwise value (meaning values p)
 
 abbrev pub judged : String → Judged
 judged text = judged_policy (tokens_of (bytes text) >>= read_policy)

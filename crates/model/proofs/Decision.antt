@@ -12,7 +12,7 @@ use native.Mathlib.Nat.{zero-add}
 use native.Mathlib.Omega.{arith}
 use lib.Dec.{eqb}
 use borrow.Author.Tests.{eqb-true, eqb-false}
-use Rattle.model.specs.Notation.{if◌then◌else◌, ◌is◌, is_none, any_of, map, filter, nth, numbered, numbered_from}
+use Rattle.model.specs.Notation.{if◌then◌otherwise◌, ◌is◌, is_none, any_of, map, filter, nth, numbered, numbered_from}
 use Rattle.model.specs.Truth.{Truth, TRUE, UNDEF, is_true, is_undef}
 use Rattle.model.specs.Bytes.{Bytes, same}
 use Rattle.model.specs.Declarations.{Rule}
@@ -94,7 +94,7 @@ module _ (c : Cause) (vs : List (ℕ × Truth)) where
   unfolding decision_by
   decided-cases P on-undef on-deny on-permit = go trues refl
     where
-      without : NoneIs TRUE vs → (b : Bool) → any_of (λ v. is_undef v.1) vs ≡ b → P (if b then undefined c else deny)
+      without : NoneIs TRUE vs → (b : Bool) → any_of (λ v. is_undef v.1) vs ≡ b → P (if b then undefined c otherwise deny)
       without n true e =
           let r = any-in (λ v. is_undef v.1) vs e in
           on-undef n (r.0.0, subst (λ (t : Truth). (r.0.0, t) ∈ vs) (undef-is r.0.1 r.2) r.1)

@@ -10,7 +10,7 @@ use native.Mathlib.Omega.{arith}
 use lib.ListN.{length}
 use lib.Dec.{eqb, leb, ltb}
 use borrow.Author.Tests.{leb-false, not-false, not-true, eqb-true, eqb-false, eq-eqb, ne_eqb, lt-ltb, le-ltb}
-use Rattle.model.specs.Notation.{if◌then◌else◌, ◌>>=◌, ◌is◌, is_none, any_of, all_of, nth, place}
+use Rattle.model.specs.Notation.{if◌then◌otherwise◌, ◌>>=◌, ◌is◌, is_none, any_of, all_of, nth, place}
 use Rattle.model.specs.Limits.{Edition, attribute_limit, operation_limit, pair_limit, holder_numbers, group_limit, rule_limit}
 use Rattle.model.specs.Bytes.{Bytes, bytes, same}
 use Rattle.model.specs.Names.{is_name}
@@ -131,7 +131,7 @@ module _ (D : Declarations) (h : Holder) (free : holder_of D h.number ≡ none) 
   pub holder-with : (k : ℕ) (P : Option Holder → Type 0) → (h.number ≡ k → P (some h)) → ((h.number ≡ k → ⊥) → P (holder_of D k)) → P (holder_of (with_holder h D) k)
   holder-with k P new old = subst P (sym (find-inserted (λ g. g.number) h D.holders free k)) (go (eqb h.number k) refl)
     where
-      go : (b : Bool) → eqb h.number k ≡ b → P (if b then some h else holder_of D k)
+      go : (b : Bool) → eqb h.number k ≡ b → P (if b then some h otherwise holder_of D k)
       go true e = new (eqb-true h.number k e)
       go false e = old (eqb-false h.number k e)
 
@@ -268,7 +268,7 @@ module _ {D : Declarations} (well : WellDeclared D) where
         rules = rules-kept (with_holder h D) (λ s m k e. e) (λ o k e. e) refl;
       }
     where
-      one-more-group : (t : Bool) (n : ℕ) → n ≤ group_limit → (t && leb group_limit n) ≡ false → n + (if t then 1 else 0) ≤ group_limit
+      one-more-group : (t : Bool) (n : ℕ) → n ≤ group_limit → (t && leb group_limit n) ≡ false → n + (if t then 1 otherwise 0) ≤ group_limit
       one-more-group true n few off = omega (arith, leb-false group_limit n off)
       one-more-group false n few off = omega arith
 

@@ -5,7 +5,7 @@ use mathlib.Core.Bool.{Bool, true, false, ◌&&◌, not}
 use mathlib.Core.List.{List, [], ◌∷◌, ◌++◌}
 use mathlib.Core.Option.{Option, none, some}
 use lib.Dec.{eqb}
-use Rattle.model.specs.Notation.{if◌then◌else◌, is_none}
+use Rattle.model.specs.Notation.{if◌then◌otherwise◌, is_none}
 use Rattle.model.specs.Limits.{Edition}
 use Rattle.model.specs.Numbers as refusal
 use Rattle.model.specs.Bytes.{Bytes, behind, lines_of}
@@ -31,7 +31,7 @@ named-read file = go (is_read Edition.second && begun) refl
     begun : Bool
     begun = not (is_none (behind (first_line Edition.second) file))
 
-    go : (b : Bool) → (is_read Edition.second && begun) ≡ b → is_read (if b then Edition.second else Edition.first) ≡ true
+    go : (b : Bool) → (is_read Edition.second && begun) ≡ b → is_read (if b then Edition.second otherwise Edition.first) ≡ true
     go true e = (parts (is_read Edition.second) begun e).0
     go false e = refl
 
@@ -40,7 +40,7 @@ pub named_by : (e : Edition) (rest : Bytes) → is_read e ≡ true → named_edi
 unfolding named_edition
 named_by Edition.first rest h = refl
 named_by Edition.second rest h =
-    ap (λ (b : Bool). if b && not (is_none (behind (first_line Edition.second) (first_line Edition.second ++ rest))) then Edition.second else Edition.first) h
+    ap (λ (b : Bool). if b && not (is_none (behind (first_line Edition.second) (first_line Edition.second ++ rest))) then Edition.second otherwise Edition.first) h
 
 -- so far that is the first edition alone
 pub names-first : (file : Bytes) → named_edition file ≡ Edition.first
@@ -71,7 +71,7 @@ read-edition edition S previous n [] same = same
 read-edition edition S previous n (l ∷ ls) same = go (eqb (line_refusal S previous l) 0) (λ T key e. read-edition edition T key (suc n) ls e)
   where
     go : (b : Bool) → ((T : State) (key : Option Key) → T.declared.edition ≡ edition → (read_on edition T key (suc n) ls).state.declared.edition ≡ edition)
-        → (if b then read_on edition (stepped S (read_line l)) (key_of l) (suc n) ls else refused_at edition (line_refusal S previous l) (suc n)).state.declared.edition ≡ edition
+        → (if b then read_on edition (stepped S (read_line l)) (key_of l) (suc n) ls otherwise refused_at edition (line_refusal S previous l) (suc n)).state.declared.edition ≡ edition
     go true more = more (stepped S (read_line l)) (key_of l) (stepped-edition S (read_line l) ∙ same)
     go false more = refl
 
@@ -81,8 +81,8 @@ unfolding Load.load
 load-edition file = go (too_long file) (wrong_first_line file)
   where
     go : (b c : Bool)
-        → (if b then refused_at (named_edition file) refusal.too_long 0 else (if c then refused_at (named_edition file) refusal.wrong_first_line 1
-        else read_on (named_edition file) (empty (named_edition file)) none 1 (other_lines (lines_of file)))).state.declared.edition ≡ named_edition file
+        → (if b then refused_at (named_edition file) refusal.too_long 0 otherwise (if c then refused_at (named_edition file) refusal.wrong_first_line 1
+        otherwise read_on (named_edition file) (empty (named_edition file)) none 1 (other_lines (lines_of file)))).state.declared.edition ≡ named_edition file
     go true c = refl
     go false true = refl
     go false false = read-edition (named_edition file) (empty (named_edition file)) none 1 (other_lines (lines_of file)) refl
@@ -95,7 +95,7 @@ pub step-edition : (words : ℕ) (S : State) (c : Call) → (step words S c).sta
 unfolding step
 step-edition words S c = go (wrong_table (edition_for S c) words) c
   where
-    go : (b : Bool) (c : Call) → (if b then without_table S c else with_table S c).state.declared.edition ≡ edition_for S c
+    go : (b : Bool) (c : Call) → (if b then without_table S c otherwise with_table S c).state.declared.edition ≡ edition_for S c
     go true (Call.load file) = refl
     go true (Call.edit line) = refl
     go true (Call.request block) = refl

@@ -9,7 +9,7 @@ use native.Mathlib.Omega.{arith}
 use lib.ListN.{length, length-append}
 use lib.Dec.{leb}
 use borrow.Author.Tests.{leb-true, leb-false}
-use Rattle.model.specs.Notation.{if◌then◌else◌}
+use Rattle.model.specs.Notation.{if◌then◌otherwise◌}
 use Rattle.model.specs.Limits.{attribute_limit, operation_limit, pair_limit, holder_limit, holder_numbers, group_limit, rule_limit}
 use Rattle.model.specs.Numbers as refusal
 use Rattle.model.specs.Bytes.{Bytes}
@@ -43,21 +43,21 @@ module _ {A : Type 0} (limit : ℕ) (xs : List A) (x : A) where
   one-over e h = omega (arith, length-append xs (x ∷ []), leb-true limit (length xs) e)
 
 -- a holder more is a group more, or none
-groups-last : (D : Declarations) (h : Holder) → groups (with_holder h D) ≡ groups D + (if is_group h.sort then 1 else 0)
+groups-last : (D : Declarations) (h : Holder) → groups (with_holder h D) ≡ groups D + (if is_group h.sort then 1 otherwise 0)
 unfolding groups
 groups-last D h = count-inserted (λ x. x.number) h (λ x. is_group x.sort) D.holders
 
 group-over : (D : Declarations) (s : Sort) (n : Bytes) → (is_group s && leb group_limit (groups D)) ≡ true → groups (declare (holder s n) D) ≤ group_limit → ⊥
 group-over D s n e h =
     let (g, f) = parts (is_group s) (leb group_limit (groups D)) e in
-    let more : groups (declare (holder s n) D) ≡ groups D + 1 = groups-last D _ ∙ ap (λ (b : Bool). groups D + (if b then 1 else 0)) g in
+    let more : groups (declare (holder s n) D) ≡ groups D + 1 = groups-last D _ ∙ ap (λ (b : Bool). groups D + (if b then 1 otherwise 0)) g in
     omega (arith, leb-true group_limit (groups D) f)
 
 group-within : (D : Declarations) (s : Sort) (n : Bytes) → groups D ≤ group_limit → (is_group s && leb group_limit (groups D)) ≡ false
     → groups (declare (holder s n) D) ≤ group_limit
 group-within D s n w e = go (is_group s) e (groups-last D (record { number = length D.holders; sort = s; name = n }))
   where
-    go : (b : Bool) → (b && leb group_limit (groups D)) ≡ false → groups (declare (holder s n) D) ≡ groups D + (if b then 1 else 0)
+    go : (b : Bool) → (b && leb group_limit (groups D)) ≡ false → groups (declare (holder s n) D) ≡ groups D + (if b then 1 otherwise 0)
         → groups (declare (holder s n) D) ≤ group_limit
     go true e q = omega (arith, leb-false group_limit (groups D) e)
     go false e q = omega arith

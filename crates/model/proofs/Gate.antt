@@ -8,7 +8,7 @@ use mathlib.Core.Option.{Option, none, some}
 use lib.ListN.{length}
 use lib.Dec.{eqb}
 use borrow.Author.Tests.{eqb-true, lt-ltb, le-ltb}
-use Rattle.model.specs.Notation.{if◌then◌else◌, map}
+use Rattle.model.specs.Notation.{if◌then◌otherwise◌, map}
 use Rattle.model.specs.Limits.{Edition, input_bytes, table_words}
 use Rattle.model.specs.Numbers as refusal
 use Rattle.model.specs.Bytes.{Bytes, bytes, lines_of}
@@ -48,7 +48,7 @@ unfolding table_after wrong_table
 words-after words S = go (eqb (length words) (table_words S.declared.edition)) refl
   where
     go : (b : Bool) → eqb (length words) (table_words S.declared.edition) ≡ b
-        → length (if not b then words else table S.declared S.ties) ≡ length words
+        → length (if not b then words otherwise table S.declared S.ties) ≡ length words
     go true e = table-length S.declared S.ties ∙ sym (eqb-true (length words) (table_words S.declared.edition) e)
     go false e = refl
 
@@ -68,7 +68,7 @@ pub gate-prints : (input : Bytes) (words : List ℕ) → length input ≤ input_
     ≡ interleaved (some (Call.load (file_in input)) ∷ commands_in input) (answers_of (ledger words (file_in input) (calls_among (commands_in input))))
 unfolding gate ledger
 gate-prints input words short e =
-    ap (λ (b : Bool). if b then printed (loaded refusal.too_long 0) else output (table_words (named_edition (file_in input))) (empty Edition.first) (some (Call.load (file_in input)) ∷ commands_in input))
+    ap (λ (b : Bool). if b then printed (loaded refusal.too_long 0) otherwise output (table_words (named_edition (file_in input))) (empty Edition.first) (some (Call.load (file_in input)) ∷ commands_in input))
     (le-ltb input_bytes (length input) short)
     ∙ ap (λ (n : ℕ). output n (empty Edition.first) (some (Call.load (file_in input)) ∷ commands_in input)) (sym e)
     ∙ prints-ledger (empty Edition.first) words (some (Call.load (file_in input)) ∷ commands_in input)
@@ -77,7 +77,7 @@ gate-prints input words short e =
 pub gate-too-long : (input : Bytes) → input_bytes < length input → gate input ≡ printed (loaded refusal.too_long 0)
 unfolding gate
 gate-too-long input long =
-    ap (λ (b : Bool). if b then printed (loaded refusal.too_long 0) else output (table_words (named_edition (file_in input))) (empty Edition.first) (some (Call.load (file_in input)) ∷ commands_in input))
+    ap (λ (b : Bool). if b then printed (loaded refusal.too_long 0) otherwise output (table_words (named_edition (file_in input))) (empty Edition.first) (some (Call.load (file_in input)) ∷ commands_in input))
     (lt-ltb input_bytes (length input) long)
 
 -- each call has its answer: none of the commands is left without a line

@@ -9,7 +9,7 @@ use native.Mathlib.Omega.{arith}
 use lib.ListN.{length, length-append}
 use lib.Dec.{leb}
 use borrow.Author.Tests.{leb-false}
-use Rattle.model.specs.Notation.{if◌then◌else◌, ◌>>=◌, any_of, place, nth}
+use Rattle.model.specs.Notation.{if◌then◌otherwise◌, ◌>>=◌, any_of, place, nth}
 use Rattle.model.specs.Standing.{Each, Unique}
 use Rattle.model.proofs.WordTables.{none-is-some}
 
@@ -39,7 +39,7 @@ module _ {A : Type 0} where
   place-append p (x ∷ xs) ys {k} e = go (p x) (place p xs) (place p (xs ++ ys)) (λ j f. place-append p xs ys f) e
     where
       go : (t : Bool) (o o' : Option ℕ) → ((j : ℕ) → o ≡ some j → o' ≡ some j)
-          → (if t then some 0 else (o >>= λ n. some (suc n))) ≡ some k → (if t then some 0 else (o' >>= λ n. some (suc n))) ≡ some k
+          → (if t then some 0 otherwise (o >>= λ n. some (suc n))) ≡ some k → (if t then some 0 otherwise (o' >>= λ n. some (suc n))) ≡ some k
       go true o o' f g = g
       go false none o' f g = none-is-some g
       go false (some j) o' f g = rw (f j refl) g
@@ -50,7 +50,7 @@ module _ {A : Type 0} where
   place-nowhere p (y ∷ xs) e i x f = go (p y) refl (place p xs) (place-nowhere p xs) e i f
     where
       go : (t : Bool) → p y ≡ t → (o : Option ℕ) → (o ≡ none → (j : ℕ) (z : A) → nth xs j ≡ some z → p z ≡ false)
-          → (if t then some 0 else (o >>= λ n. some (suc n))) ≡ none → (j : ℕ) → nth (y ∷ xs) j ≡ some x → p x ≡ false
+          → (if t then some 0 otherwise (o >>= λ n. some (suc n))) ≡ none → (j : ℕ) → nth (y ∷ xs) j ≡ some x → p x ≡ false
       go true q o g h j k = none-is-some (sym h)
       go false q (some m) g h j k = none-is-some (sym h)
       go false q none g h zero k = ap p (sym (some-injective _ _ k)) ∙ q
@@ -60,7 +60,7 @@ module _ {A : Type 0} where
   any-none-by p q f [] e = refl
   any-none-by p q f (x ∷ xs) e = go (p x) refl e (any-none-by p q f xs)
     where
-      go : (t : Bool) → p x ≡ t → (if t then true else any_of p xs) ≡ false → (any_of p xs ≡ false → any_of q xs ≡ false) → (if q x then true else any_of q xs) ≡ false
+      go : (t : Bool) → p x ≡ t → (if t then true otherwise any_of p xs) ≡ false → (any_of p xs ≡ false → any_of q xs ≡ false) → (if q x then true otherwise any_of q xs) ≡ false
       go true h g more = absurd (true≢false g)
       go false h g more = rw (f x h) (more g)
 

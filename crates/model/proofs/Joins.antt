@@ -8,7 +8,7 @@ use mathlib.Core.Option.{Option, none, some, some-injective}
 use native.Mathlib.Omega.{arith}
 use lib.ListN.{length}
 use lib.Dec.{eqb}
-use Rattle.model.specs.Notation.{if◌then◌else◌, ◌>>=◌, any_of, count_of, sum_of}
+use Rattle.model.specs.Notation.{if◌then◌otherwise◌, ◌>>=◌, any_of, count_of, sum_of}
 use Rattle.model.specs.Limits.{Edition, group_limit, join_limit}
 use Rattle.model.specs.Bytes.{Bytes}
 use Rattle.model.specs.Declarations.{Declarations, Holder, Sort, sort_of, is_group, groups, holder_numbers_of, parent_sort, group_sort}
@@ -62,11 +62,11 @@ module _ {S : State} (standing : Standing S) where
   joins-most e =
       let hs = holder_numbers_of S.declared in
       let sum = sum-filter (λ k. 1 + ties_up hs S.ties k) (λ k. eqb k e || is_below hs S.ties k e) hs in
-      let most = sum-most (λ k. if eqb k e || is_below hs S.ties k e then 1 + ties_up hs S.ties k else 0) (group_limit + 1) hs
+      let most = sum-most (λ k. if eqb k e || is_below hs S.ties k e then 1 + ties_up hs S.ties k otherwise 0) (group_limit + 1) hs
       (λ k m. chosen (eqb k e || is_below hs S.ties k e) (ties_up hs S.ties k) (ties-up-few k)) in
       omega (arith, sum, most, standing.declarations.holders.few)
     where
-      chosen : (b : Bool) (n : ℕ) → n ≤ group_limit → (if b then 1 + n else 0) ≤ group_limit + 1
+      chosen : (b : Bool) (n : ℕ) → n ≤ group_limit → (if b then 1 + n otherwise 0) ≤ group_limit + 1
       chosen true n l = omega arith
       chosen false n l = omega arith
 

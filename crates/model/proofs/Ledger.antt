@@ -10,7 +10,7 @@ use mathlib.Core.Option.{Option, none, some}
 use lib.ListN.{length}
 use lib.Dec.{eqb}
 use borrow.Author.Tests.{eqb-true, eqb-false}
-use Rattle.model.specs.Notation.{if◌then◌else◌, ◌>>=◌, ◌or_else◌, ◌is◌, is_none}
+use Rattle.model.specs.Notation.{if◌then◌otherwise◌, ◌>>=◌, ◌or_else◌, ◌is◌, is_none}
 use Rattle.model.specs.Limits.{Edition}
 use Rattle.model.specs.Numbers as refusal
 use Rattle.model.specs.Bytes.{Bytes, lines_of}
@@ -165,7 +165,7 @@ pub step-standing : (words : ℕ) {S : State} (c : Call) → Standing S → Stan
 unfolding step
 step-standing words {S} c standing = go (wrong_table (edition_for S c) words) c
   where
-    go : (b : Bool) (c : Call) → Standing (if b then without_table S c else with_table S c).state
+    go : (b : Bool) (c : Call) → Standing (if b then without_table S c otherwise with_table S c).state
     go true (Call.load file) = empty-standing (named_edition file)
     go true (Call.edit line) = standing
     go true (Call.request block) = standing
@@ -189,6 +189,6 @@ pub request-keeps : (words : ℕ) (S : State) (block : Bytes) → (step words S 
 unfolding step
 request-keeps words S block = go (wrong_table S.declared.edition words)
   where
-    go : (b : Bool) → (if b then without_table S (Call.request block) else with_table S (Call.request block)).state ≡ S
+    go : (b : Bool) → (if b then without_table S (Call.request block) otherwise with_table S (Call.request block)).state ≡ S
     go true = refl
     go false = refl

@@ -9,7 +9,7 @@ use mathlib.Core.List.{List, [], ◌∷◌, ◌++◌}
 use mathlib.Core.Option.{Option, some, some-injective}
 use native.Mathlib.Omega.{arith}
 use lib.ListN.{length, length-append}
-use Rattle.model.specs.Notation.{if◌then◌else◌, ◌>>=◌, map, each, filter, nth, listed}
+use Rattle.model.specs.Notation.{if◌then◌otherwise◌, ◌>>=◌, map, each, filter, nth, listed}
 use Rattle.model.specs.Bytes.{Bytes, same, newline}
 use Rattle.model.specs.Attributes.{Source, same_source}
 use Rattle.model.specs.Atoms.{Atom, same_atom}
@@ -38,17 +38,17 @@ module _ {A : Type 0} (text : A → Bytes) (p q : A → Bool) (a : A) (off : p a
   one_more : (xs : List A) → NoRepeat xs → a ∈ xs → length (each text (filter q xs)) ≡ length (text a) + length (each text (filter p xs))
   one_more [] once m = elim m [ ]
   one_more (x ∷ xs) once (here e) =
-      ap (λ (b : Bool). length (each text (if b then x ∷ filter q xs else filter q xs))) (ap q (sym e) ∙ on)
+      ap (λ (b : Bool). length (each text (if b then x ∷ filter q xs otherwise filter q xs))) (ap q (sym e) ∙ on)
       ∙ length-append (text x) (each text (filter q xs))
       ∙ ap₂ (λ (y : A) (ys : List A). length (text y) + length (each text ys)) (sym e)
       (filter-ext q p xs (λ y m. else_same y (λ i. once.0 (subst (λ (z : A). z ∈ xs) (i ∙ e) m))))
-      ∙ ap (λ (b : Bool). length (text a) + length (each text (if b then x ∷ filter p xs else filter p xs))) (sym (ap p (sym e) ∙ off))
+      ∙ ap (λ (b : Bool). length (text a) + length (each text (if b then x ∷ filter p xs otherwise filter p xs))) (sym (ap p (sym e) ∙ off))
   one_more (x ∷ xs) once (there m) =
-      ap (λ (b : Bool). length (each text (if b then x ∷ filter q xs else filter q xs))) (else_same x (λ i. once.0 (subst (λ (z : A). z ∈ xs) (sym i) m)))
+      ap (λ (b : Bool). length (each text (if b then x ∷ filter q xs otherwise filter q xs))) (else_same x (λ i. once.0 (subst (λ (z : A). z ∈ xs) (sym i) m)))
       ∙ go (p x) (one_more xs once.1 m)
     where
       go : (b : Bool) → length (each text (filter q xs)) ≡ length (text a) + length (each text (filter p xs))
-          → length (each text (if b then x ∷ filter q xs else filter q xs)) ≡ length (text a) + length (each text (if b then x ∷ filter p xs else filter p xs))
+          → length (each text (if b then x ∷ filter q xs otherwise filter q xs)) ≡ length (text a) + length (each text (if b then x ∷ filter p xs otherwise filter p xs))
       go true h = omega (arith, h, length-append (text x) (each text (filter q xs)), length-append (text x) (each text (filter p xs)))
       go false h = h
 

@@ -11,7 +11,7 @@ use mathlib.Core.Option.{Option, none, some, some-injective}
 use native.Mathlib.Omega.{arith}
 use native.Mathlib.Nat.{add-zero, add-suc, suc-add, eq-or-lt_of_le}
 use lib.ListN.{length, length-append}
-use Rattle.model.specs.Notation.{if◌then◌else◌, ◌>>=◌, is_empty, any_of, all_of, filter, count_of, place, nth, numbered_from, map, each, below}
+use Rattle.model.specs.Notation.{if◌then◌otherwise◌, ◌>>=◌, is_empty, any_of, all_of, filter, count_of, place, nth, numbered_from, map, each, below}
 use Rattle.model.proofs.WordTables.{false-is-true, none-is-some}
 
 -- membership
@@ -133,24 +133,24 @@ module _ {A : Type 0} where
   count-or p q (x ∷ xs) f = go (p x) refl (q x) refl (count-or p q xs f)
     where
       go : (s : Bool) → p x ≡ s → (t : Bool) → q x ≡ t → count_of (λ x. p x || q x) xs ≡ count_of p xs + count_of q xs
-          → (if s || t then suc (count_of (λ x. p x || q x) xs) else count_of (λ x. p x || q x) xs)
-          ≡ (if s then suc (count_of p xs) else count_of p xs) + (if t then suc (count_of q xs) else count_of q xs)
+          → (if s || t then suc (count_of (λ x. p x || q x) xs) otherwise count_of (λ x. p x || q x) xs)
+          ≡ (if s then suc (count_of p xs) otherwise count_of p xs) + (if t then suc (count_of q xs) otherwise count_of q xs)
       go true a true b h = absurd (f x a b)
       go true a false b h = omega arith
       go false a true b h = omega arith
       go false a false b h = h
 
   -- one more at the end
-  pub count-last : (p : A → Bool) (xs : List A) (x : A) → count_of p (xs ++ x ∷ []) ≡ count_of p xs + (if p x then 1 else 0)
+  pub count-last : (p : A → Bool) (xs : List A) (x : A) → count_of p (xs ++ x ∷ []) ≡ count_of p xs + (if p x then 1 otherwise 0)
   count-last p [] x = go (p x)
     where
-      go : (t : Bool) → (if t then 1 else 0) ≡ 0 + (if t then 1 else 0)
+      go : (t : Bool) → (if t then 1 otherwise 0) ≡ 0 + (if t then 1 otherwise 0)
       go true = omega arith
       go false = omega arith
   count-last p (y ∷ xs) x = go (p y) (count-last p xs x)
     where
-      go : (t : Bool) → count_of p (xs ++ x ∷ []) ≡ count_of p xs + (if p x then 1 else 0)
-          → (if t then suc (count_of p (xs ++ x ∷ [])) else count_of p (xs ++ x ∷ [])) ≡ (if t then suc (count_of p xs) else count_of p xs) + (if p x then 1 else 0)
+      go : (t : Bool) → count_of p (xs ++ x ∷ []) ≡ count_of p xs + (if p x then 1 otherwise 0)
+          → (if t then suc (count_of p (xs ++ x ∷ [])) otherwise count_of p (xs ++ x ∷ [])) ≡ (if t then suc (count_of p xs) otherwise count_of p xs) + (if p x then 1 otherwise 0)
       go true h = omega arith
       go false h = h
 
@@ -251,7 +251,7 @@ module _ {A B : Type 0} (f : A → B) where
 -- the numbers below n
 pub count_map : {A B : Type 0} (f : A → B) (p : B → Bool) (xs : List A) → count_of p (map f xs) ≡ count_of (λ x. p (f x)) xs
 count_map f p [] = refl
-count_map f p (x ∷ xs) = ap (λ (n : ℕ). if p (f x) then suc n else n) (count_map f p xs)
+count_map f p (x ∷ xs) = ap (λ (n : ℕ). if p (f x) then suc n otherwise n) (count_map f p xs)
 
 pub in-below : (n : ℕ) {k : ℕ} → k ∈ below n → k < n
 in-below zero m = elim m [ ]

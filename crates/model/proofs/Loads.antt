@@ -8,7 +8,7 @@ use native.Mathlib.Omega.{arith}
 use lib.ListN.{length}
 use lib.Dec.{eqb}
 use borrow.Author.Tests.{eqb-true, eqb-false, eq-eqb, ne_eqb}
-use Rattle.model.specs.Notation.{if◌then◌else◌, is_none, each}
+use Rattle.model.specs.Notation.{if◌then◌otherwise◌, is_none, each}
 use Rattle.model.specs.Limits.{Edition}
 use Rattle.model.specs.Numbers as refusal
 use Rattle.model.specs.Bytes.{Bytes, newline, behind, begun, lines_of}
@@ -80,7 +80,7 @@ read-on edition S previous n [] = all {count = n} end (omega arith)
 read-on edition S previous n (l ∷ ls) = go (eqb (line_refusal S previous l) 0) refl (λ T p. read-on edition T p (suc n) ls)
   where
     go : (b : Bool) → eqb (line_refusal S previous l) 0 ≡ b → ((T : State) (p : Option Key) → ReadingOn edition T p (suc n) ls (read_on edition T p (suc n) ls))
-        → ReadingOn edition S previous n (l ∷ ls) (if b then read_on edition (stepped S (read_line l)) (key_of l) (suc n) ls else refused_at edition (line_refusal S previous l) (suc n))
+        → ReadingOn edition S previous n (l ∷ ls) (if b then read_on edition (stepped S (read_line l)) (key_of l) (suc n) ls otherwise refused_at edition (line_refusal S previous l) (suc n))
     go true e more =
         let r = eqb-true (line_refusal S previous l) 0 e in
         let (key, line, a) = line_reads S previous l r in
@@ -112,7 +112,7 @@ joined (x ∷ xs) = go (eqb x newline) (joined xs)
     front [] = refl
     front (l ∷ ls) = refl
 
-    go : (b : Bool) → each (λ l. l) (lines_of xs) ≡ xs → each (λ l. l) (if b then (x ∷ []) ∷ lines_of xs else begun x (lines_of xs)) ≡ x ∷ xs
+    go : (b : Bool) → each (λ l. l) (lines_of xs) ≡ xs → each (λ l. l) (if b then (x ∷ []) ∷ lines_of xs otherwise begun x (lines_of xs)) ≡ x ∷ xs
     go true e = ap (λ (s : Bytes). x ∷ s) e
     go false e = front (lines_of xs) ∙ ap (λ (s : Bytes). x ∷ s) e
 
@@ -147,7 +147,7 @@ module _ (file : Bytes) where
   load-cases P long first rest = go (too_long file) refl (wrong_first_line file) refl
     where
       go : (b : Bool) → too_long file ≡ b → (c : Bool) → wrong_first_line file ≡ c
-          → P (if b then refused_at (named_edition file) refusal.too_long 0 else (if c then refused_at (named_edition file) refusal.wrong_first_line 1 else read_on (named_edition file) (empty (named_edition file)) none 1 (other_lines (lines_of file))))
+          → P (if b then refused_at (named_edition file) refusal.too_long 0 otherwise (if c then refused_at (named_edition file) refusal.wrong_first_line 1 otherwise read_on (named_edition file) (empty (named_edition file)) none 1 (other_lines (lines_of file))))
       go true p c q = long p
       go false p true q = first p q
       go false p false q = rest p q

@@ -12,7 +12,7 @@ use native.Mathlib.Omega.{arith}
 use lib.ListN.{length, length-append}
 use lib.Dec.{eqb, ltb}
 use borrow.Author.Tests.{eq-eqb, ne_eqb, eqb-true, eqb-false, ltb-true, ltb-false, lt-ltb, le-ltb}
-use Rattle.model.specs.Notation.{if◌then◌else◌, all_of, count_of, sum_of, find, inserted, map, each, listed, below}
+use Rattle.model.specs.Notation.{if◌then◌otherwise◌, all_of, count_of, sum_of, find, inserted, map, each, listed, below}
 use Rattle.model.specs.Standing.{rising}
 use Rattle.model.proofs.WordTables.{none-is-some}
 use Rattle.model.proofs.Options.{parts, both}
@@ -26,7 +26,7 @@ module _ {A : Type 0} (p : A → Bool) where
   find-in [] x e = none-is-some e
   find-in (y ∷ ys) x e = go (p y) refl e (find-in ys x)
     where
-      go : (b : Bool) → p y ≡ b → (if b then some y else find p ys) ≡ some x
+      go : (b : Bool) → p y ≡ b → (if b then some y otherwise find p ys) ≡ some x
           → (find p ys ≡ some x → (x ∈ ys) × (p x ≡ true)) → (x ∈ y ∷ ys) × (p x ≡ true)
       go true f g more = let z : y ≡ x = some-injective y x g in (here (sym z), ap p (sym z) ∙ f)
       go false f g more = let r = more g in (there r.0, r.1)
@@ -35,7 +35,7 @@ module _ {A : Type 0} (p : A → Bool) where
   find_none [] e m = elim m [ ]
   find_none (y ∷ ys) {x} e m = go (p y) refl e m (λ f n. find_none ys f n)
     where
-      go : (b : Bool) → p y ≡ b → (if b then some y else find p ys) ≡ none → x ∈ y ∷ ys
+      go : (b : Bool) → p y ≡ b → (if b then some y otherwise find p ys) ≡ none → x ∈ y ∷ ys
           → (find p ys ≡ none → x ∈ ys → p x ≡ false) → p x ≡ false
       go true f g m more = none-is-some (sym g)
       go false f g (here z) more = ap p z ∙ f
@@ -63,20 +63,20 @@ module _ {A : Type 0} (number : A → ℕ) where
 
   module _ (x : A) where
     pub find-inserted : (xs : List A) → find (has (number x)) xs ≡ none → (k : ℕ)
-        → find (has k) (inserted number x xs) ≡ (if eqb (number x) k then some x else find (has k) xs)
+        → find (has k) (inserted number x xs) ≡ (if eqb (number x) k then some x otherwise find (has k) xs)
     find-inserted [] new k = refl
     find-inserted (y ∷ ys) new k = go (ltb (number x) (number y)) (eqb (number y) (number x)) refl new (λ f. find-inserted ys f k)
       where
-        go : (b c : Bool) → eqb (number y) (number x) ≡ c → (if c then some y else find (has (number x)) ys) ≡ none
-            → (find (has (number x)) ys ≡ none → find (has k) (inserted number x ys) ≡ (if eqb (number x) k then some x else find (has k) ys))
-            → find (has k) (if b then x ∷ y ∷ ys else y ∷ inserted number x ys) ≡ (if eqb (number x) k then some x else find (has k) (y ∷ ys))
+        go : (b c : Bool) → eqb (number y) (number x) ≡ c → (if c then some y otherwise find (has (number x)) ys) ≡ none
+            → (find (has (number x)) ys ≡ none → find (has k) (inserted number x ys) ≡ (if eqb (number x) k then some x otherwise find (has k) ys))
+            → find (has k) (if b then x ∷ y ∷ ys otherwise y ∷ inserted number x ys) ≡ (if eqb (number x) k then some x otherwise find (has k) (y ∷ ys))
         go true c f g more = refl
         go false true f g more = none-is-some (sym g)
         go false false f g more = by (eqb (number y) k) (eqb (number x) k) refl refl (more g)
           where
             by : (a b : Bool) → eqb (number y) k ≡ a → eqb (number x) k ≡ b
-                → find (has k) (inserted number x ys) ≡ (if b then some x else find (has k) ys)
-                → (if a then some y else find (has k) (inserted number x ys)) ≡ (if b then some x else (if a then some y else find (has k) ys))
+                → find (has k) (inserted number x ys) ≡ (if b then some x otherwise find (has k) ys)
+                → (if a then some y otherwise find (has k) (inserted number x ys)) ≡ (if b then some x otherwise (if a then some y otherwise find (has k) ys))
             by true true u v w = absurd (eqb-false (number y) (number x) f (eqb-true (number y) k u ∙ sym (eqb-true (number x) k v)))
             by true false u v w = refl
             by false b u v w = w
@@ -85,20 +85,20 @@ module _ {A : Type 0} (number : A → ℕ) where
     length_inserted [] = refl
     length_inserted (y ∷ ys) = go (ltb (number x) (number y)) (length_inserted ys)
       where
-        go : (b : Bool) → length (inserted number x ys) ≡ suc (length ys) → length (if b then x ∷ y ∷ ys else y ∷ inserted number x ys) ≡ suc (suc (length ys))
+        go : (b : Bool) → length (inserted number x ys) ≡ suc (length ys) → length (if b then x ∷ y ∷ ys otherwise y ∷ inserted number x ys) ≡ suc (suc (length ys))
         go true more = refl
         go false more = ap suc more
 
-    pub count-inserted : (p : A → Bool) (xs : List A) → count_of p (inserted number x xs) ≡ count_of p xs + (if p x then 1 else 0)
+    pub count-inserted : (p : A → Bool) (xs : List A) → count_of p (inserted number x xs) ≡ count_of p xs + (if p x then 1 otherwise 0)
     count-inserted p [] = go (p x)
       where
-        go : (b : Bool) → (if b then 1 else 0) ≡ 0 + (if b then 1 else 0)
+        go : (b : Bool) → (if b then 1 otherwise 0) ≡ 0 + (if b then 1 otherwise 0)
         go true = refl
         go false = refl
     count-inserted p (y ∷ ys) = go (ltb (number x) (number y)) (p x) (p y) refl refl (count-inserted p ys)
       where
-        go : (b c d : Bool) → p x ≡ c → p y ≡ d → count_of p (inserted number x ys) ≡ count_of p ys + (if p x then 1 else 0)
-            → count_of p (if b then x ∷ y ∷ ys else y ∷ inserted number x ys) ≡ count_of p (y ∷ ys) + (if p x then 1 else 0)
+        go : (b c d : Bool) → p x ≡ c → p y ≡ d → count_of p (inserted number x ys) ≡ count_of p ys + (if p x then 1 otherwise 0)
+            → count_of p (if b then x ∷ y ∷ ys otherwise y ∷ inserted number x ys) ≡ count_of p (y ∷ ys) + (if p x then 1 otherwise 0)
         go true true true u v w = rw (u, v) (omega arith)
         go true true false u v w = rw (u, v) (omega arith)
         go true false true u v w = rw (u, v) (omega arith)
@@ -110,7 +110,7 @@ module _ {A : Type 0} (number : A → ℕ) where
     all_inserted q [] e f = all_cons q x [] e refl
     all_inserted q (y ∷ ys) e f = go (ltb (number x) (number y)) (all_inserted q ys e)
       where
-        go : (b : Bool) → (all_of q ys ≡ true → all_of q (inserted number x ys) ≡ true) → all_of q (if b then x ∷ y ∷ ys else y ∷ inserted number x ys) ≡ true
+        go : (b : Bool) → (all_of q ys ≡ true → all_of q (inserted number x ys) ≡ true) → all_of q (if b then x ∷ y ∷ ys otherwise y ∷ inserted number x ys) ≡ true
         go true more = all_cons q x (y ∷ ys) e f
         go false more = let (a, b) = all-parts q y ys f in all_cons q y (inserted number x ys) a (more b)
 
@@ -125,9 +125,9 @@ module _ {A : Type 0} (number : A → ℕ) where
         rest = (parts (all_of (λ z. ltb (number y) (number z)) ys) (rising number ys) r).1
 
         go : (b c : Bool) → ltb (number x) (number y) ≡ b → eqb (number y) (number x) ≡ c
-            → (if c then some y else find (has (number x)) ys) ≡ none
+            → (if c then some y otherwise find (has (number x)) ys) ≡ none
             → (rising number ys ≡ true → find (has (number x)) ys ≡ none → rising number (inserted number x ys) ≡ true)
-            → rising number (if b then x ∷ y ∷ ys else y ∷ inserted number x ys) ≡ true
+            → rising number (if b then x ∷ y ∷ ys otherwise y ∷ inserted number x ys) ≡ true
         go true c u v g more =
             both
             (all_cons (λ z. ltb (number x) (number z)) y ys u
@@ -152,12 +152,12 @@ length-map f (x ∷ xs) = ap suc (length-map f xs)
 -- ---- sums and counts by numbers
 
 -- one number of those below n taken by itself
-pub sum-split : (w : ℕ → ℕ) (x n : ℕ) → x < n → sum_of w (below n) ≡ w x + sum_of (λ k. if eqb k x then 0 else w k) (below n)
+pub sum-split : (w : ℕ → ℕ) (x n : ℕ) → x < n → sum_of w (below n) ≡ w x + sum_of (λ k. if eqb k x then 0 otherwise w k) (below n)
 sum-split w x zero l = absurd (omega arith)
 sum-split w x (suc n) l = go (ℕ_discrete x n) (sum-split w x n)
   where
     others : ℕ → ℕ
-    others k = if eqb k x then 0 else w k
+    others k = if eqb k x then 0 otherwise w k
 
     last : sum_of w (below n ++ n ∷ []) ≡ sum_of w (below n) + w n
     last = sum-last w (below n) n
@@ -167,12 +167,12 @@ sum-split w x (suc n) l = go (ℕ_discrete x n) (sum-split w x n)
 
     go : Dec (x ≡ n) → (x < n → sum_of w (below n) ≡ w x + sum_of others (below n)) → sum_of w (below n ++ n ∷ []) ≡ w x + sum_of others (below n ++ n ∷ [])
     go (yes z) rest =
-        let off : others n ≡ 0 = ap (λ (b : Bool). if b then 0 else w n) (eq-eqb n x (sym z)) in
+        let off : others n ≡ 0 = ap (λ (b : Bool). if b then 0 otherwise w n) (eq-eqb n x (sym z)) in
         let same : sum_of w (below n) ≡ sum_of others (below n) =
-        sum-ext w others (below n) (λ k m. ap (λ (b : Bool). if b then 0 else w k) (sym (ne_eqb k x (λ e. let f = in-below n m in omega arith)))) in
+        sum-ext w others (below n) (λ k m. ap (λ (b : Bool). if b then 0 otherwise w k) (sym (ne_eqb k x (λ e. let f = in-below n m in omega arith)))) in
         omega (arith, last, last-other, off, same, ap w z)
     go (no z) rest =
-        let on : others n ≡ w n = ap (λ (b : Bool). if b then 0 else w n) (ne_eqb n x (λ e. z (sym e))) in
+        let on : others n ≡ w n = ap (λ (b : Bool). if b then 0 otherwise w n) (ne_eqb n x (λ e. z (sym e))) in
         omega (arith, last, last-other, on, rest (omega arith))
 
 module _ {A : Type 0} (number : A → ℕ) where
@@ -190,11 +190,11 @@ module _ {A : Type 0} (number : A → ℕ) where
       omega (arith, more, same, sum-split w (number x) n (few (number x) (here refl)))
     where
       others : ℕ → ℕ
-      others k = if eqb k (number x) then 0 else w k
+      others k = if eqb k (number x) then 0 otherwise w k
 
       clear : (k : ℕ) → k < n → (k ∈ map number xs → ⊥) → Dec (k ≡ number x) → others k ≡ 0
-      clear k l out (yes z) = ap (λ (b : Bool). if b then 0 else w k) (eq-eqb k (number x) z)
-      clear k l out (no z) = ap (λ (b : Bool). if b then 0 else w k) (ne_eqb k (number x) z) ∙ off k l (λ m. not-here k m z out)
+      clear k l out (yes z) = ap (λ (b : Bool). if b then 0 otherwise w k) (eq-eqb k (number x) z)
+      clear k l out (no z) = ap (λ (b : Bool). if b then 0 otherwise w k) (ne_eqb k (number x) z) ∙ off k l (λ m. not-here k m z out)
         where
           not-here : (k : ℕ) → k ∈ number x ∷ map number xs → (k ≡ number x → ⊥) → (k ∈ map number xs → ⊥) → ⊥
           not-here k (here e) a b = a e
@@ -204,14 +204,14 @@ module _ {A : Type 0} (number : A → ℕ) where
       keep k m above =
           let (y, i, e) = in_map number xs m in
           let l = ltb-true (number x) (number y) (all_in (λ z. ltb (number x) (number z)) xs above i) in
-          ap (λ (b : Bool). if b then 0 else w k) (sym (ne_eqb k (number x) (λ z. omega arith)))
+          ap (λ (b : Bool). if b then 0 otherwise w k) (sym (ne_eqb k (number x) (λ z. omega arith)))
 
   -- and counting among them is counting below n what only they meet
   pub count-numbers : (p : ℕ → Bool) (xs : List A) (n : ℕ) → rising number xs ≡ true → ((k : ℕ) → k ∈ map number xs → k < n)
       → ((k : ℕ) → k < n → (k ∈ map number xs → ⊥) → p k ≡ false) → count_of p (map number xs) ≡ count_of p (below n)
   count-numbers p xs n r few off =
       count-sum p (map number xs)
-      ∙ sum-numbers (λ k. if p k then 1 else 0) xs n r few (λ k l out. ap (λ (b : Bool). if b then 1 else 0) (off k l out)) ∙ sym (count-sum p (below n))
+      ∙ sum-numbers (λ k. if p k then 1 otherwise 0) xs n r few (λ k l out. ap (λ (b : Bool). if b then 1 otherwise 0) (off k l out)) ∙ sym (count-sum p (below n))
 
   -- where numbers rise and are below n, there are at most n
   rising-from : (xs : List A) (a n : ℕ) → rising number xs ≡ true → a ≤ n → ((x : A) → x ∈ xs → a ≤ number x) → ((x : A) → x ∈ xs → number x < n) → a + length xs ≤ n

@@ -9,7 +9,7 @@ use mathlib.Core.List.Memᴰ.{head as here}
 use mathlib.Core.List.Memᴰ.{tail as there}
 use mathlib.Core.List.{List, [], ◌∷◌}
 use mathlib.Core.Option.{Option, none, some}
-use Rattle.model.specs.Notation.{if◌then◌else◌, ◌>>=◌, ◌is◌, all_of, place, nth, numbered, each}
+use Rattle.model.specs.Notation.{if◌then◌otherwise◌, ◌>>=◌, ◌is◌, all_of, place, nth, numbered, each}
 use Rattle.model.specs.Bytes.{Bytes}
 use Rattle.model.specs.Attributes.{Source, AtomType, type_word, same_type}
 use Rattle.model.specs.Atoms.{Atom, type_of}
@@ -86,7 +86,7 @@ unfolding type_for
 given-type {D} well s n v i a m = go (nth D.attributes i) refl m
   where
     named : (c : Attribute) → nth D.attributes i ≡ some c → (t : Bool) → same_source_and_name c.source c.name s n ≡ t
-        → a ∈ (if t then entry_value c.type v ∷ [] else []) → type_of a ≡ type_of (entry_value (type_for (attribute_of D s n)) 0)
+        → a ∈ (if t then entry_value c.type v ∷ [] otherwise []) → type_of a ≡ type_of (entry_value (type_for (attribute_of D s n)) 0)
     named c at false e m = elim m [ ]
     named c at true e m =
         ap type_of (Memᴰ.eq_of_singleton m) ∙ entry-type c.type v
@@ -112,7 +112,7 @@ pub read-of-one-type : {S : State} → Standing S → (b : Block) (s : Source) (
 unfolding read_by user_values
 read-of-one-type {S} standing b Source.user n = go (attribute_number S.declared Source.user n is activated b)
   where
-    go : (t : Bool) → one_type (if t then held S b.user Source.user n else []) ≡ true
+    go : (t : Bool) → one_type (if t then held S b.user Source.user n otherwise []) ≡ true
     go true = held_one standing b.user Source.user n
     go false = refl
 read-of-one-type standing b Source.object n = held_one standing b.object Source.object n

@@ -5,7 +5,7 @@ use mathlib.Core.Bool.{Bool, true, false}
 use mathlib.Core.List.{List, [], ◌∷◌}
 use mathlib.Core.Option.{Option, none, some}
 use lib.Dec.{eqb}
-use Rattle.model.specs.Notation.{if◌then◌else◌, any_of, filter}
+use Rattle.model.specs.Notation.{if◌then◌otherwise◌, any_of, filter}
 use Rattle.model.specs.Bytes.{Bytes}
 use Rattle.model.specs.Truth.{Truth, is_true, is_undef}
 use Rattle.model.specs.State.{State}
@@ -27,11 +27,11 @@ plain_permit [] other = other
 plain_permit ((k, t) ∷ rest) other = permit k
 
 abbrev pub plain_by : List (ℕ × Truth) → Plain
-plain_by vs = plain_permit (filter (λ (k, t). is_true t) vs) (if any_of (λ (k, t). is_undef t) vs then undefined else deny)
+plain_by vs = plain_permit (filter (λ (k, t). is_true t) vs) (if any_of (λ (k, t). is_undef t) vs then undefined otherwise deny)
 
 abbrev pub plain_judged : State → ℕ → Option Block → Plain
 plain_judged S n none = refused n
-plain_judged S n (some b) = if eqb n 0 then plain_by (verdicts S b) else refused n
+plain_judged S n (some b) = if eqb n 0 then plain_by (verdicts S b) otherwise refused n
 
 abbrev pub plain : State → Bytes → Plain
 plain S block = plain_judged S (request_refusal S block) (read_block block)
@@ -48,7 +48,7 @@ unfolding decision_by
 by-verdicts c vs = go (filter (λ (k, t). is_true t) vs) (any_of (λ (k, t). is_undef t) vs)
   where
     go : (trues : List (ℕ × Truth)) (undef : Bool)
-        → without_cause (permit_by trues (if undef then now.undefined c else now.deny)) ≡ plain_permit trues (if undef then undefined else deny)
+        → without_cause (permit_by trues (if undef then now.undefined c otherwise now.deny)) ≡ plain_permit trues (if undef then undefined otherwise deny)
     go [] true = refl
     go [] false = refl
     go (v ∷ rest) undef = refl
@@ -59,7 +59,7 @@ unfolding decide
 forget-cause S block = go (read_block block)
   where
     by_number : (b : Block) (zero : Bool) (n : ℕ)
-        → without_cause (if zero then decision_by (cause S b) (verdicts S b) else now.refused n) ≡ (if zero then plain_by (verdicts S b) else refused n)
+        → without_cause (if zero then decision_by (cause S b) (verdicts S b) otherwise now.refused n) ≡ (if zero then plain_by (verdicts S b) otherwise refused n)
     by_number b true n = by-verdicts (cause S b) (verdicts S b)
     by_number b false n = refl
 

@@ -12,7 +12,7 @@ use native.Mathlib.Omega.{arith}
 use lib.ListN.{length}
 use lib.Dec.{eqb}
 use borrow.Author.Tests.{eq-eqb}
-use Rattle.model.specs.Notation.{if◌then◌else◌, count_of, below}
+use Rattle.model.specs.Notation.{if◌then◌otherwise◌, count_of, below}
 use Rattle.model.specs.Limits.{Edition, holder_numbers, pair_limit, table_words}
 use Rattle.model.specs.Bytes.{Bytes}
 use Rattle.model.specs.Declarations.{holder_numbers_of}
@@ -64,7 +64,7 @@ right-table e words long = ap not (eq-eqb (length words) (table_words e) long)
 
 pub table-after : (words : List ℕ) (S : State) → length words ≡ table_words S.declared.edition → table_after words S ≡ table_of S
 unfolding table_after
-table-after words S long = ap (λ (b : Bool). if b then words else table_of S) (right-table S.declared.edition words long)
+table-after words S long = ap (λ (b : Bool). if b then words otherwise table_of S) (right-table S.declared.edition words long)
 
 from-words : (S : State) (words : List ℕ) (calls : List Call) {o : Outcome} → o ∈ ledger_from S words calls
     → length words ≡ table_words o.state.declared.edition → o.words ≡ table_of o.state
@@ -116,9 +116,9 @@ module _ {S : State} (reached : Reached S) where
   unfolding edit
   edit-count line = go (eqb (edit_refusal S line) 0) (edit-standing S line standing)
     where
-      go : (b : Bool) → Standing (if b then accepting S line else refusing S line).state
-          → (if b then accepting S line else refusing S line).changed
-          ≡ count_of (set_changed (table_of S) (table_of (if b then accepting S line else refusing S line).state)) (below (holder_numbers S.declared.edition))
+      go : (b : Bool) → Standing (if b then accepting S line otherwise refusing S line).state
+          → (if b then accepting S line otherwise refusing S line).changed
+          ≡ count_of (set_changed (table_of S) (table_of (if b then accepting S line otherwise refusing S line).state)) (below (holder_numbers S.declared.edition))
       go true after = changes-exact S.declared S.ties (accepting S line).state.ties standing after
       go false after = sym (count-below (set_changed (table_of S) (table_of S)) 0 (holder_numbers S.declared.edition) (omega arith) (λ k h l. unchanged (table_of S) k))
 

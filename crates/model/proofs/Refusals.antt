@@ -8,7 +8,7 @@ use mathlib.Core.Option.{Option, none, some}
 use native.Mathlib.Omega.{arith}
 use lib.Dec.{eqb, ltb}
 use borrow.Author.Tests.{ltb-true, eqb-true, eqb-false, eq-eqb, ne_eqb, not-true}
-use Rattle.model.specs.Notation.{if◌then◌else◌, is_none, any_of, filter}
+use Rattle.model.specs.Notation.{if◌then◌otherwise◌, is_none, any_of, filter}
 use Rattle.model.specs.Bytes.{Bytes}
 use Rattle.model.specs.Truth.{Truth, is_true, is_undef}
 use Rattle.model.specs.Keys.{Key}
@@ -70,7 +70,7 @@ answer-wins tests p n = (
 -- the condition of a number, where it is listed
 abbrev pub condition_of : ℕ → List Test → Bool
 condition_of n [] = false
-condition_of n ((m if b) ∷ tests) = if eqb m n then b else condition_of n tests
+condition_of n ((m if b) ∷ tests) = if eqb m n then b otherwise condition_of n tests
 
 abbrev is_listed : ℕ → List Test → Bool
 is_listed n [] = false
@@ -99,7 +99,7 @@ condition-fails : (tests : List Test) → NoneHolds tests → (n : ℕ) → cond
 condition-fails [] h n = refl
 condition-fails ((m if b) ∷ tests) h n = go (eqb m n) (condition-fails tests h.1 n)
   where
-    go : (c : Bool) → condition_of n tests ≡ false → (if c then b else condition_of n tests) ≡ false
+    go : (c : Bool) → condition_of n tests ≡ false → (if c then b otherwise condition_of n tests) ≡ false
     go true e = h.0
     go false e = e
 
@@ -131,7 +131,7 @@ module _ (order : ℕ → ℕ) where
       rw (ne_eqb k m other) (earlier-unlisted tests k m (parts (all_after k tests) (in_order tests) o).0 (omega (arith, ap order e)))
   earlier-fails ((k if false) ∷ tests) o n e z m l = go (eqb k m) (earlier-fails tests (parts (all_after k tests) (in_order tests) o).1 n e z m l)
     where
-      go : (c : Bool) → condition_of m tests ≡ false → (if c then false else condition_of m tests) ≡ false
+      go : (c : Bool) → condition_of m tests ≡ false → (if c then false otherwise condition_of m tests) ≡ false
       go true e = refl
       go false e = e
 
@@ -182,7 +182,7 @@ edit-met S line n e z = condition-holds (edit_tests S line) refl n (sym (edit-nu
 
 -- "13: … comes after 4, before the rest": as if it were 5, which no edit meets
 abbrev pub edit_order : ℕ → ℕ
-edit_order n = if eqb n 13 then 5 else n
+edit_order n = if eqb n 13 then 5 otherwise n
 
 pub edit-lower-wins : (S : State) (line : Bytes) (n : ℕ) → (edit S line).number ≡ n → (n ≡ 0 → ⊥)
     → (m : ℕ) → edit_order m < edit_order n → condition_of m (edit_tests S line) ≡ false
@@ -198,7 +198,7 @@ unfolding decision_by
 decided-not c vs n e = go (filter (λ (k, t). is_true t) vs) (any_of (λ (k, t). is_undef t) vs) e
   where
     go : {C : Type 0} (found : List (ℕ × Truth)) (undef : Bool)
-        → permit_by found (if undef then undefined c else deny) ≡ refused n → C
+        → permit_by found (if undef then undefined c otherwise deny) ≡ refused n → C
     go [] true e = let z : ◌≡◌ {A = ℕ} 0 1 = cc in absurd (omega (arith, z))
     go [] false e = let z : ◌≡◌ {A = ℕ} 0 1 = cc in absurd (omega (arith, z))
     go (v ∷ rest) undef e = let z : ◌≡◌ {A = ℕ} 0 1 = cc in absurd (omega (arith, z))
@@ -208,7 +208,7 @@ judged-refused : (S : State) (r : ℕ) (o : Option Block) (n : ℕ) → (is_none
 judged-refused S r none n f = (λ e. let s : r ≡ n = cc in (s, λ z. f refl (s ∙ z)), λ a. ap refused a.0)
 judged-refused S r (some b) n f = (out (eqb r 0) refl, λ a. rw (ne_eqb r 0 (λ z. a.1 (sym a.0 ∙ z))) (ap refused a.0))
   where
-    out : (c : Bool) → eqb r 0 ≡ c → (if c then decision_by (cause S b) (verdicts S b) else refused r) ≡ refused n → (r ≡ n) × (n ≡ 0 → ⊥)
+    out : (c : Bool) → eqb r 0 ≡ c → (if c then decision_by (cause S b) (verdicts S b) otherwise refused r) ≡ refused n → (r ≡ n) × (n ≡ 0 → ⊥)
     out true q e = decided-not (cause S b) (verdicts S b) n e
     out false q e = let s : r ≡ n = cc in (s, λ z. eqb-false r 0 q (s ∙ z))
 
@@ -248,9 +248,9 @@ request-accepted S block = (into, λ (b, q, e). out (eqb r 0) refl b (sym (ap (j
     into h =
         let (b, q) = is-there (read_block block) h.0 in
         let zero' = eq-eqb r 0 (accepted (request_tests S block) h) in
-        (b, q, ap (judged S r) q ∙ ap (λ (c : Bool). if c then decision_by (cause S b) (verdicts S b) else refused r) zero')
+        (b, q, ap (judged S r) q ∙ ap (λ (c : Bool). if c then decision_by (cause S b) (verdicts S b) otherwise refused r) zero')
 
-    out : (c : Bool) → eqb r 0 ≡ c → (b : Block) → (if c then decision_by (cause S b) (verdicts S b) else refused r) ≡ decision_by (cause S b) (verdicts S b)
+    out : (c : Bool) → eqb r 0 ≡ c → (b : Block) → (if c then decision_by (cause S b) (verdicts S b) otherwise refused r) ≡ decision_by (cause S b) (verdicts S b)
         → NoneHolds (request_tests S block)
     out true z b e = none-holds (request_tests S block) refl (eqb-true r 0 z)
     out false z b e = decided-not (cause S b) (verdicts S b) r (sym e)

@@ -8,7 +8,7 @@ use native.Mathlib.Omega.{arith}
 use lib.ListN.{length}
 use lib.Dec.{eqb, ltb}
 use borrow.Author.Tests.{not-true, le-ltb}
-use Rattle.model.specs.Notation.{if◌then◌else◌, ◌>>=◌, ◌is◌, is_none, map, each}
+use Rattle.model.specs.Notation.{if◌then◌otherwise◌, ◌>>=◌, ◌is◌, is_none, map, each}
 use Rattle.model.specs.Limits.{line_bytes}
 use Rattle.model.specs.Bytes.{Bytes, newline, lines_of, begun}
 use Rattle.model.specs.Keys.{Key, key_word, rank}
@@ -31,7 +31,7 @@ one_line : (w rest : Bytes) → lacks newline w ≡ true → lines_of (w ++ newl
 one_line [] rest h = refl
 one_line (x ∷ w) rest h =
     let (a, b) = all-parts (isnt newline) x w h in
-    ap (λ (t : Bool). if t then (x ∷ []) ∷ lines_of (w ++ newline ∷ rest) else begun x (lines_of (w ++ newline ∷ rest))) (not-true (eqb x newline) a)
+    ap (λ (t : Bool). if t then (x ∷ []) ∷ lines_of (w ++ newline ∷ rest) otherwise begun x (lines_of (w ++ newline ∷ rest))) (not-true (eqb x newline) a)
     ∙ ap (begun x) (one_line w rest b)
 
 -- a line that can be written within the limit

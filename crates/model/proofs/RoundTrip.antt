@@ -13,7 +13,7 @@ use lib.ListN.{length, length-append}
 use lib.Dec.{eqb, leb, ltb}
 use borrow.Author.Tests.{leb-true, lt-leb, ltb-true, ltb-false}
 use native.Mathlib.Nat.{pow-suc}
-use Rattle.model.specs.Notation.{if◌then◌else◌, ◌>>=◌, ◌is◌, is_none, all_of, map, each, filter, count_of, place, nth, find, inserted}
+use Rattle.model.specs.Notation.{if◌then◌otherwise◌, ◌>>=◌, ◌is◌, is_none, all_of, map, each, filter, count_of, place, nth, find, inserted}
 use Rattle.model.specs.Limits.{Edition, name_bytes, text_bytes, largest_int, attribute_limit, operation_limit, pair_limit, holder_numbers, group_limit}
 use Rattle.model.specs.Bytes.{Bytes, bytes, same}
 use Rattle.model.specs.Names.{is_name, name_byte}
@@ -294,7 +294,7 @@ none-earlier : (s : Sort) (k : ℕ) (hs : List Holder) → Rising k hs → rank 
 none-earlier s k [] r l = refl
 none-earlier s k (h ∷ hs) r l =
     let off : is_sort h.sort s ≡ false = ⊎_elim (λ e. absurd (omega (arith, r.0, ap (λ (x : Sort). rank (sort_key x)) (same_word sort_word sorts reads-sort h.sort s e)))) (λ e. e) (true-or-false (is_sort h.sort s)) in
-    ap (λ (b : Bool). if b then h ∷ of_sort s hs else of_sort s hs) off ∙ none-earlier s (rank (sort_key h.sort)) hs r.1 (omega (arith, r.0))
+    ap (λ (b : Bool). if b then h ∷ of_sort s hs otherwise of_sort s hs) off ∙ none-earlier s (rank (sort_key h.sort)) hs r.1 (omega (arith, r.0))
 
 -- holders of the four keys, key by key, are the holders in their order
 pub by-keys : (hs : List Holder) (k : ℕ) → Rising k hs → ((i : ℕ) (h : Holder) → nth hs i ≡ some h → is_sort h.sort Sort.admin ≡ false)
@@ -321,9 +321,9 @@ by-keys (h ∷ hs) k r o = go h.sort refl (by-keys hs (rank (sort_key h.sort)) r
     pull₃ {v = v} {w} x e f g m = ap (λ (l : List Holder). l ++ (v ++ (w ++ h ∷ x))) e ∙ pull₂ x f g (sym (ap (λ (l : List Holder). l ++ (v ++ (w ++ x))) e) ∙ m)
 
     go : (s : Sort) → h.sort ≡ s → F Sort.ugroup ++ (F Sort.ogroup ++ (F Sort.user ++ F Sort.object)) ≡ hs
-        → (if is_sort s Sort.ugroup then h ∷ F Sort.ugroup else F Sort.ugroup)
-        ++ ((if is_sort s Sort.ogroup then h ∷ F Sort.ogroup else F Sort.ogroup)
-        ++ ((if is_sort s Sort.user then h ∷ F Sort.user else F Sort.user) ++ (if is_sort s Sort.object then h ∷ F Sort.object else F Sort.object)))
+        → (if is_sort s Sort.ugroup then h ∷ F Sort.ugroup otherwise F Sort.ugroup)
+        ++ ((if is_sort s Sort.ogroup then h ∷ F Sort.ogroup otherwise F Sort.ogroup)
+        ++ ((if is_sort s Sort.user then h ∷ F Sort.user otherwise F Sort.user) ++ (if is_sort s Sort.object then h ∷ F Sort.object otherwise F Sort.object)))
         ≡ h ∷ hs
     go Sort.admin e more = absurd (true≢false (ap (λ (s : Sort). is_sort s Sort.admin) (sym e) ∙ o 0 h refl))
     go Sort.ugroup e more = ap (λ (l : List Holder). h ∷ l) more
@@ -344,16 +344,16 @@ other-rank Sort.ogroup e = omega arith
 other-rank Sort.user e = omega arith
 other-rank Sort.object e = omega arith
 
-count-front : {A : Type 0} (p : A → Bool) (pre : List A) (x : A) (rest : List A) → count_of p pre + (if p x then 1 else 0) ≤ count_of p (pre ++ x ∷ rest)
+count-front : {A : Type 0} (p : A → Bool) (pre : List A) (x : A) (rest : List A) → count_of p pre + (if p x then 1 otherwise 0) ≤ count_of p (pre ++ x ∷ rest)
 count-front p [] x rest = go (p x)
   where
-    go : (b : Bool) → 0 + (if b then 1 else 0) ≤ (if b then suc (count_of p rest) else count_of p rest)
+    go : (b : Bool) → 0 + (if b then 1 otherwise 0) ≤ (if b then suc (count_of p rest) otherwise count_of p rest)
     go true = omega arith
     go false = omega arith
 count-front p (y ∷ pre) x rest = go (p y) (count-front p pre x rest)
   where
-    go : (b : Bool) → count_of p pre + (if p x then 1 else 0) ≤ count_of p (pre ++ x ∷ rest)
-        → (if b then suc (count_of p pre) else count_of p pre) + (if p x then 1 else 0) ≤ (if b then suc (count_of p (pre ++ x ∷ rest)) else count_of p (pre ++ x ∷ rest))
+    go : (b : Bool) → count_of p pre + (if p x then 1 otherwise 0) ≤ count_of p (pre ++ x ∷ rest)
+        → (if b then suc (count_of p pre) otherwise count_of p pre) + (if p x then 1 otherwise 0) ≤ (if b then suc (count_of p (pre ++ x ∷ rest)) otherwise count_of p (pre ++ x ∷ rest))
     go true h = omega arith
     go false h = h
 
@@ -394,10 +394,10 @@ holders-go D others e stand rises = list-go others (λ l. parts-of D.edition D.a
     few l = omega (arith, numbers-length D)
 
     groups-few : (pre : List Holder) (h : Holder) (rest : List Holder) → D.holders ≡ pre ++ h ∷ rest
-        → count_of (λ g. is_group g.sort) pre + (if is_group h.sort then 1 else 0) ≤ group_limit
+        → count_of (λ g. is_group g.sort) pre + (if is_group h.sort then 1 otherwise 0) ≤ group_limit
     groups-few pre h rest split =
         omega (arith, count-front (λ g. is_group g.sort) pre h rest, stand.few-groups, ap (count_of (λ g. is_group g.sort)) split)
 
-    group-room : (b : Bool) (n : ℕ) → n + (if b then 1 else 0) ≤ group_limit → (b && leb group_limit n) ≡ false
+    group-room : (b : Bool) (n : ℕ) → n + (if b then 1 otherwise 0) ≤ group_limit → (b && leb group_limit n) ≡ false
     group-room true n h = lt-leb group_limit n (omega arith)
     group-room false n h = refl

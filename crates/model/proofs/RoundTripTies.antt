@@ -12,7 +12,7 @@ use native.Mathlib.Omega.{arith}
 use lib.ListN.{length, length-append}
 use lib.Dec.{eqb, ltb}
 use borrow.Author.Tests.{eqb-true, ltb-true}
-use Rattle.model.specs.Notation.{if◌then◌else◌, ◌>>=◌, ◌is◌, is_none, map, each, filter, place, nth, find, listed, all_of, below}
+use Rattle.model.specs.Notation.{if◌then◌otherwise◌, ◌>>=◌, ◌is◌, is_none, map, each, filter, place, nth, find, listed, all_of, below}
 use Rattle.model.specs.Bytes.{same}
 use Rattle.model.specs.Attributes.{Source, source_word}
 use Rattle.model.specs.Atoms.{same_atom}
@@ -228,7 +228,7 @@ module _ {A : Type 0} where
   filter-once p [] a = tt
   filter-once p (x ∷ xs) a = go (p x) (filter-once p xs a.1)
     where
-      go : (b : Bool) → NoRepeat (filter p xs) → NoRepeat (if b then x ∷ filter p xs else filter p xs)
+      go : (b : Bool) → NoRepeat (filter p xs) → NoRepeat (if b then x ∷ filter p xs otherwise filter p xs)
       go true r = (λ m. a.0 (in-filter p xs m).0, r)
       go false r = r
 
@@ -327,7 +327,7 @@ filter-append : {A : Type 0} (p : A → Bool) (xs ys : List A) → filter p (xs 
 filter-append p [] ys = refl
 filter-append p (x ∷ xs) ys = go (p x) (filter-append p xs ys)
   where
-    go : (b : Bool) → filter p (xs ++ ys) ≡ filter p xs ++ filter p ys → (if b then x ∷ filter p (xs ++ ys) else filter p (xs ++ ys)) ≡ (if b then x ∷ filter p xs else filter p xs) ++ filter p ys
+    go : (b : Bool) → filter p (xs ++ ys) ≡ filter p xs ++ filter p ys → (if b then x ∷ filter p (xs ++ ys) otherwise filter p (xs ++ ys)) ≡ (if b then x ∷ filter p xs otherwise filter p xs) ++ filter p ys
     go true e = ap (λ l. x ∷ l) e
     go false e = e
 

@@ -11,7 +11,7 @@ use native.Mathlib.Omega.{arith}
 use lib.ListN.{length, length-append}
 use lib.Dec.{eqb, leb, ltb}
 use borrow.Author.Tests.{eqb-true, eqb-false, leb-true, le-leb, ltb-true, ltb-false}
-use Rattle.model.specs.Notation.{if◌then◌else◌, ◌>>=◌, ◌is◌, is_none, nth, all_of}
+use Rattle.model.specs.Notation.{if◌then◌otherwise◌, ◌>>=◌, ◌is◌, is_none, nth, all_of}
 use Rattle.model.specs.Limits.{Edition, line_bytes}
 use Rattle.model.specs.Bytes.{Bytes}
 use Rattle.model.specs.Keys.{Key, rank}
@@ -220,7 +220,7 @@ pub step-loadable : (words : ℕ) (S : State) (c : Call) → Loadable S.declared
 unfolding step
 step-loadable words S c loadable = go (wrong_table (edition_for S c) words) c
   where
-    go : (b : Bool) (c : Call) → Loadable (if b then without_table S c else with_table S c).state.declared
+    go : (b : Bool) (c : Call) → Loadable (if b then without_table S c otherwise with_table S c).state.declared
     go true (Call.load file) = (nothing-so-far (named_edition file) (named-read file)).loadable
     go true (Call.edit line) = loadable
     go true (Call.request block) = loadable

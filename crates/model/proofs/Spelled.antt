@@ -6,7 +6,7 @@ use mathlib.Core.List.{List, [], ◌∷◌, ◌++◌}
 use mathlib.Core.Option.{some}
 use native.Mathlib.Omega.{arith}
 use lib.ListN.{length, length-append}
-use Rattle.model.specs.Notation.{if◌then◌else◌, is_none, all_of}
+use Rattle.model.specs.Notation.{if◌then◌otherwise◌, is_none, all_of}
 use Rattle.model.specs.Bytes.{Bytes, bytes}
 use Rattle.model.specs.Atoms.{Atom}
 use Rattle.model.specs.Tokens.{Token, Operator, Mark, is_token, spelling, is_word, is_operator, as_operator, as_constant, may_follow, begins_with_space, Spells, gap, spelled_behind, spelled}
@@ -26,7 +26,7 @@ first_is_word (t ∷ ts) = is_word t
 gap-short : (w : Bool) (t : Token) → length (gap w t) ≤ 1
 gap-short w t = go (w && is_word t)
   where
-    go : (b : Bool) → length (if b then bytes " " else []) ≤ 1
+    go : (b : Bool) → length (if b then bytes " " otherwise []) ≤ 1
     go true = omega arith
     go false = omega arith
 
@@ -37,7 +37,7 @@ behind-short w (t ∷ ts) = omega (arith, gap-short w t, length-append (gap w t)
 no_gap : (w : Bool) (t : Token) → ((w && is_word t) ≡ true → ⊥) → length (gap w t) ≡ 0
 no_gap w t n = go (w && is_word t) n
   where
-    go : (b : Bool) → (b ≡ true → ⊥) → length (if b then bytes " " else []) ≡ 0
+    go : (b : Bool) → (b ≡ true → ⊥) → length (if b then bytes " " otherwise []) ≡ 0
     go true n = absurd (n refl)
     go false n = refl
 
@@ -191,7 +191,7 @@ may-follow t (u ∷ us) h =
     angles false p y q r = rw (op-angle t p)
 
     go : (w x y : Bool) → not (x && y) ≡ true
-        → ((not w && not (x && y)) || begins_with_space ((if w then bytes " " else []) ++ (spelling u ++ spelled_behind (is_word u) us))) ≡ true
+        → ((not w && not (x && y)) || begins_with_space ((if w then bytes " " otherwise []) ++ (spelling u ++ spelled_behind (is_word u) us))) ≡ true
     go true x y r = refl
     go false x y r = or_left (not (x && y)) _ r
 
@@ -206,7 +206,7 @@ spells-behind w (t ∷ ts) h =
     go (w && is_word t) (Spells.a-token t (spells-behind (is_word t) ts (weaken (is_op t) ts k)) (may-follow t ts k))
   where
     go : (b : Bool) → Spells (t ∷ ts) (spelling t ++ spelled_behind (is_word t) ts)
-        → Spells (t ∷ ts) ((if b then bytes " " else []) ++ (spelling t ++ spelled_behind (is_word t) ts))
+        → Spells (t ∷ ts) ((if b then bytes " " otherwise []) ++ (spelling t ++ spelled_behind (is_word t) ts))
     go true d = Spells.a-space d
     go false d = d
 

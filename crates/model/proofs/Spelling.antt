@@ -9,7 +9,7 @@ use native.Mathlib.Omega.{arith}
 use borrow.Author.Tests.{eqb-true, leb-true, le-leb, not-true}
 use lib.ListN.{length, length-append}
 use lib.Dec.{eqb}
-use Rattle.model.specs.Notation.{if◌then◌else◌, ◌>>=◌, ◌or_else◌, is_empty, all_of}
+use Rattle.model.specs.Notation.{if◌then◌otherwise◌, ◌>>=◌, ◌or_else◌, is_empty, all_of}
 use Rattle.model.specs.Limits.{largest_int}
 use Rattle.model.specs.Bytes.{Bytes, bytes, newline, same, is_byte, in_range, behind, one_of}
 use Rattle.model.specs.Names.{name_byte, is_name, read_name}
@@ -31,7 +31,7 @@ pub one_of_all : {A : Type 0} (word : A → Bytes) (p : A → Bool) (table : Lis
 one_of_all word p [] s a h e = none-is-some e
 one_of_all {A} word p (b ∷ rest) s a h e = let (i, j) = all-parts p b rest h in go (same (word b) s) i e (one_of_all word p rest s a j)
   where
-    go : (t : Bool) → p b ≡ true → (if t then some b else one_of word rest s) ≡ some a → (one_of word rest s ≡ some a → p a ≡ true) → p a ≡ true
+    go : (t : Bool) → p b ≡ true → (if t then some b otherwise one_of word rest s) ≡ some a → (one_of word rest s ≡ some a → p a ≡ true) → p a ≡ true
     go true i f more = ap p (sym (some-injective b a f)) ∙ i
     go false i f more = more f
 
@@ -252,7 +252,7 @@ token-sound s t rest e = let (j, a, h) = run-parts s in go (run s).0 (run s).1 j
         (b, j, sign-whole t rest (not-true (is_word t) c) (rw j at f))
 
     go : (w r : Bytes) → s ≡ w ++ r → all_of word_byte w ≡ true → stops r ≡ true
-        → (if is_empty w then (behind (bytes "\"") s >>= read_text) or_else read_sign signs s else (read_word w >>= λ u. some (u, r))) ≡ some (t, rest)
+        → (if is_empty w then (behind (bytes "\"") s >>= read_text) or_else read_sign signs s otherwise (read_word w >>= λ u. some (u, r))) ≡ some (t, rest)
         → ReadWhole s t rest
     go [] r j a h f = choice {o = behind (bytes "\"") s >>= read_text} f text (λ _ g. sign g)
     go (x ∷ w) r j a h f = bound {o = read_word (x ∷ w)} f λ u g k.
@@ -280,7 +280,7 @@ word-front t (x ∷ w) j l h o =
     record { first = x; more = w; joined = j; in-word = p ∙ sym h; equals = no-word-byte 61 x refl p ∙ sym o; no-space = no-word-byte 32 x refl p }
 
 abbrev agree : Bool → Bool → Bool
-agree a b = if a then b else not b
+agree a b = if a then b otherwise not b
 
 agreed : (a b : Bool) → agree a b ≡ true → a ≡ b
 agreed true b h = sym h

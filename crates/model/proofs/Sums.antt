@@ -8,7 +8,7 @@ use mathlib.Core.List.{List, [], ◌∷◌, ◌++◌}
 use native.Mathlib.Nat.{mul-suc}
 use native.Mathlib.Omega.{arith}
 use lib.ListN.{length}
-use Rattle.model.specs.Notation.{if◌then◌else◌, filter, count_of, sum_of}
+use Rattle.model.specs.Notation.{if◌then◌otherwise◌, filter, count_of, sum_of}
 use Rattle.model.proofs.Lists.{◌∈◌}
 
 module _ {A : Type 0} where
@@ -34,21 +34,21 @@ module _ {A : Type 0} where
   sum-add f g (x ∷ xs) = omega (arith, sum-add f g xs)
 
   -- over those that pass: what the others would give is left out
-  pub sum-filter : (f : A → ℕ) (p : A → Bool) (xs : List A) → sum_of f (filter p xs) ≡ sum_of (λ x. if p x then f x else 0) xs
+  pub sum-filter : (f : A → ℕ) (p : A → Bool) (xs : List A) → sum_of f (filter p xs) ≡ sum_of (λ x. if p x then f x otherwise 0) xs
   sum-filter f p [] = refl
   sum-filter f p (x ∷ xs) = go (p x) (sum-filter f p xs)
     where
-      go : (b : Bool) → sum_of f (filter p xs) ≡ sum_of (λ x. if p x then f x else 0) xs
-          → sum_of f (if b then x ∷ filter p xs else filter p xs) ≡ (if b then f x else 0) + sum_of (λ x. if p x then f x else 0) xs
+      go : (b : Bool) → sum_of f (filter p xs) ≡ sum_of (λ x. if p x then f x otherwise 0) xs
+          → sum_of f (if b then x ∷ filter p xs otherwise filter p xs) ≡ (if b then f x otherwise 0) + sum_of (λ x. if p x then f x otherwise 0) xs
       go true e = ap (λ (n : ℕ). f x + n) e
       go false e = omega (arith, e)
 
   -- a count is a sum of ones
-  pub count-sum : (p : A → Bool) (xs : List A) → count_of p xs ≡ sum_of (λ x. if p x then 1 else 0) xs
+  pub count-sum : (p : A → Bool) (xs : List A) → count_of p xs ≡ sum_of (λ x. if p x then 1 otherwise 0) xs
   count-sum p [] = refl
   count-sum p (x ∷ xs) = go (p x) (count-sum p xs)
     where
-      go : (b : Bool) → count_of p xs ≡ sum_of (λ x. if p x then 1 else 0) xs
-          → (if b then suc (count_of p xs) else count_of p xs) ≡ (if b then 1 else 0) + sum_of (λ x. if p x then 1 else 0) xs
+      go : (b : Bool) → count_of p xs ≡ sum_of (λ x. if p x then 1 otherwise 0) xs
+          → (if b then suc (count_of p xs) otherwise count_of p xs) ≡ (if b then 1 otherwise 0) + sum_of (λ x. if p x then 1 otherwise 0) xs
       go true e = omega (arith, e)
       go false e = omega (arith, e)

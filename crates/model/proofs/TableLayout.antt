@@ -11,7 +11,7 @@ use native.Mathlib.Decide.{dec_lt}
 use native.Mathlib.Omega.{arith}
 use lib.ListN.{length, length-append, length-drop, get_or, take, drop, replicate, get_or-eq_default}
 use lib.Seq.{ext_get_or, get_or-take, get_or-drop, take_all, take-append-le, drop-append-le, drop_at}
-use Rattle.model.specs.Notation.{if◌then◌else◌, is_none, each, below}
+use Rattle.model.specs.Notation.{if◌then◌otherwise◌, is_none, each, below}
 use Rattle.model.specs.Limits.{holder_numbers, pair_limit, table_words, word_bits, set_words}
 use Rattle.model.specs.Declarations.{Declarations, Holder, is_holder, holder_numbers_of}
 use Rattle.model.specs.Ties.{Ties, value}
@@ -123,7 +123,7 @@ module _ (D : Declarations) (T : Ties) where
   unfolding pair_in stored_set
   layout k p h l = ap (λ (w : ℕ). bit_of w (p % word_bits)) (word-in-table k (p / word_bits) h (omega arith)) ∙ go (is_holder D k)
     where
-      go : (b : Bool) → bit_of (get_or (if b then words_of (effective_set D T k) else replicate set_words 0) (p / word_bits) 0) (p % word_bits)
+      go : (b : Bool) → bit_of (get_or (if b then words_of (effective_set D T k) otherwise replicate set_words 0) (p / word_bits) 0) (p % word_bits)
           ≡ (b && effective_set D T k p)
       go true = in-word (effective_set D T k) p l
       go false = ap (λ (w : ℕ). bit_of w (p % word_bits)) (no_words (p / word_bits)) ∙ bit-none (p % word_bits)
@@ -133,7 +133,7 @@ module _ (D : Declarations) (T : Ties) where
   unfolding stored_set
   word_bound n = go (dec_lt n (table_words D.edition))
     where
-      stored : (k j : ℕ) → j < set_words → (b : Bool) → get_or (if b then words_of (effective_set D T k) else replicate set_words 0) j 0 < 2 ^ word_bits
+      stored : (k j : ℕ) → j < set_words → (b : Bool) → get_or (if b then words_of (effective_set D T k) otherwise replicate set_words 0) j 0 < 2 ^ word_bits
       stored k j l true = rw (words-at (effective_set D T k) j l) (word_lt word_bits (λ i. effective_set D T k (word_bits * j + i)))
       stored k j l false = rw (no_words j) (omega arith)
 

@@ -8,7 +8,7 @@ use mathlib.Core.Option.{some, some-injective}
 use native.Mathlib.Omega.{arith}
 use borrow.Author.Tests.{eqb-true}
 use lib.ListN.{length, length-append}
-use Rattle.model.specs.Notation.{if◌then◌else◌, ◌>>=◌, is_empty, all_of, each}
+use Rattle.model.specs.Notation.{if◌then◌otherwise◌, ◌>>=◌, is_empty, all_of, each}
 use Rattle.model.specs.Bytes.{Bytes, bytes, newline, is_byte}
 use Rattle.model.specs.Tokens.{Token, is_token, spelling, read_token, tokens_within, tokens_of, is_word, may_touch, begins_with_space, may_follow, Spells}
 use Rattle.model.proofs.Options.{bound, condition}
@@ -51,7 +51,7 @@ within-sound (suc n) [] ts e = let z = some-injective _ _ e in rw (← z) (refl,
 within-sound (suc n) (x ∷ s) ts e = go (is_byte " " x) refl (λ r us. within-sound n r us) e
   where
     go : (b : Bool) → is_byte " " x ≡ b → ((r : Bytes) (us : List Token) → tokens_within n r ≡ some us → (all_of is_token us ≡ true) × Spells us r)
-        → (if b then tokens_within n s else (read_token (x ∷ s) >>= λ (t, rest). tokens_within n rest >>= λ us. some (t ∷ us))) ≡ some ts
+        → (if b then tokens_within n s otherwise (read_token (x ∷ s) >>= λ (t, rest). tokens_within n rest >>= λ us. some (t ∷ us))) ≡ some ts
         → (all_of is_token ts ≡ true) × Spells ts (x ∷ s)
     go true q more f = let (h, d) = more s ts f in (h, rw (eqb-true x 32 q) (Spells.a-space d))
     go false q more f =

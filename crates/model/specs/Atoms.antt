@@ -2,7 +2,7 @@
 use Rattle.std.specs.Prelude.{ℕ, zero, suc, ◌+◌, ◌-◌, ◌*◌, ◌/◌, ◌%◌, Bool, true, false, ◌&&◌, not, [], ◌∷◌, ◌++◌, length, eqb, leb, ltb}
 use Prim.Native.Char.{code}
 use Rattle.std.proofs.Math.Option.{Option, some}
-use Rattle.model.specs.Notation.{if◌then◌else◌, ◌>>=◌, ◌or_else◌, only_if, is_empty, all_of}
+use Rattle.model.specs.Notation.{if◌then◌otherwise◌, ◌>>=◌, ◌or_else◌, only_if, is_empty, all_of}
 use Rattle.model.specs.Limits.{largest_int, text_bytes}
 use Rattle.model.specs.Bytes.{Bytes, bytes, same, is_byte, in_range, cut_at, behind, one_of}
 use Rattle.model.specs.Attributes.{AtomType}
@@ -38,7 +38,7 @@ read_int s =
 -- the decimal digits of a number below 10 to the power of the first argument
 abbrev pub digits_within : ℕ → ℕ → Bytes
 digits_within zero n = []
-digits_within (suc f) n = if ltb n 10 then (code "0" + n) ∷ [] else digits_within f (n / 10) ++ (code "0" + n % 10) ∷ []
+digits_within (suc f) n = if ltb n 10 then (code "0" + n) ∷ [] otherwise digits_within f (n / 10) ++ (code "0" + n % 10) ∷ []
 
 -- "Integers below are decimal"
 unfoldable pub decimal : ℕ → Bytes

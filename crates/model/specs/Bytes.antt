@@ -3,7 +3,7 @@ use Rattle.std.specs.Prelude.{ℕ, Bool, true, false, ◌&&◌, List, [], ◌∷
 use Prim.Native.String.{String, [] as empty, ◌∷◌ as ◌then◌}
 use Prim.Native.Char.{Char, code}
 use Rattle.std.proofs.Math.Option.{Option, none, some}
-use Rattle.model.specs.Notation.{if◌then◌else◌, ◌>>=◌, only_if, is_empty}
+use Rattle.model.specs.Notation.{if◌then◌otherwise◌, ◌>>=◌, only_if, is_empty}
 
 -- a list of bytes: numbers below 256
 abbrev pub Bytes : Type 0
@@ -30,12 +30,12 @@ abbrev pub same : Bytes → Bytes → Bool
 same [] [] = true
 same [] (y ∷ ys) = false
 same (x ∷ xs) [] = false
-same (x ∷ xs) (y ∷ ys) = if eqb x y then same xs ys else false
+same (x ∷ xs) (y ∷ ys) = if eqb x y then same xs ys otherwise false
 
 -- what stands before the first byte b and what stands after it; none where there is no b
 abbrev pub cut : ℕ → Bytes → Option (Bytes × Bytes)
 cut b [] = none
-cut b (x ∷ xs) = if eqb x b then some ([], xs) else (cut b xs >>= λ (l, r). some (x ∷ l, r))
+cut b (x ∷ xs) = if eqb x b then some ([], xs) otherwise (cut b xs >>= λ (l, r). some (x ∷ l, r))
 
 abbrev pub cut_at : Char → Bytes → Option (Bytes × Bytes)
 cut_at c s = cut (code c) s
@@ -44,7 +44,7 @@ cut_at c s = cut (code c) s
 abbrev pub behind : Bytes → Bytes → Option Bytes
 behind [] s = some s
 behind (t ∷ ts) [] = none
-behind (t ∷ ts) (x ∷ xs) = if eqb x t then behind ts xs else none
+behind (t ∷ ts) (x ∷ xs) = if eqb x t then behind ts xs otherwise none
 
 -- a byte more at the front of the first line
 abbrev pub begun : ℕ → List Bytes → List Bytes
@@ -54,7 +54,7 @@ begun x (l ∷ ls) = (x ∷ l) ∷ ls
 -- "Lines end with byte 10": the lines, each with its byte 10; what stands behind the last byte 10 is a line without one
 abbrev pub lines_of : Bytes → List Bytes
 lines_of [] = []
-lines_of (x ∷ xs) = if eqb x newline then (x ∷ []) ∷ lines_of xs else begun x (lines_of xs)
+lines_of (x ∷ xs) = if eqb x newline then (x ∷ []) ∷ lines_of xs otherwise begun x (lines_of xs)
 
 -- a line without its byte 10; none where it has none, or bytes behind it
 abbrev pub content : Bytes → Option Bytes
@@ -63,4 +63,4 @@ content s = cut newline s >>= λ (l, r). only_if (is_empty r) l
 -- the value whose word these bytes are, among those listed
 abbrev pub one_of : {A : Type 0} → (A → Bytes) → List A → Bytes → Option A
 one_of word [] s = none
-one_of word (a ∷ rest) s = if same (word a) s then some a else one_of word rest s
+one_of word (a ∷ rest) s = if same (word a) s then some a otherwise one_of word rest s

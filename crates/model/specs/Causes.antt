@@ -1,7 +1,7 @@
 -- Document 02, E2: "Two sorts of undefined". Whether what is UNDEF is so for lack of a value. It is found beside the value, which stays document 01's.
 use Rattle.std.specs.Prelude.{ℕ, Bool, true, false, ◌&&◌, ◌||◌, List}
 use Rattle.std.proofs.Math.Option.{none, some}
-use Rattle.model.specs.Notation.{if◌then◌else◌, is_empty}
+use Rattle.model.specs.Notation.{if◌then◌otherwise◌, is_empty}
 use Rattle.model.specs.Bytes.{Bytes, bytes}
 use Rattle.model.specs.Atoms.{Atom}
 use Rattle.model.specs.Truth.{Truth, is_undef}
@@ -49,4 +49,4 @@ absent_of read ts = elim (read_policy ts) [ some p ↦ is_absent read p | none �
 
 -- "absent … or unlike (all other UNDEF …)": the cause of what is UNDEF
 abbrev pub cause_by : Bool → Cause
-cause_by is-absent = if is-absent then absent else unlike
+cause_by is-absent = if is-absent then absent otherwise unlike

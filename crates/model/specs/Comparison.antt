@@ -1,6 +1,6 @@
 -- What a comparison of two sets of values comes to.
 use Rattle.std.specs.Prelude.{ℕ, Bool, true, false, List, [], ◌∷◌, leb, ltb}
-use Rattle.model.specs.Notation.{if◌then◌else◌, any_of, all_of}
+use Rattle.model.specs.Notation.{if◌then◌otherwise◌, any_of, all_of}
 use Rattle.model.specs.Attributes.{AtomType, same_type}
 use Rattle.model.specs.Atoms.{Atom, type_of, same_atom}
 use Rattle.model.specs.Truth.{Truth, truth, NOT}
@@ -52,7 +52,7 @@ unfoldable pub compare_sets : Operator → List Atom → List Atom → Truth
 compare_sets o [] right = Truth.UNDEF
 compare_sets o (a ∷ left) [] = Truth.UNDEF
 compare_sets o (a ∷ left) (b ∷ right) =
-    if same_type (type_of a) (type_of b) then compare_like o (type_of a) (a ∷ left) (b ∷ right) else Truth.UNDEF
+    if same_type (type_of a) (type_of b) then compare_like o (type_of a) (a ∷ left) (b ∷ right) otherwise Truth.UNDEF
 
 -- "A lone attribute: UNDEF if absent or not bool, else whether TRUE is among its values"
 unfoldable pub lone_value : List Atom → Truth

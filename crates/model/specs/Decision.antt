@@ -1,7 +1,7 @@
 -- What a request is answered.
 use Rattle.std.specs.Prelude.{ℕ, Bool, true, false, List, [], ◌∷◌, eqb}
 use Rattle.std.proofs.Math.Option.{Option, none, some}
-use Rattle.model.specs.Notation.{if◌then◌else◌, ◌is◌, any_of, map, filter, numbered, nth}
+use Rattle.model.specs.Notation.{if◌then◌otherwise◌, ◌is◌, any_of, map, filter, numbered, nth}
 use Rattle.model.specs.Bytes.{Bytes, same}
 use Rattle.model.specs.Truth.{Truth, is_true, is_undef}
 use Rattle.model.specs.Declarations.{Rule}
@@ -41,7 +41,7 @@ cause S b = cause_by (any_of (λ (k, r). absent_of (read_by S b) r.tokens) (rule
 
 -- "else undefined if some is UNDEF; else deny"
 abbrev pub without_permit : Cause → List (ℕ × Truth) → Decision
-without_permit c vs = if any_of (λ (k, t). is_undef t) vs then undefined c else deny
+without_permit c vs = if any_of (λ (k, t). is_undef t) vs then undefined c otherwise deny
 
 -- "with the lowest TRUE rule number", by the verdicts that are TRUE, which stand in the order of their numbers; else another decision
 abbrev pub permit_by : List (ℕ × Truth) → Decision → Decision
@@ -55,7 +55,7 @@ decision_by c vs = permit_by (filter (λ (k, t). is_true t) vs) (without_permit 
 -- by the number of the refusal, 0 where there is none, and the block that was read: what is no block has the number 15
 abbrev pub judged : State → ℕ → Option Block → Decision
 judged S n none = refused n
-judged S n (some b) = if eqb n 0 then decision_by (cause S b) (verdicts S b) else refused n
+judged S n (some b) = if eqb n 0 then decision_by (cause S b) (verdicts S b) otherwise refused n
 
 -- a request
 unfoldable pub decide : State → Bytes → Decision

@@ -2,7 +2,7 @@
 use Rattle.std.specs.Prelude.{ℕ, ◌+◌, Bool, ◌||◌, not, List, length, eqb}
 use Rattle.std.specs.Bool.{beq}
 use Rattle.std.proofs.Math.Option.{Option, none, some}
-use Rattle.model.specs.Notation.{if◌then◌else◌, ◌>>=◌, is_none, any_of, filter, count_of, sum_of, below}
+use Rattle.model.specs.Notation.{if◌then◌otherwise◌, ◌>>=◌, is_none, any_of, filter, count_of, sum_of, below}
 use Rattle.model.specs.Bytes.{Bytes}
 use Rattle.model.specs.Lines.{read_line}
 use Rattle.model.specs.Declarations.{Declarations, holder_numbers_of}
@@ -22,7 +22,7 @@ adds line = not (is_none (plus_line line))
 -- "`+t` accepted adds t to T, `-t` removes it". An accepted edit has its tie: the clause for none is never met
 abbrev pub edited_ties : Bool → Option Tie → Ties → Ties
 edited_ties plus none T = T
-edited_ties plus (some t) T = if plus then added t T else removed t T
+edited_ties plus (some t) T = if plus then added t T otherwise removed t T
 
 -- the sets of holder k on T and on U differ
 unfoldable pub differs : Declarations → Ties → Ties → ℕ → Bool
@@ -71,4 +71,4 @@ refusing S line = record { number = edit_refusal S line; changed = 0; joins = 0;
 
 -- an edit
 unfoldable pub edit : State → Bytes → Edited
-edit S line = if eqb (edit_refusal S line) 0 then accepting S line else refusing S line
+edit S line = if eqb (edit_refusal S line) 0 then accepting S line otherwise refusing S line

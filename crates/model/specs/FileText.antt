@@ -1,7 +1,7 @@
 -- Document 02, E1: "The file as it stands now.", and E14: "Length told beforehand."
 use Rattle.std.specs.Prelude.{ℕ, List, [], ◌∷◌, ◌++◌, length, drop}
 use Rattle.std.proofs.Math.Option.{Option, some}
-use Rattle.model.specs.Notation.{if◌then◌else◌, ◌>>=◌, map, each, filter, nth, listed, below}
+use Rattle.model.specs.Notation.{if◌then◌otherwise◌, ◌>>=◌, map, each, filter, nth, listed, below}
 use Rattle.model.specs.Numbers as refusal
 use Rattle.model.specs.Refusals.{does_not_fit}
 use Rattle.model.specs.Bytes.{Bytes, newline}
@@ -79,7 +79,7 @@ pub record FileWritten : Type 0 where
 unfoldable pub write_text : Bytes → Bytes → FileWritten
 write_text text buffer =
     if does_not_fit (length text) (length buffer) then record { number = refusal.does_not_fit; text_length = 0; buffer = buffer }
-    else record { number = 0; text_length = length text; buffer = text ++ drop (length text) buffer }
+    otherwise record { number = 0; text_length = length text; buffer = text ++ drop (length text) buffer }
 
 -- "A writer puts out the present one into a lent buffer"
 unfoldable pub write_file : State → Bytes → FileWritten

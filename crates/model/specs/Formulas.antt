@@ -1,7 +1,7 @@
 -- Document 02, E4: "K3 without its table". AND, OR and NOT "put as formulas that can be checked by eye", on numbers, and what a request is answered by them.
 use Rattle.std.specs.Prelude.{ℕ, ◌-◌, min, max, Bool, false, ◌&&◌, ◌||◌, List, eqb}
 use Rattle.std.proofs.Math.Option.{Option, none, some}
-use Rattle.model.specs.Notation.{if◌then◌else◌, any_of, map, find}
+use Rattle.model.specs.Notation.{if◌then◌otherwise◌, any_of, map, find}
 use Rattle.model.specs.Bytes.{Bytes}
 use Rattle.model.specs.Truth.{Truth, FALSE, UNDEF, TRUE}
 use Rattle.model.specs.Tokens.{Token}
@@ -75,11 +75,11 @@ cause_beside S b = cause_by (any_of (λ (k, r). rule_absent (read_by S b) r.toke
 -- "Permit, with the lowest TRUE rule number; else undefined if some is UNDEF; else deny": TRUE is 2, UNDEF is 1
 unfoldable pub decision_by_numbers : Cause → List (ℕ × ℕ) → Decision
 decision_by_numbers c ns =
-    elim (find (λ (k, n). eqb n 2) ns) [ some v ↦ permit v.0 | none ↦ if any_of (λ (k, n). eqb n 1) ns then undefined c else deny ]
+    elim (find (λ (k, n). eqb n 2) ns) [ some v ↦ permit v.0 | none ↦ if any_of (λ (k, n). eqb n 1) ns then undefined c otherwise deny ]
 
 abbrev pub judged_by_numbers : State → ℕ → Option Block → Decision
 judged_by_numbers S n none = refused n
-judged_by_numbers S n (some b) = if eqb n 0 then decision_by_numbers (cause_beside S b) (verdict_numbers S b) else refused n
+judged_by_numbers S n (some b) = if eqb n 0 then decision_by_numbers (cause_beside S b) (verdict_numbers S b) otherwise refused n
 
 -- a request
 unfoldable pub decide_by_numbers : State → Bytes → Decision

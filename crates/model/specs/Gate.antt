@@ -2,7 +2,7 @@
 use Rattle.std.specs.Prelude.{ℕ, ◌+◌, ◌*◌, ◌-◌, Bool, List, [], ◌∷◌, ◌++◌, length, ltb}
 use Prim.Native.Char.{code}
 use Rattle.std.proofs.Math.Option.{Option, none, some}
-use Rattle.model.specs.Notation.{if◌then◌else◌, ◌>>=◌, ◌or_else◌, only_if, map}
+use Rattle.model.specs.Notation.{if◌then◌otherwise◌, ◌>>=◌, ◌or_else◌, only_if, map}
 use Rattle.model.specs.Limits.{Edition, input_bytes, table_words}
 use Rattle.model.specs.Numbers as refusal
 use Rattle.model.specs.Bytes.{Bytes, bytes, same, behind, lines_of, content, in_range}
@@ -25,11 +25,11 @@ is_end line = same (bare line) (bytes "end=")
 -- "file lines, a line `end=`, then …"; "Without `end=` all is file"
 abbrev pub file_of : List Bytes → Bytes
 file_of [] = []
-file_of (l ∷ ls) = if is_end l then [] else l ++ file_of ls
+file_of (l ∷ ls) = if is_end l then [] otherwise l ++ file_of ls
 
 abbrev pub commands_of : List Bytes → List Bytes
 commands_of [] = []
-commands_of (l ∷ ls) = if is_end l then ls else commands_of ls
+commands_of (l ∷ ls) = if is_end l then ls otherwise commands_of ls
 
 -- "lower-case hex": the value of a digit
 abbrev pub hex_digit : ℕ → Option ℕ
@@ -74,4 +74,4 @@ unfoldable pub gate : Bytes → Bytes
 gate input =
     let lines = lines_of input in
     if ltb input_bytes (length input) then printed (loaded refusal.too_long 0)
-    else output (table_words (named_edition (file_of lines))) (empty Edition.first) (some (Call.load (file_of lines)) ∷ map call_of (commands_of lines))
+    otherwise output (table_words (named_edition (file_of lines))) (empty Edition.first) (some (Call.load (file_of lines)) ∷ map call_of (commands_of lines))

@@ -1,6 +1,6 @@
 -- The call for hosts in C.
 use Rattle.std.specs.Prelude.{ℕ, List, eqb}
-use Rattle.model.specs.Notation.{if◌then◌else◌}
+use Rattle.model.specs.Notation.{if◌then◌otherwise◌}
 use Rattle.model.specs.Numbers as refusal
 use Rattle.model.specs.Bytes.{Bytes}
 use Rattle.model.specs.Refusals.{wrong_table}
@@ -13,7 +13,7 @@ use Rattle.model.specs.Decision.{number_and_values, decide}
 unfoldable pub host_call : Bytes → Bytes → ℕ → ℕ
 host_call file block words =
     let l = load file in
-    if wrong_table (named_edition file) words then refusal.wrong_table else (if eqb l.number 0 then (number_and_values (decide l.state block)).0 else l.number)
+    if wrong_table (named_edition file) words then refusal.wrong_table otherwise (if eqb l.number 0 then (number_and_values (decide l.state block)).0 otherwise l.number)
 
 -- "Table as after the load"
 unfoldable pub host_table : Bytes → List ℕ → List ℕ

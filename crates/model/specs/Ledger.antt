@@ -1,6 +1,6 @@
 -- The ledger: answers and tables of a list of calls, worked out from the calls alone.
 use Rattle.std.specs.Prelude.{ℕ, List, [], ◌∷◌, length}
-use Rattle.model.specs.Notation.{if◌then◌else◌}
+use Rattle.model.specs.Notation.{if◌then◌otherwise◌}
 use Rattle.model.specs.Limits.{Edition}
 use Rattle.model.specs.Numbers as refusal
 use Rattle.model.specs.Bytes.{Bytes}
@@ -49,12 +49,12 @@ edition_for S (request block) = S.declared.edition
 
 -- one call, on a table of so many words. "Nothing else comes from book or table": "Refusals and answers are functions of D, T and what is fed"
 unfoldable pub step : ℕ → State → Call → Step
-step words S c = if wrong_table (edition_for S c) words then without_table S c else with_table S c
+step words S c = if wrong_table (edition_for S c) words then without_table S c otherwise with_table S c
 
 -- the table after a call: "all 1,024 words with those that effective on T gives"; "On a table of another length … the table keeps its words".
 -- Document 02, E5: "The ledger always compares all words of the table of D's edition"
 unfoldable pub table_after : List ℕ → State → List ℕ
-table_after words S = if wrong_table S.declared.edition (length words) then words else table S.declared S.ties
+table_after words S = if wrong_table S.declared.edition (length words) then words otherwise table S.declared S.ties
 
 -- what stands after a call. Compared are the answer and the words
 pub record Outcome : Type 0 where

@@ -1,7 +1,7 @@
 -- The lines `key=fields`, read from bytes and written as bytes.
 use Rattle.std.specs.Prelude.{Bool, true, false, ◌&&◌, not, List, ◌++◌, length, leb}
 use Rattle.std.proofs.Math.Option.{Option, some}
-use Rattle.model.specs.Notation.{if◌then◌else◌, ◌>>=◌, is_none, only_if, all_of}
+use Rattle.model.specs.Notation.{if◌then◌otherwise◌, ◌>>=◌, is_none, only_if, all_of}
 use Rattle.model.specs.Limits.{Edition, line_bytes}
 use Rattle.model.specs.Bytes.{Bytes, bytes, behind, cut_at, content}
 use Rattle.model.specs.Names.{is_name, read_name}
@@ -25,7 +25,7 @@ is_read Edition.second = false
 -- "the edition that its first line names, else edition 1"
 unfoldable pub named_edition : Bytes → Edition
 named_edition file =
-    if is_read Edition.second && not (is_none (behind (first_line Edition.second) file)) then Edition.second else Edition.first
+    if is_read Edition.second && not (is_none (behind (first_line Edition.second) file)) then Edition.second otherwise Edition.first
 
 -- the lines of the eleven keys; `holder` is those of the keys ugroup, ogroup, user and object
 pub data Line : Type 0 where

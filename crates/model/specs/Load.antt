@@ -1,7 +1,7 @@
 -- A load: a file read as its lines one after another.
 use Rattle.std.specs.Prelude.{ℕ, suc, List, [], ◌∷◌, eqb}
 use Rattle.std.proofs.Math.Option.{Option, none, some}
-use Rattle.model.specs.Notation.{if◌then◌else◌, ◌>>=◌}
+use Rattle.model.specs.Notation.{if◌then◌otherwise◌, ◌>>=◌}
 use Rattle.model.specs.Limits.{Edition}
 use Rattle.model.specs.Numbers as refusal
 use Rattle.model.specs.Bytes.{Bytes, lines_of}
@@ -35,7 +35,7 @@ unfoldable pub read_on : Edition → State → Option Key → ℕ → List Bytes
 read_on e S previous n [] = record { number = 0; line = n; state = S }
 read_on e S previous n (l ∷ ls) =
     let r = line_refusal S previous l in
-    if eqb r 0 then read_on e (stepped S (read_line l)) (key_of l) (suc n) ls else refused_at e r (suc n)
+    if eqb r 0 then read_on e (stepped S (read_line l)) (key_of l) (suc n) ls otherwise refused_at e r (suc n)
 
 -- the lines behind the first
 abbrev pub other_lines : List Bytes → List Bytes
@@ -47,5 +47,5 @@ unfoldable pub load : Bytes → Loaded
 load file =
     let e = named_edition file in
     if too_long file then refused_at e refusal.too_long 0
-    else (if wrong_first_line file then refused_at e refusal.wrong_first_line 1
-    else read_on e (empty e) none 1 (other_lines (lines_of file)))
+    otherwise (if wrong_first_line file then refused_at e refusal.wrong_first_line 1
+    otherwise read_on e (empty e) none 1 (other_lines (lines_of file)))

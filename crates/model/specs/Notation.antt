@@ -3,9 +3,9 @@
 use Rattle.std.specs.Prelude.{ℕ, zero, suc, ◌+◌, Bool, true, false, List, [], ◌∷◌, ◌++◌, ltb}
 use Rattle.std.proofs.Math.Option.{Option, none, some}
 
-infix 0 if◌then◌else◌
-abbrev pub if◌then◌else◌ : {A : Type 0} → Bool → A → A → A
-if c then a else b = elim c [ true ↦ a | false ↦ b ]
+infix 0 if◌then◌otherwise◌
+abbrev pub if◌then◌otherwise◌ : {A : Type 0} → Bool → A → A → A
+if c then a otherwise b = elim c [ true ↦ a | false ↦ b ]
 
 -- a step that needs the result of the one before; none where that has none
 infixl 1 ◌>>=◌
@@ -42,22 +42,22 @@ module _ {A : Type 0} where
   -- some element passes
   abbrev pub any_of : (A → Bool) → List A → Bool
   any_of p [] = false
-  any_of p (x ∷ xs) = if p x then true else any_of p xs
+  any_of p (x ∷ xs) = if p x then true otherwise any_of p xs
 
   -- each element passes
   abbrev pub all_of : (A → Bool) → List A → Bool
   all_of p [] = true
-  all_of p (x ∷ xs) = if p x then all_of p xs else false
+  all_of p (x ∷ xs) = if p x then all_of p xs otherwise false
 
   -- the elements that pass, in their order
   abbrev pub filter : (A → Bool) → List A → List A
   filter p [] = []
-  filter p (x ∷ xs) = if p x then x ∷ filter p xs else filter p xs
+  filter p (x ∷ xs) = if p x then x ∷ filter p xs otherwise filter p xs
 
   -- how many elements pass
   abbrev pub count_of : (A → Bool) → List A → ℕ
   count_of p [] = 0
-  count_of p (x ∷ xs) = if p x then suc (count_of p xs) else count_of p xs
+  count_of p (x ∷ xs) = if p x then suc (count_of p xs) otherwise count_of p xs
 
   -- the sum of what f gives for each element
   abbrev pub sum_of : (A → ℕ) → List A → ℕ
@@ -67,22 +67,22 @@ module _ {A : Type 0} where
   -- the elements before the first that passes
   abbrev pub before : (A → Bool) → List A → List A
   before p [] = []
-  before p (x ∷ xs) = if p x then [] else x ∷ before p xs
+  before p (x ∷ xs) = if p x then [] otherwise x ∷ before p xs
 
   -- the number of the first element that passes; numbers start at 0
   abbrev pub place : (A → Bool) → List A → Option ℕ
   place p [] = none
-  place p (x ∷ xs) = if p x then some 0 else (place p xs >>= λ n. some (suc n))
+  place p (x ∷ xs) = if p x then some 0 otherwise (place p xs >>= λ n. some (suc n))
 
   -- the first element that passes
   abbrev pub find : (A → Bool) → List A → Option A
   find p [] = none
-  find p (x ∷ xs) = if p x then some x else find p xs
+  find p (x ∷ xs) = if p x then some x otherwise find p xs
 
   -- one more before the first whose number is greater, so that numbers rise where they rose
   abbrev pub inserted : (A → ℕ) → A → List A → List A
   inserted number x [] = x ∷ []
-  inserted number x (y ∷ ys) = if ltb (number x) (number y) then x ∷ y ∷ ys else y ∷ inserted number x ys
+  inserted number x (y ∷ ys) = if ltb (number x) (number y) then x ∷ y ∷ ys otherwise y ∷ inserted number x ys
 
   -- the element of a number
   abbrev pub nth : List A → ℕ → Option A

@@ -1,7 +1,7 @@
 -- The values that each attribute has for a request.
 use Rattle.std.specs.Prelude.{ℕ, List, [], ◌∷◌, eqb}
 use Rattle.std.proofs.Math.Option.{Option, none, some}
-use Rattle.model.specs.Notation.{if◌then◌else◌, ◌is◌, map, each, filter, numbered, nth}
+use Rattle.model.specs.Notation.{if◌then◌otherwise◌, ◌is◌, map, each, filter, numbered, nth}
 use Rattle.model.specs.Bytes.{Bytes}
 use Rattle.model.specs.Attributes.{Source, AtomType}
 use Rattle.model.specs.Atoms.{Atom}
@@ -28,7 +28,7 @@ entry_value AtomType.bool v = Atom.bool (eqb v 1)
 -- the value of an entry, where its attribute has that SRC and NAME; else nothing
 abbrev pub given : Source → Bytes → ℕ → Option Attribute → List Atom
 given s n v none = []
-given s n v (some a) = if same_source_and_name a.source a.name s n then entry_value a.type v ∷ [] else []
+given s n v (some a) = if same_source_and_name a.source a.name s n then entry_value a.type v ∷ [] otherwise []
 
 -- "Repeated attributes form a set"
 unfoldable pub entered : State → Block → Source → Bytes → List Atom
@@ -37,7 +37,7 @@ entered S b s n = each (λ e. given s n e.value (nth S.declared.attributes e.att
 -- "`user.` names read the user's effective values of activated attributes only …, each with all its values"
 unfoldable pub user_values : State → Block → Bytes → List Atom
 user_values S b n =
-    if attribute_number S.declared Source.user n is activated b then held S b.user Source.user n else []
+    if attribute_number S.declared Source.user n is activated b then held S b.user Source.user n otherwise []
 
 -- "`object.` and `admin.` read those holders' sets, `env.` and `connect.` the entries"
 unfoldable pub read_by : State → Block → Values

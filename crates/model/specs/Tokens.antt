@@ -1,7 +1,7 @@
 -- The tokens of a policy.
 use Rattle.std.specs.Prelude.{ℕ, zero, suc, ◌≡◌, Bool, true, false, ◌&&◌, ◌||◌, not, List, [], ◌∷◌, ◌++◌, length, leb}
 use Rattle.std.proofs.Math.Option.{Option, none, some}
-use Rattle.model.specs.Notation.{if◌then◌else◌, ◌>>=◌, ◌or_else◌, ◌is◌, only_if, is_empty, all_of}
+use Rattle.model.specs.Notation.{if◌then◌otherwise◌, ◌>>=◌, ◌or_else◌, ◌is◌, only_if, is_empty, all_of}
 use Rattle.model.specs.Bytes.{Bytes, bytes, same, is_byte, in_range, cut_at, behind, one_of}
 use Rattle.model.specs.Limits.{largest_int}
 use Rattle.model.specs.Names.{is_name, read_name}
@@ -131,7 +131,7 @@ word_byte b = in_range "a" "z" b || in_range "A" "Z" b || in_range "0" "9" b || 
 -- "A run of letters, digits, `_` and `.` is one word": the run at the front, and what stands behind it
 abbrev pub run : Bytes → Bytes × Bytes
 run [] = ([], [])
-run (x ∷ xs) = if word_byte x then (let (w, r) = run xs in (x ∷ w, r)) else ([], x ∷ xs)
+run (x ∷ xs) = if word_byte x then (let (w, r) = run xs in (x ∷ w, r)) otherwise ([], x ∷ xs)
 
 -- "names `SRC.NAME`"
 unfoldable pub read_attribute_name : Bytes → Option Token
@@ -160,14 +160,14 @@ read_sign (t ∷ ts) s = (behind (spelling t) s >>= λ rest. some (t, rest)) or_
 unfoldable pub read_token : Bytes → Read
 read_token s =
     let (w, rest) = run s in
-    if is_empty w then ((behind (bytes "\"") s >>= read_text) or_else read_sign signs s) else (read_word w >>= λ t. some (t, rest))
+    if is_empty w then ((behind (bytes "\"") s >>= read_text) or_else read_sign signs s) otherwise (read_word w >>= λ t. some (t, rest))
 
 -- "Byte 32 may stand, any number of times, before, between and after tokens". Each token has a byte, so there are at most n in n bytes
 abbrev pub tokens_within : ℕ → Bytes → Option (List Token)
 tokens_within zero s = only_if (is_empty s) []
 tokens_within (suc n) [] = some []
 tokens_within (suc n) (x ∷ xs) =
-    if is_byte " " x then tokens_within n xs else (read_token (x ∷ xs) >>= λ (t, rest). tokens_within n rest >>= λ ts. some (t ∷ ts))
+    if is_byte " " x then tokens_within n xs otherwise (read_token (x ∷ xs) >>= λ (t, rest). tokens_within n rest >>= λ ts. some (t ∷ ts))
 
 unfoldable pub tokens_of : Bytes → Option (List Token)
 tokens_of s = tokens_within (length s) s
@@ -202,7 +202,7 @@ pub data Spells : List Token → Bytes → Type 0 where
 
 -- document 02, E1: "Rules keep their tokens; one space stands only between two neighbouring words". Whether the token before is a word is told first
 abbrev pub gap : Bool → Token → Bytes
-gap word t = if (word && is_word t) then bytes " " else []
+gap word t = if (word && is_word t) then bytes " " otherwise []
 
 -- tokens behind a word, or behind none
 abbrev pub spelled_behind : Bool → List Token → Bytes

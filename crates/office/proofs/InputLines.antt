@@ -9,7 +9,7 @@ use borrow.Author.Tests.{not-true}
 use lib.ListN.{length, take, drop, length-drop, length-append}
 use lib.Seq.{take-add, drop-drop, take_all, length-take-le, take_at, append_snoc}
 use lib.Dec.{eqb}
-use Rattle.model.specs.Notation.{if◌then◌else◌, ◌>>=◌}
+use Rattle.model.specs.Notation.{if◌then◌otherwise◌, ◌>>=◌}
 use Rattle.model.specs.Bytes.{Bytes, bytes, newline, same, cut, begun, lines_of, content}
 use Rattle.model.specs.Gate.{bare, is_end, file_of, commands_of}
 use Rattle.model.proofs.WordTables.{false-is-true, none-is-some, same-eq}
@@ -88,10 +88,10 @@ end-alone line n = same_truth (same (bare line) (bytes "end=")) (same line (byte
 
 -- the file and the commands of what is left, with the first line read
 module _ (s : Bytes) (n : ℕ) (first : LineLength s n) (h : 1 ≤ length s) where
-  file-line : file_of (lines_of s) ≡ (if is_end (take n s) then [] else take n s ++ file_of (lines_of (drop n s)))
+  file-line : file_of (lines_of s) ≡ (if is_end (take n s) then [] otherwise take n s ++ file_of (lines_of (drop n s)))
   file-line = ap file_of (first.lines h)
 
-  commands-line : commands_of (lines_of s) ≡ (if is_end (take n s) then lines_of (drop n s) else commands_of (lines_of (drop n s)))
+  commands-line : commands_of (lines_of s) ≡ (if is_end (take n s) then lines_of (drop n s) otherwise commands_of (lines_of (drop n s)))
   commands-line = ap commands_of (first.lines h)
 
 -- what is file up to place i, and what is left

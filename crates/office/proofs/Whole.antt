@@ -7,7 +7,7 @@ use mathlib.Core.Option.{some}
 use native.Mathlib.Omega.{arith}
 use borrow.Author.Tests.{le-ltb}
 use lib.ListN.{length, take, drop, length-append, length-drop}
-use Rattle.model.specs.Notation.{if◌then◌else◌, map}
+use Rattle.model.specs.Notation.{if◌then◌otherwise◌, map}
 use Rattle.model.specs.Limits.{Edition, input_bytes}
 use Rattle.model.specs.Numbers as refusal
 use Rattle.model.specs.Bytes.{Bytes, lines_of}
@@ -43,7 +43,7 @@ gate-calls : (input : Bytes) (r : Places) → length input ≤ input_bytes → S
     → gate input ≡ output lent_words (empty Edition.first) (some (Call.load (take r.file input)) ∷ map call_of (lines_of (drop r.commands input)))
 unfolding gate named_edition
 gate-calls input r short s =
-    ap (λ (b : Bool). if b then printed (loaded refusal.too_long 0) else output lent_words (empty Edition.first) (some (Call.load (file_of (lines_of input))) ∷ map call_of (commands_of (lines_of input))))
+    ap (λ (b : Bool). if b then printed (loaded refusal.too_long 0) otherwise output lent_words (empty Edition.first) (some (Call.load (file_of (lines_of input))) ∷ map call_of (commands_of (lines_of input))))
     (le-ltb input_bytes (length input) short)
     ∙ ap₂ (λ (f : Bytes) (ls : List Bytes). output lent_words (empty Edition.first) (some (Call.load f) ∷ map call_of ls)) s.file s.commands
 

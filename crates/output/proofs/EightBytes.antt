@@ -9,7 +9,7 @@ use borrow.Author.Tests.{lt-ltb, le-ltb}
 use lib.ListN.{length, get_or, take, drop, set, length-drop}
 use lib.Seq.{sets, set-get_or, length-take-le, take_all, take-add, drop-drop}
 use lib.Dec.{ltb}
-use Rattle.model.specs.Notation.{if◌then◌else◌}
+use Rattle.model.specs.Notation.{if◌then◌otherwise◌}
 use Rattle.model.specs.Bytes.{Bytes}
 use Rattle.output.specs.Laid.{Laid, word_text}
 use Rattle.output.proofs.Laying.{laid_more}
@@ -23,14 +23,14 @@ pub record Turns (before : Bytes) (at word : ℕ) (out : Bytes) (left i : ℕ) :
 
 -- one turn more
 pub turn : {before : Bytes} {at word : ℕ} {out : Bytes} {left i : ℕ} (n x : ℕ) → Turns before at word out left i → i < 8 → n ≡ length (word_text 8 word)
-    → x ≡ (if ltb i n then left % 256 else get_or out (at + i) 0) → Turns before at word (set out (at + i) x) (left / 256) (i + 1)
+    → x ≡ (if ltb i n then left % 256 otherwise get_or out (at + i) 0) → Turns before at word (set out (at + i) x) (left / 256) (i + 1)
 turn {before} {at} {word} {out} {left} {i} n x p below long is = go (dec_lt 0 left)
   where
     t : Bytes
     t = word_text 8 word
 
-    chosen : (b : Bool) → ltb i n ≡ b → x ≡ (if b then left % 256 else get_or out (at + i) 0)
-    chosen b e = is ∙ ap (λ (c : Bool). if c then left % 256 else get_or out (at + i) 0) e
+    chosen : (b : Bool) → ltb i n ≡ b → x ≡ (if b then left % 256 otherwise get_or out (at + i) 0)
+    chosen b e = is ∙ ap (λ (c : Bool). if c then left % 256 otherwise get_or out (at + i) 0) e
 
     -- from what is laid after the turn, and what i bytes leave of the text
     done : (s : Bytes) → drop i t ≡ s → set out (at + i) x ≡ sets before at (take i t ++ take 1 s) → drop 1 s ≡ word_text (7 - i) (left / 256)

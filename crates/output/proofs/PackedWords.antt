@@ -6,14 +6,14 @@ use mathlib.Core.List.{[], ◌∷◌, ◌++◌, append-nil, append_assoc}
 use native.Mathlib.Omega.{arith}
 use native.Mathlib.Nat.{pow-suc}
 use borrow.Author.Tests.{ne_eqb}
-use Rattle.model.specs.Notation.{if◌then◌else◌}
+use Rattle.model.specs.Notation.{if◌then◌otherwise◌}
 use Rattle.model.specs.Bytes.{Bytes}
 use Rattle.output.specs.Laid.{Laid, word_text}
 use Rattle.output.proofs.Laying.{laid_as, laid_on}
 
 pub word_more : (n w : ℕ) → (w ≡ 0 → ⊥) → word_text (suc n) w ≡ w % 256 ∷ word_text n (w / 256)
 unfolding word_text
-word_more n w h = ap (λ (b : Bool). if b then [] else (w % 256 ∷ word_text n (w / 256))) (ne_eqb w 0 h)
+word_more n w h = ap (λ (b : Bool). if b then [] otherwise (w % 256 ∷ word_text n (w / 256))) (ne_eqb w 0 h)
 
 pub word_none : (n : ℕ) → word_text n 0 ≡ []
 unfolding word_text

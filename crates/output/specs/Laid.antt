@@ -1,7 +1,7 @@
 -- Texts laid over a buffer from a place on, each byte behind the one before. What lies behind the buffer's end is dropped: `sets` writes no byte there.
 use Rattle.std.specs.Prelude.{ℕ, zero, suc, ◌+◌, ◌/◌, ◌%◌, ◌<◌, ◌≡◌, [], ◌∷◌, length, drop, eqb}
 use Rattle.std.proofs.lemmas.List.Edits.{sets}
-use Rattle.model.specs.Notation.{if◌then◌else◌}
+use Rattle.model.specs.Notation.{if◌then◌otherwise◌}
 use Rattle.model.specs.Bytes.{Bytes}
 use Rattle.model.specs.Atoms.{decimal}
 
@@ -17,7 +17,7 @@ far = 18446744073709551615
 -- the bytes of a word, low byte first, up to the last that is not 0; n at most
 unfoldable pub word_text : ℕ → ℕ → Bytes
 word_text zero w = []
-word_text (suc n) w = if eqb w 0 then [] else (w % 256 ∷ word_text n (w / 256))
+word_text (suc n) w = if eqb w 0 then [] otherwise (w % 256 ∷ word_text n (w / 256))
 
 -- the digits of the largest number
 abbrev pub most_digits : ℕ

@@ -3,7 +3,7 @@
 #![tactic(auto)]
 
 ghost use Rattle.std.specs.Prelude.{◌≡◌, [], ◌∷◌, ◌+◌, ◌<◌, ◌≤◌, min, length, ltb};
-ghost use Rattle.model.specs.Notation.{if◌then◌else◌};
+ghost use Rattle.model.specs.Notation.{if◌then◌otherwise◌};
 ghost use Rattle.model.specs.Atoms.{decimal};
 ghost use Rattle.output.specs.Laid.{far, Laid, word_text, most_digits, Digits};
 
@@ -66,7 +66,7 @@ fn width(word: u64) -> usize
 
 // The byte of a word, or the one that stands there already.
 fn kept(new: u8, old: u8, i: usize, n: usize) -> u8
-    ensures { result ≡ (if ltb i n then new else old) }
+    ensures { result ≡ (if ltb i n then new otherwise old) }
 {
     if i < n { new } else { old }
 }

@@ -9,7 +9,7 @@ use native.Mathlib.Decide.{dec_lt}
 use lib.Dec.{eqb, leb}
 use lib.ListN.{length, get_or}
 use borrow.Author.Tests.{le-leb, leb-true, eqb-true, eqb-false}
-use Rattle.model.specs.Notation.{◌>>=◌, ◌or_else◌, only_if, if◌then◌else◌}
+use Rattle.model.specs.Notation.{◌>>=◌, ◌or_else◌, only_if, if◌then◌otherwise◌}
 use Rattle.model.specs.Bytes.{Bytes}
 use Rattle.model.specs.Atoms.{Atom}
 use Rattle.model.specs.Tokens as model
@@ -244,7 +244,7 @@ module _ (code : Bytes) (at : ℕ) where
       go A ts s (some y) a = false-is-true (sym o ∙ a.0)
 
   -- a term: what stands behind its NOT, if it has one
-  pub term-signed : (negated : Bool) → negated ≡ eqb (get_or code at 0) 12 → (n : ℕ) → n ≡ (if negated then at + 1 else at) → (h : Head)
+  pub term-signed : (negated : Bool) → negated ≡ eqb (get_or code at 0) 12 → (n : ℕ) → n ≡ (if negated then at + 1 otherwise at) → (h : Head)
       → Heads (signed_start negated) code n h → Heads (λ ts. term_start ts) code at h
   unfolding term_start
   term-signed true e n f h H = record {

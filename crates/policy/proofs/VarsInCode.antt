@@ -8,7 +8,7 @@ use native.Mathlib.Omega.{arith}
 use lib.Dec.{eqb, leb, ltb}
 use lib.ListN.{length, get_or}
 use borrow.Author.Tests.{eq-eqb, ne_eqb}
-use Rattle.model.specs.Notation.{◌>>=◌, only_if, all_of, is_none, if◌then◌else◌}
+use Rattle.model.specs.Notation.{◌>>=◌, only_if, all_of, is_none, if◌then◌otherwise◌}
 use Rattle.model.specs.Bytes.{Bytes}
 use Rattle.model.specs.Attributes.{AtomType, same_type}
 use Rattle.model.specs.Atoms.{Atom, is_atom, type_of}
@@ -401,8 +401,8 @@ unfolding attribute_operand
 operand-near rows k = go (ltb k 32) (eqb (get_or rows (8 * k) 0) 0) (leb (get_or rows (8 * k) 0) 3)
   where
     go : (a b c : Bool)
-        → ((if a then (if b then no_values else (if c then operand (row_type rows k) 0 k 0 else operand (row_type rows k) 1 k 0)) else no_values).start ≤ k)
-        × ((if a then (if b then no_values else (if c then operand (row_type rows k) 0 k 0 else operand (row_type rows k) 1 k 0)) else no_values).end ≤ k)
+        → ((if a then (if b then no_values otherwise (if c then operand (row_type rows k) 0 k 0 otherwise operand (row_type rows k) 1 k 0)) otherwise no_values).start ≤ k)
+        × ((if a then (if b then no_values otherwise (if c then operand (row_type rows k) 0 k 0 otherwise operand (row_type rows k) 1 k 0)) otherwise no_values).end ≤ k)
     go true true c = (omega arith, omega arith)
     go true false true = (omega arith, omega arith)
     go true false false = (omega arith, omega arith)

@@ -4,7 +4,7 @@
 mod scan;
 
 ghost use Rattle.std.specs.Prelude.{◌≡◌, ◌&&◌, false, ◌+◌, ◌*◌, ◌<◌, ◌≤◌, min, max, eqb, leb, length, get_or};
-ghost use Rattle.model.specs.Notation.{if◌then◌else◌};
+ghost use Rattle.model.specs.Notation.{if◌then◌otherwise◌};
 ghost use Rattle.policy.specs.Starts.{term_start};
 ghost use Rattle.policy.specs.Readers.{Policies, Conjunctions, Terms, Heads, Closes};
 ghost use Rattle.policy.specs.Readers.{Vars, SetVars, ItemsFrom, ConstantEnds, Alone, SecondVars, VarHeads, NoVarHeads};
@@ -281,7 +281,7 @@ fn is_not(code: &[u8], at: usize) -> bool
 // The place behind NOT, if it stands there.
 fn behind_not(code: &[u8], negated: bool, at: usize) -> usize
     requires { negated ≡ eqb (get_or code.now at 0) 12 }
-    ensures { result ≡ (if negated then at + 1 else at) }
+    ensures { result ≡ (if negated then at + 1 otherwise at) }
 {
     if negated {
         return at + 1;

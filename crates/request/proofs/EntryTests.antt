@@ -10,7 +10,7 @@ use lib.Dec.{ltb, leb}
 use lib.ListN.{length, get_or, take, drop}
 use lib.Seq.{get_or-drop, drop-drop}
 use borrow.Author.Tests.{lt-ltb, le-ltb, le-leb, lt-leb}
-use Rattle.model.specs.Notation.{if◌then◌else◌, ◌is◌, all_of, nth}
+use Rattle.model.specs.Notation.{if◌then◌otherwise◌, ◌is◌, all_of, nth}
 use Rattle.model.specs.Bytes.{Bytes}
 use Rattle.model.specs.Attributes.{Source, AtomType, from_block}
 use Rattle.model.specs.Declarations.{Declarations, Attribute}
@@ -125,7 +125,7 @@ module _ (s : Bytes) where
     all_from : (n j : ℕ) → ((i : ℕ) → j ≤ i → i < j + n → p (entry_at s i) ≡ true) → all_of p (entries_of n (drop (5 * j) s)) ≡ true
     all_from zero j f = refl
     all_from (suc n) j f =
-        ap (all_of p) (cons-so n j) ∙ ap (λ (t : Bool). if t then all_of p (entries_of n (drop (5 * suc j) s)) else false) (f j (omega arith) (omega arith))
+        ap (all_of p) (cons-so n j) ∙ ap (λ (t : Bool). if t then all_of p (entries_of n (drop (5 * suc j) s)) otherwise false) (f j (omega arith) (omega arith))
         ∙ all_from n (suc j) (λ i a b. f i (omega arith) (omega arith))
 
     not-from : (n j i : ℕ) → j ≤ i → i < j + n → p (entry_at s i) ≡ false → all_of p (entries_of n (drop (5 * j) s)) ≡ false
@@ -135,15 +135,15 @@ module _ (s : Bytes) where
         rest : Bool
         rest = all_of p (entries_of n (drop (5 * suc j) s))
 
-        either : (t : Bool) → rest ≡ false → (if t then rest else false) ≡ false
+        either : (t : Bool) → rest ≡ false → (if t then rest otherwise false) ≡ false
         either true r = r
         either false r = refl
 
-        go : Dec (j < i) → (j < i → rest ≡ false) → (if p (entry_at s j) then rest else false) ≡ false
+        go : Dec (j < i) → (j < i → rest ≡ false) → (if p (entry_at s j) then rest otherwise false) ≡ false
         go (yes l) more = either (p (entry_at s j)) (more l)
         go (no l) more =
             let d : j ≡ i = omega arith in
-            ap (λ (t : Bool). if t then rest else false) (ap (λ (m : ℕ). p (entry_at s m)) d ∙ e)
+            ap (λ (t : Bool). if t then rest otherwise false) (ap (λ (m : ℕ). p (entry_at s m)) d ∙ e)
 
     pub all_fit : (n : ℕ) → length s ≡ 5 * n → ((i : ℕ) → i < length s / 5 → p (entry_at s i) ≡ true) → true ≡ all_of p (entries_of n s)
     all_fit n e f = sym (all_from n 0 (λ i a b. f i (omega arith)))

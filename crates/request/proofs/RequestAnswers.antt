@@ -7,7 +7,7 @@ use mathlib.Core.List.{List, [], ◌∷◌}
 use mathlib.Core.Option.{Option, none, some}
 use lib.Dec.{eqb}
 use lib.ListN.{length, get_or, take, drop, replicate}
-use Rattle.model.specs.Notation.{if◌then◌else◌, ◌is◌, is_none}
+use Rattle.model.specs.Notation.{if◌then◌otherwise◌, ◌is◌, is_none}
 use Rattle.model.specs.Limits.{Edition, table_words}
 use Rattle.model.specs.Numbers as refusal
 use Rattle.model.specs.Bytes.{Bytes}
@@ -51,10 +51,10 @@ module _ {S : State} {b : Block} {counts targets : List ℕ} {code : Bytes} {att
       ∙ sym unheld
 
   abbrev Answer : model.Decision → Type 0
-  Answer d = d ≡ (if not_held S b then model.refused refusal.not_held else model.decision_by (cause S b) (verdicts S b))
+  Answer d = d ≡ (if not_held S b then model.refused refusal.not_held otherwise model.decision_by (cause S b) (verdicts S b))
 
   pub not-held : r ≡ true → Answer (model.refused refusal.not_held)
-  not-held on = sym (ap (λ (t : Bool). if t then model.refused refusal.not_held else model.decision_by (cause S b) (verdicts S b)) (held-so ∙ on))
+  not-held on = sym (ap (λ (t : Bool). if t then model.refused refusal.not_held otherwise model.decision_by (cause S b) (verdicts S b)) (held-so ∙ on))
 
   -- the session that is opened, where zeros stood
   module _ (object : ℕ) (object-is : object ≡ get_or block 2 0) (declared : ℕ) (declared-is : get_or counts 0 0 ≤ 32 → declared ≡ get_or counts 0 0)
@@ -93,7 +93,7 @@ module _ {S : State} {b : Block} {counts targets : List ℕ} {code : Bytes} {att
         g S b attributes
         (record { operation-is = (head_of block b of.read).operation ∙ sym f; rule-rows = of.rule-rows; session-of = session-of })
         (rules-so rules w)
-        ∙ sym (ap (λ (t : Bool). if t then model.refused refusal.not_held else model.decision_by (cause S b) (verdicts S b)) (held-so ∙ off))
+        ∙ sym (ap (λ (t : Bool). if t then model.refused refusal.not_held otherwise model.decision_by (cause S b) (verdicts S b)) (held-so ∙ off))
 
 -- ---- a request
 
@@ -115,16 +115,16 @@ module _ (S : State) (block : Bytes) where
     abbrev by_tests : Bool → Bool → model.Decision
     by_tests wrong unheld =
         let n = first (refusal.bad_block if false ∷ refusal.wrong_number if wrong ∷ refusal.not_held if unheld ∷ []) in
-        if eqb n 0 then model.decision_by (cause S b) (verdicts S b) else model.refused n
+        if eqb n 0 then model.decision_by (cause S b) (verdicts S b) otherwise model.refused n
 
     pub wrong : true ≡ wrong_number S.declared b → model.refused refusal.wrong_number ≡ model.decide S block
     wrong e = sym (decide_by (some b) read ∙ ap (λ (t : Bool). by_tests t (not_held S b)) (sym e))
 
     pub right : false ≡ wrong_number S.declared b
-        → (if not_held S b then model.refused refusal.not_held else model.decision_by (cause S b) (verdicts S b)) ≡ model.decide S block
+        → (if not_held S b then model.refused refusal.not_held otherwise model.decision_by (cause S b) (verdicts S b)) ≡ model.decide S block
     right e = go (not_held S b) ∙ sym (decide_by (some b) read ∙ ap (λ (t : Bool). by_tests t (not_held S b)) (sym e))
       where
-        go : (t : Bool) → (if t then model.refused refusal.not_held else model.decision_by (cause S b) (verdicts S b)) ≡ by_tests false t
+        go : (t : Bool) → (if t then model.refused refusal.not_held otherwise model.decision_by (cause S b) (verdicts S b)) ≡ by_tests false t
         go true = refl
         go false = refl
 

@@ -7,7 +7,7 @@ use mathlib.Core.Bool.{Bool, true, false, ◌||◌, true≢false}
 use mathlib.Core.List.{List}
 use mathlib.Core.Option.{Option, none, some}
 use lib.ListN.{length, get_or, take, drop}
-use Rattle.model.specs.Notation.{if◌then◌else◌, ◌is◌, nth}
+use Rattle.model.specs.Notation.{if◌then◌otherwise◌, ◌is◌, nth}
 use Rattle.model.specs.Bytes.{Bytes, same}
 use Rattle.model.specs.Truth.{Truth, TRUE, UNDEF, FALSE, is_true, is_undef}
 use Rattle.model.specs.Declarations.{Declarations, Rule, operation_number}
@@ -43,12 +43,12 @@ module _ (S : State) (b : Block) where
   nothing = verdict FALSE false
 
   abbrev of_rule : Option Rule → told.Verdict
-  of_rule o = elim o as (λ _. told.Verdict) [ none ↦ nothing | some r ↦ if nth D.operations b.operation is same r.operation then rule_verdict (read_by S b) r.tokens else nothing ]
+  of_rule o = elim o as (λ _. told.Verdict) [ none ↦ nothing | some r ↦ if nth D.operations b.operation is same r.operation then rule_verdict (read_by S b) r.tokens otherwise nothing ]
 
   told-by : (k : ℕ) (r : Rule) → nth D.rules k ≡ some r → (t : Bool) → (nth D.operations b.operation is same r.operation) ≡ t
-      → verdict_on S b k ≡ (if t then rule_verdict (read_by S b) r.tokens else nothing)
+      → verdict_on S b k ≡ (if t then rule_verdict (read_by S b) r.tokens otherwise nothing)
   unfolding verdict_on
-  told-by k r at t e = ap of_rule at ∙ ap (λ (u : Bool). if u then rule_verdict (read_by S b) r.tokens else nothing) e
+  told-by k r at t e = ap of_rule at ∙ ap (λ (u : Bool). if u then rule_verdict (read_by S b) r.tokens otherwise nothing) e
 
   -- a verdict other than FALSE is that on a rule of the operation
   record ToldOn (k : ℕ) : Type 0 where

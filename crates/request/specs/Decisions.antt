@@ -1,6 +1,6 @@
 -- The decisions of the code, and what the call `decide` promises. Assumes nothing: these are definitions.
 use Rattle.std.specs.Prelude.{ℕ, ◌≡◌, List, length}
-use Rattle.model.specs.Notation.{if◌then◌else◌}
+use Rattle.model.specs.Notation.{if◌then◌otherwise◌}
 use Rattle.model.specs.Limits.{Edition, table_words}
 use Rattle.model.specs.Numbers as refusal
 use Rattle.model.specs.Bytes.{Bytes}
@@ -43,7 +43,7 @@ Decided targets code pairs session entries operation count r =
 abbrev pub Answered : List ℕ → List ℕ → Bytes → List ℕ → List ℕ → List ℕ → Bytes → Bytes → Decision → Type 0
 Answered counts targets code attributes pairs table block entries r =
     (S : State) (b : Block) → RequestOf S b counts targets code attributes pairs table block entries
-    → decision_of r ≡ (if not_held S b then model.refused refusal.not_held else model.decision_by (model.cause S b) (model.verdicts S b))
+    → decision_of r ≡ (if not_held S b then model.refused refusal.not_held otherwise model.decision_by (model.cause S b) (model.verdicts S b))
 
 -- r is what a request is answered: 1 on a table of another length, and as the document says on a book and a table that stand for a state, by its case
 -- and by this paper's number and values. Nothing is written

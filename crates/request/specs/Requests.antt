@@ -1,7 +1,7 @@
 -- What is lent for a request, and what its tests say. Assumes nothing: these are definitions.
 use Rattle.std.specs.Prelude.{ℕ, ◌+◌, ◌*◌, ◌<◌, ◌≡◌, Bool, false, List, length}
 use Rattle.std.proofs.Math.Option.{none, some}
-use Rattle.model.specs.Notation.{if◌then◌else◌, ◌is◌, all_of, nth}
+use Rattle.model.specs.Notation.{if◌then◌otherwise◌, ◌is◌, all_of, nth}
 use Rattle.model.specs.Limits.{pair_limit, entry_bytes}
 use Rattle.model.specs.Bytes.{Bytes, same}
 use Rattle.model.specs.Truth.{FALSE}
@@ -53,7 +53,7 @@ unfoldable pub verdict_on : State → Block → ℕ → Verdict
 verdict_on S b k =
     elim (nth S.declared.rules k) [
       | none ↦ verdict FALSE false
-      | some r ↦ if nth S.declared.operations b.operation is same r.operation then rule_verdict (read_by S b) r.tokens else verdict FALSE false
+      | some r ↦ if nth S.declared.operations b.operation is same r.operation then rule_verdict (read_by S b) r.tokens otherwise verdict FALSE false
     ]
 
 -- the rules, each with the operation that it is for, its target, and what they read

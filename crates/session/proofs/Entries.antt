@@ -10,7 +10,7 @@ use lib.Dec.{eqb}
 use lib.ListN.{length, get_or, take, drop}
 use lib.Seq.{get_or-drop, drop-drop}
 use borrow.Author.Tests.{eqb-true, eqb-false}
-use Rattle.model.specs.Notation.{if◌then◌else◌, map, filter, each, all_of, nth}
+use Rattle.model.specs.Notation.{if◌then◌otherwise◌, map, filter, each, all_of, nth}
 use Rattle.model.specs.Limits.{largest_int}
 use Rattle.model.specs.Bytes.{Bytes}
 use Rattle.model.specs.Attributes.{Source, AtomType}
@@ -58,7 +58,7 @@ module _ (attributes : List Attribute) (s : Source) (n : Bytes) where
     where
       go : (o : Option Attribute) → nth attributes m ≡ o → given s n v o ≡ []
       go none e = refl
-      go (some b) e = ap (λ (t : Bool). if t then entry_value b.type v ∷ [] else []) (f m b e)
+      go (some b) e = ap (λ (t : Bool). if t then entry_value b.type v ∷ [] otherwise []) (f m b e)
 
   pub nothing-entered : ((i : ℕ) (b : Attribute) → nth attributes i ≡ some b → same_source_and_name b.source b.name s n ≡ false)
       → (l : List Entry) → each (λ e. given s n e.value (nth attributes e.attribute)) l ≡ []
@@ -70,7 +70,7 @@ module _ (attributes : List Attribute) (s : Source) (n : Bytes) where
     -- an entry gives a value where its number is that of the attribute
     entry-own : (m v : ℕ) → m ≡ k → given s n v (nth attributes m) ≡ entry_value a.type v ∷ []
     entry-own m v e =
-        ap (given s n v) (ap (nth attributes) e ∙ at) ∙ ap (λ (t : Bool). if t then entry_value a.type v ∷ [] else []) has
+        ap (given s n v) (ap (nth attributes) e ∙ at) ∙ ap (λ (t : Bool). if t then entry_value a.type v ∷ [] otherwise []) has
 
     entry_other : (m v : ℕ) → (m ≡ k → ⊥) → given s n v (nth attributes m) ≡ []
     entry_other m v d = go (nth attributes m) refl
@@ -79,8 +79,8 @@ module _ (attributes : List Attribute) (s : Source) (n : Bytes) where
         go none e = refl
         go (some b) e = named-not (same_source_and_name b.source b.name s n) refl
           where
-            named-not : (t : Bool) → same_source_and_name b.source b.name s n ≡ t → (if same_source_and_name b.source b.name s n then entry_value b.type v ∷ [] else []) ≡ []
-            named-not false q = ap (λ (t : Bool). if t then entry_value b.type v ∷ [] else []) q
+            named-not : (t : Bool) → same_source_and_name b.source b.name s n ≡ t → (if same_source_and_name b.source b.name s n then entry_value b.type v ∷ [] otherwise []) ≡ []
+            named-not false q = ap (λ (t : Bool). if t then entry_value b.type v ∷ [] otherwise []) q
             named-not true q =
                 let (u, w) = named-eq b.source b.name s n q in
                 let (x, y) = named-eq a.source a.name s n has in

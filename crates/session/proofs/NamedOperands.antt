@@ -8,7 +8,7 @@ use mathlib.Core.Option.{Option, none, some, some-injective}
 use lib.Dec.{eqb, leb}
 use lib.ListN.{length, get_or}
 use borrow.Author.Tests.{eq-eqb, eqb-true, le-leb}
-use Rattle.model.specs.Notation.{if◌then◌else◌, ◌is◌, map, each, nth}
+use Rattle.model.specs.Notation.{if◌then◌otherwise◌, ◌is◌, map, each, nth}
 use Rattle.model.specs.Limits.{largest_int}
 use Rattle.model.specs.Bytes.{Bytes}
 use Rattle.model.specs.Attributes.{Source, AtomType, from_block, same_type}
@@ -37,7 +37,7 @@ use Rattle.session.specs.Opened.{reads_pair, may_read, SessionOf}
 use Rattle.session.proofs.HeldValues.{held_from, held-each, held_none, At, held_all}
 use Rattle.session.proofs.Entries.{nothing-entered, entered-each, entered-values}
 
-type-small : (t : AtomType) → (if leb (type_code t) 3 then type_code t else 0) ≡ type_code t
+type-small : (t : AtomType) → (if leb (type_code t) 3 then type_code t otherwise 0) ≡ type_code t
 type-small AtomType.int = refl
 type-small AtomType.str = refl
 type-small AtomType.bool = refl
@@ -209,9 +209,9 @@ module _ (S : State) (b : Block) (attributes pairs session : List ℕ) (entries 
       → same_source_and_name a.source a.name Source.user n ≡ true → Stands L (attribute_operand attributes k) (user_values S b n)
   unfolding user_values
   user-stand n k a number at has =
-      subst (λ (t : Option ℕ). Stands L (attribute_operand attributes k) (if t is activated b then held S b.user Source.user n else [])) (sym number) (go (activated b k) refl)
+      subst (λ (t : Option ℕ). Stands L (attribute_operand attributes k) (if t is activated b then held S b.user Source.user n otherwise [])) (sym number) (go (activated b k) refl)
     where
-      go : (t : Bool) → activated b k ≡ t → Stands L (attribute_operand attributes k) (if t then held S b.user Source.user n else [])
+      go : (t : Bool) → activated b k ≡ t → Stands L (attribute_operand attributes k) (if t then held S b.user Source.user n otherwise [])
       go true e =
           holder-stand Source.user n k a number at has refl b.user (λ p. ap (λ (t : Bool). t && effective_set D S.ties b.user p) e)
       go false e =
@@ -259,7 +259,7 @@ module _ (S : State) (b : Block) (attributes pairs session : List ℕ) (entries 
 
   pub reads_nothing : (s : Source) (n : Bytes) → attribute_number D s n ≡ none → read_by S b s n ≡ []
   unfolding read_by user_values
-  reads_nothing Source.user n e = ap (λ (t : Option ℕ). if t is activated b then held S b.user Source.user n else []) e
+  reads_nothing Source.user n e = ap (λ (t : Option ℕ). if t is activated b then held S b.user Source.user n otherwise []) e
   reads_nothing Source.object n e = held-nowhere Source.object n e b.object
   reads_nothing Source.admin n e = held-nowhere Source.admin n e 0
   reads_nothing Source.env n e = entered-nowhere Source.env n e

@@ -9,7 +9,7 @@ use mathlib.Core.Option.{Option, none, some}
 use lib.Dec.{eqb, ltb}
 use lib.ListN.{length, get_or, replicate}
 use borrow.Author.Tests.{lt-ltb, le-ltb}
-use Rattle.model.specs.Notation.{if◌then◌else◌, ◌is◌, nth}
+use Rattle.model.specs.Notation.{if◌then◌otherwise◌, ◌is◌, nth}
 use Rattle.model.specs.Attributes.{Source}
 use Rattle.model.specs.Declarations.{Attribute}
 use Rattle.model.specs.Table.{effective_set}
@@ -50,17 +50,17 @@ module _ (S : State) (b : Block) (rows table : List ℕ) (ar : AttributeRows row
   abbrev read : ℕ → Bool
   read source =
       in_table table
-      (if eqb source 1 then (if bit b.mask k then b.user else length table)
-      else (if eqb source 2 then b.object
-      else (if eqb source 3 then 0 else length table))) p
+      (if eqb source 1 then (if bit b.mask k then b.user otherwise length table)
+      otherwise (if eqb source 2 then b.object
+      otherwise (if eqb source 3 then 0 otherwise length table))) p
 
   by-source : (s : Source) → read (source_code s) ≡ reads_pair S b k p s
   by-source Source.user = go (activated b k) (mask-bit b k)
     where
       go : (t : Bool) → bit b.mask k ≡ t
-          → in_table table (if bit b.mask k then b.user else length table) p ≡ (t && effective_set S.declared S.ties b.user p)
-      go true e = ap (λ (t : Bool). in_table table (if t then b.user else length table) p) e ∙ its-set S table b.user p sets.user-set h
-      go false e = ap (λ (t : Bool). in_table table (if t then b.user else length table) p) e ∙ no-set table p
+          → in_table table (if bit b.mask k then b.user otherwise length table) p ≡ (t && effective_set S.declared S.ties b.user p)
+      go true e = ap (λ (t : Bool). in_table table (if t then b.user otherwise length table) p) e ∙ its-set S table b.user p sets.user-set h
+      go false e = ap (λ (t : Bool). in_table table (if t then b.user otherwise length table) p) e ∙ no-set table p
   by-source Source.object = its-set S table b.object p sets.object-set h
   by-source Source.admin = its-set S table 0 p sets.admin-set h
   by-source Source.env = no-set table p
@@ -97,11 +97,11 @@ pub opens : (S : State) (b : Block) (rows table before session : List ℕ) (coun
     → OpenedFirst rows table b.user b.object b.mask count before session → Opened S b session
 opens S b rows table before session count ar sets all empty f k p small h = f k p h ∙ go (dec_lt k count)
   where
-    go : Dec (k < count) → (if ltb k count then opened_pair rows table b.user b.object b.mask k p else holds before k p) ≡ may_read S b k p
+    go : Dec (k < count) → (if ltb k count then opened_pair rows table b.user b.object b.mask k p otherwise holds before k p) ≡ may_read S b k p
     go (yes l) =
-        ap (λ (t : Bool). if t then opened_pair rows table b.user b.object b.mask k p else holds before k p) (lt-ltb k count l)
+        ap (λ (t : Bool). if t then opened_pair rows table b.user b.object b.mask k p otherwise holds before k p) (lt-ltb k count l)
         ∙ opened-pair S b rows table ar sets k p small h
     go (no l) =
-        ap (λ (t : Bool). if t then opened_pair rows table b.user b.object b.mask k p else holds before k p) (le-ltb k count (omega arith))
+        ap (λ (t : Bool). if t then opened_pair rows table b.user b.object b.mask k p otherwise holds before k p) (le-ltb k count (omega arith))
         ∙ empty k p
         ∙ sym (not-declared S b rows table ar sets k p small h (omega arith))

@@ -10,7 +10,7 @@ use lib.Dec.{eqb, ltb}
 use lib.ListN.{length, get_or, set, length-set}
 use lib.Seq.{get_or-set_same, get_or-set_other}
 use borrow.Author.Tests.{eq-eqb, ne_eqb, lt-ltb, le-ltb}
-use Rattle.model.specs.Notation.{if◌then◌else◌}
+use Rattle.model.specs.Notation.{if◌then◌otherwise◌}
 use Rattle.bits.specs.Bits.{bit, member, Numbers, holds, any_below, differ}
 use Rattle.bits.proofs.Bits.{bit-and}
 use Rattle.bits.proofs.Sets.{four, member-none}
@@ -122,21 +122,21 @@ module _ (s : List ℕ) (k : ℕ) (w : List ℕ) (long : length s ≡ 128) (smal
   stores j p h = go (ℕ_discrete j k)
     where
       go : Dec (j ≡ k) → bit (get_or stored (4 * j + p / 64) 0) (p % 64)
-          ≡ (if eqb j k then bit (get_or w (p / 64) 0) (p % 64) else bit (get_or s (4 * j + p / 64) 0) (p % 64))
+          ≡ (if eqb j k then bit (get_or w (p / 64) 0) (p % 64) otherwise bit (get_or s (4 * j + p / 64) 0) (p % 64))
       go (yes e) =
           ap (λ (i : ℕ). bit (get_or stored (4 * i + p / 64) 0) (p % 64)) e
           ∙ ap (λ (x : ℕ). bit x (p % 64)) (written (p / 64) (omega arith))
-          ∙ sym (ap (λ (t : Bool). if t then bit (get_or w (p / 64) 0) (p % 64) else bit (get_or s (4 * j + p / 64) 0) (p % 64)) (eq-eqb j k e))
+          ∙ sym (ap (λ (t : Bool). if t then bit (get_or w (p / 64) 0) (p % 64) otherwise bit (get_or s (4 * j + p / 64) 0) (p % 64)) (eq-eqb j k e))
       go (no n) =
           let l : p / 64 < 4 = omega arith in
           ap (λ (x : ℕ). bit x (p % 64))
           (elsewhere (4 * j + p / 64) (λ z. n (omega arith)) (λ z. n (omega arith)) (λ z. n (omega arith)) (λ z. n (omega arith)))
-          ∙ sym (ap (λ (t : Bool). if t then bit (get_or w (p / 64) 0) (p % 64) else bit (get_or s (4 * j + p / 64) 0) (p % 64)) (ne_eqb j k n))
+          ∙ sym (ap (λ (t : Bool). if t then bit (get_or w (p / 64) 0) (p % 64) otherwise bit (get_or s (4 * j + p / 64) 0) (p % 64)) (ne_eqb j k n))
 
 -- no attribute is opened, and one more
 pub none_yet : (rows table : List ℕ) (user object mask : ℕ) (session : List ℕ) → OpenedFirst rows table user object mask 0 session session
 none_yet rows table user object mask session k p h =
-    sym (ap (λ (t : Bool). if t then opened_pair rows table user object mask k p else holds session k p) (le-ltb k 0 (omega arith)))
+    sym (ap (λ (t : Bool). if t then opened_pair rows table user object mask k p otherwise holds session k p) (le-ltb k 0 (omega arith)))
 
 module _ (rows table : List ℕ) (user object mask k : ℕ) (start before after words : List ℕ) (holder : ℕ)
     (held : holder ≡ holder_for rows (length table) user object mask k)
@@ -147,21 +147,21 @@ module _ (rows table : List ℕ) (user object mask k : ℕ) (start before after 
   one_more f j p h = put j p h ∙ go (ℕ_discrete j k)
     where
       opened : Bool → Bool
-      opened t = if t then opened_pair rows table user object mask j p else holds start j p
+      opened t = if t then opened_pair rows table user object mask j p otherwise holds start j p
 
       elsewhere-so : (j ≡ k → ⊥) → Dec (j < k) → ltb j k ≡ ltb j (k + 1)
       elsewhere-so n (yes l) = lt-ltb j k l ∙ sym (lt-ltb j (k + 1) (omega arith))
       elsewhere-so n (no l) = le-ltb j k (omega arith) ∙ sym (le-ltb j (k + 1) (omega arith))
 
-      go : Dec (j ≡ k) → (if eqb j k then member words p else holds before j p) ≡ opened (ltb j (k + 1))
+      go : Dec (j ≡ k) → (if eqb j k then member words p otherwise holds before j p) ≡ opened (ltb j (k + 1))
       go (yes e) =
-          ap (λ (t : Bool). if t then member words p else holds before j p) (eq-eqb j k e)
+          ap (λ (t : Bool). if t then member words p otherwise holds before j p) (eq-eqb j k e)
           ∙ word p h
           ∙ ap (λ (i : ℕ). in_table table i p && masked rows k p) held
           ∙ ap (λ (i : ℕ). opened_pair rows table user object mask i p) (sym e)
           ∙ sym (ap opened (lt-ltb j (k + 1) (omega arith)))
       go (no n) =
-          ap (λ (t : Bool). if t then member words p else holds before j p) (ne_eqb j k n) ∙ f j p h ∙ ap opened (elsewhere-so n (dec_lt j k))
+          ap (λ (t : Bool). if t then member words p otherwise holds before j p) (ne_eqb j k n) ∙ f j p h ∙ ap opened (elsewhere-so n (dec_lt j k))
 
 -- ---- held attributes
 

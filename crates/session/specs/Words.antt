@@ -1,6 +1,6 @@
 -- The words of a session, by the rows of attributes and the table.
 use Rattle.std.specs.Prelude.{ℕ, ◌*◌, ◌/◌, ◌<◌, ◌≡◌, Bool, not, ◌&&◌, List, eqb, ltb, length, get_or}
-use Rattle.model.specs.Notation.{if◌then◌else◌}
+use Rattle.model.specs.Notation.{if◌then◌otherwise◌}
 use Rattle.model.specs.Limits.{pair_limit, mask_bits}
 use Rattle.model.specs.Table.{effective_set}
 use Rattle.model.specs.State.{State}
@@ -11,9 +11,9 @@ use Rattle.rows.specs.Rows.{masked}
 -- the holder whose set an attribute's names read, by the source in its row; `nobody` where there is none
 unfoldable pub holder_for : List ℕ → ℕ → ℕ → ℕ → ℕ → ℕ → ℕ
 holder_for rows nobody user object mask k =
-    if eqb (get_or rows (8 * k) 0) 1 then (if bit mask k then user else nobody)
-    else (if eqb (get_or rows (8 * k) 0) 2 then object
-    else (if eqb (get_or rows (8 * k) 0) 3 then 0 else nobody))
+    if eqb (get_or rows (8 * k) 0) 1 then (if bit mask k then user otherwise nobody)
+    otherwise (if eqb (get_or rows (8 * k) 0) 2 then object
+    otherwise (if eqb (get_or rows (8 * k) 0) 3 then 0 otherwise nobody))
 
 -- the table has words of holder h, and pair p is in its set
 unfoldable pub in_table : List ℕ → ℕ → ℕ → Bool
@@ -26,11 +26,11 @@ opened_pair rows table user object mask k p = in_table table (holder_for rows (l
 -- the words of the first `count` attributes are opened, those of the others as before
 abbrev pub OpenedFirst : List ℕ → List ℕ → ℕ → ℕ → ℕ → ℕ → List ℕ → List ℕ → Type 0
 OpenedFirst rows table user object mask count before after =
-    (k p : ℕ) → p < pair_limit → holds after k p ≡ (if ltb k count then opened_pair rows table user object mask k p else holds before k p)
+    (k p : ℕ) → p < pair_limit → holds after k p ≡ (if ltb k count then opened_pair rows table user object mask k p otherwise holds before k p)
 
 -- the words of attribute k are w, those of the others as before
 abbrev pub WordsWritten : List ℕ → ℕ → (ℕ → Bool) → List ℕ → Type 0
-WordsWritten before k f after = (j p : ℕ) → p < pair_limit → holds after j p ≡ (if eqb j k then f p else holds before j p)
+WordsWritten before k f after = (j p : ℕ) → p < pair_limit → holds after j p ≡ (if eqb j k then f p otherwise holds before j p)
 
 -- the table holds exactly the effective pairs of holder k
 pub record SetOf (S : State) (table : List ℕ) (k : ℕ) : Type 0 where

@@ -8,7 +8,7 @@ use mathlib.Core.Option.{Option, some, some-injective}
 use native.Mathlib.Omega.{arith}
 use lib.Dec.{eqb}
 use lib.ListN.{length, get_or}
-use Rattle.model.specs.Notation.{if◌then◌else◌, ◌>>=◌, map, each, filter, nth, below}
+use Rattle.model.specs.Notation.{if◌then◌otherwise◌, ◌>>=◌, map, each, filter, nth, below}
 use Rattle.model.specs.Bytes.{Bytes}
 use Rattle.model.specs.Limits.{holder_numbers}
 use Rattle.model.specs.Declarations.{Holder, Sort, holder_of, sort_of, holder_numbers_of, is_sort}
@@ -52,7 +52,7 @@ each-same-numbers (x ∷ xs) = ap (λ (l : List ℕ). x ∷ l) (each-same-number
 
 -- the line of a holder of sort a, among those of sort s
 sort-line : (a s : Sort) (n : Bytes) → is_sort s Sort.admin ≡ false
-    → (if eqb (sort_code a) (sort_code s) then listed_text key_words (sort_code s) ++ (n ++ line_end) else []) ≡ (if is_sort a s then line_text (holder a n) else [])
+    → (if eqb (sort_code a) (sort_code s) then listed_text key_words (sort_code s) ++ (n ++ line_end) otherwise []) ≡ (if is_sort a s then line_text (holder a n) otherwise [])
 unfolding listed_text word_text
 sort-line Sort.admin Sort.ugroup n other = refl
 sort-line Sort.ugroup Sort.ugroup n other = refl
@@ -120,14 +120,14 @@ module _ {book : List ℕ} {rules : Bytes} {S : State} (standing : Standing S) (
 
   -- the line of one holder, among those of a sort
   line-is : (s : Sort) → is_sort s Sort.admin ≡ false → (k : ℕ) (h : Holder) → nth S.declared.holders k ≡ some h
-      → holder_line_text book (sort_code s) k ≡ (if is_sort h.sort s then line_text (holder_line h) else [])
+      → holder_line_text book (sort_code s) k ≡ (if is_sort h.sort s then line_text (holder_line h) otherwise [])
   unfolding holder_line_text sort_of
   line-is s other k h e =
       let f = holder-nth k h e in
       let l : k < 256 = holder-in-book standing held k (holder-below S.declared k (holder-number S.declared k f)) in
       let g : get_or book ((section.sorts).start + k) 0 ≡ sort_code h.sort =
       word_at section.sorts book (held.sorts k l ∙ ap (λ (o : Option Holder). coded sort_code (o >>= λ h. some h.sort)) f) l refl in
-      ap₂ (λ (c : ℕ) (n : Bytes). if eqb c (sort_code s) then listed_text key_words (sort_code s) ++ (n ++ line_end) else []) g (holder_name k h f)
+      ap₂ (λ (c : ℕ) (n : Bytes). if eqb c (sort_code s) then listed_text key_words (sort_code s) ++ (n ++ line_end) otherwise []) g (holder_name k h f)
       ∙ sort-line h.sort s h.name other
 
   in_order_lem : holders_in_order S.declared ≡ S.declared.holders
@@ -139,7 +139,7 @@ module _ {book : List ℕ} {rules : Bytes} {S : State} (standing : Standing S) (
       → sort_text book (sort_code s) ≡ each line_text (map holder_line (filter (λ h. is_sort h.sort s) (holders_in_order S.declared)))
   sort-text s other =
       ap (λ (n : ℕ). each (holder_line_text book (sort_code s)) (below n)) holder-count
-      ∙ each-place (λ h. if is_sort h.sort s then line_text (holder_line h) else []) (holder_line_text book (sort_code s)) S.declared.holders (line-is s other)
+      ∙ each-place (λ h. if is_sort h.sort s then line_text (holder_line h) otherwise []) (holder_line_text book (sort_code s)) S.declared.holders (line-is s other)
       ∙ sym (each-filter (λ h. line_text (holder_line h)) (λ h. is_sort h.sort s) S.declared.holders)
       ∙ sym (each_map line_text holder_line (filter (λ h. is_sort h.sort s) S.declared.holders))
       ∙ ap (λ (hs : List Holder). each line_text (map holder_line (filter (λ h. is_sort h.sort s) hs))) (sym in_order_lem)

@@ -7,7 +7,7 @@ use mathlib.Core.Option.{some}
 use native.Mathlib.Omega.{arith}
 use borrow.Author.Tests.{leb-true}
 use lib.ListN.{length, get_or, take, drop, length-append, length-take}
-use Rattle.model.specs.Notation.{if◌then◌else◌, any_of, all_of, nth, map, each}
+use Rattle.model.specs.Notation.{if◌then◌otherwise◌, any_of, all_of, nth, map, each}
 use Rattle.model.specs.Limits.{rule_limit, largest_int}
 use Rattle.model.specs.Bytes.{Bytes, bytes, same}
 use Rattle.model.specs.Atoms.{decimal, quoted}
@@ -90,7 +90,7 @@ code-length D (t ∷ ts) = omega (arith, code-length D ts, length-append (encode
 any-parts : (p : Token → Bool) (x : Token) (xs : List Token) → any_of p (x ∷ xs) ≡ false → (p x ≡ false) × (any_of p xs ≡ false)
 any-parts p x xs e = go (p x) e
   where
-    go : (b : Bool) → (if b then true else any_of p xs) ≡ false → (b ≡ false) × (any_of p xs ≡ false)
+    go : (b : Bool) → (if b then true otherwise any_of p xs) ≡ false → (b ≡ false) × (any_of p xs ≡ false)
     go true e = absurd (true≢false e)
     go false e = (refl, e)
 
@@ -139,8 +139,8 @@ module _ {book : List ℕ} {rules : Bytes} {S : State} (standing : Standing S) (
       let word : word_kind (get_or code place 0) ≡ is_word t = ap word_kind kind ∙ word-kind t a in
       let more : code_text f (is_word t) book code (place + size t) ≡ spelled_behind (is_word t) ts = code-text f (is_word t) (place + size t) ts front.next b y (omega arith) in
       sym (passed [] (gap_text w (get_or code place 0) ++ (token_text book code place ++ code_text f (word_kind (get_or code place 0)) book code (place + size_at code place))) some')
-      ∙ ap₂ (λ (v : Bool) (m : ℕ). (if (w && v) then bytes " " else []) ++ (token_text book code place ++ code_text f v book code (place + m))) word (token-size t c)
-      ∙ ap₂ (λ (u v : Bytes). (if (w && is_word t) then bytes " " else []) ++ (u ++ v)) (token-text t c a x) more
+      ∙ ap₂ (λ (v : Bool) (m : ℕ). (if (w && v) then bytes " " otherwise []) ++ (token_text book code place ++ code_text f v book code (place + m))) word (token-size t c)
+      ∙ ap₂ (λ (u v : Bytes). (if (w && is_word t) then bytes " " otherwise []) ++ (u ++ v)) (token-text t c a x) more
 
   -- ---- the lines
 

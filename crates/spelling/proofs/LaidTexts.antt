@@ -8,7 +8,7 @@ use native.Mathlib.Omega.{arith}
 use borrow.Author.Tests.{eq-eqb, ne_eqb}
 use lib.Dec.{eqb}
 use lib.ListN.{get_or}
-use Rattle.model.specs.Notation.{if◌then◌else◌, each, below}
+use Rattle.model.specs.Notation.{if◌then◌otherwise◌, each, below}
 use Rattle.model.specs.Bytes.{Bytes}
 use Rattle.model.specs.Atoms.{decimal, quoted}
 use Rattle.output.specs.Laid.{Laid}
@@ -46,11 +46,11 @@ module _ {f : ℕ → Bytes} {most : ℕ} where
 -- ---- a text by a test
 
 module _ {A : Type 0} (x y : A) {a b : ℕ} where
-  pub chosen : a ≡ b → x ≡ (if eqb a b then x else y)
-  chosen e = ap (λ (t : Bool). if t then x else y) (sym (eq-eqb a b e))
+  pub chosen : a ≡ b → x ≡ (if eqb a b then x otherwise y)
+  chosen e = ap (λ (t : Bool). if t then x otherwise y) (sym (eq-eqb a b e))
 
-  pub passed : (a ≡ b → ⊥) → y ≡ (if eqb a b then x else y)
-  passed h = ap (λ (t : Bool). if t then x else y) (sym (ne_eqb a b h))
+  pub passed : (a ≡ b → ⊥) → y ≡ (if eqb a b then x otherwise y)
+  passed h = ap (λ (t : Bool). if t then x otherwise y) (sym (ne_eqb a b h))
 
 -- ---- atoms
 

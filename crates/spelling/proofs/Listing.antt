@@ -7,7 +7,7 @@ use mathlib.Core.Option.{some}
 use native.Mathlib.Decide.{dec_lt}
 use native.Mathlib.Omega.{arith}
 use lib.ListN.{length}
-use Rattle.model.specs.Notation.{if◌then◌else◌, map, each, filter, nth, below}
+use Rattle.model.specs.Notation.{if◌then◌otherwise◌, map, each, filter, nth, below}
 use Rattle.model.specs.Bytes.{Bytes}
 use Rattle.model.proofs.Lists.{each_below}
 
@@ -18,12 +18,12 @@ module _ {A B : Type 0} where
   each-ext f g (x ∷ xs) h = ap₂ (λ (l m : List B). l ++ m) (h x) (each-ext f g xs h)
 
   -- of the elements that pass
-  pub each-filter : (f : A → List B) (p : A → Bool) (xs : List A) → each f (filter p xs) ≡ each (λ x. if p x then f x else []) xs
+  pub each-filter : (f : A → List B) (p : A → Bool) (xs : List A) → each f (filter p xs) ≡ each (λ x. if p x then f x otherwise []) xs
   each-filter f p [] = refl
   each-filter f p (x ∷ xs) = go (p x) (each-filter f p xs)
     where
-      go : (b : Bool) → each f (filter p xs) ≡ each (λ y. if p y then f y else []) xs
-          → each f (if b then x ∷ filter p xs else filter p xs) ≡ (if b then f x else []) ++ each (λ y. if p y then f y else []) xs
+      go : (b : Bool) → each f (filter p xs) ≡ each (λ y. if p y then f y otherwise []) xs
+          → each f (if b then x ∷ filter p xs otherwise filter p xs) ≡ (if b then f x otherwise []) ++ each (λ y. if p y then f y otherwise []) xs
       go true e = ap (λ (l : List B). f x ++ l) e
       go false e = e
 

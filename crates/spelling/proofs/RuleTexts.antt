@@ -9,7 +9,7 @@ use borrow.Author.Tests.{ne_eqb, le-leb, lt-leb}
 use lib.Dec.{eqb}
 use lib.ListN.{length, get_or, take, drop, length-drop, drop_of_length-le, get_or-eq_default}
 use lib.Seq.{take_all, take-nil, get_or-drop}
-use Rattle.model.specs.Notation.{if◌then◌else◌}
+use Rattle.model.specs.Notation.{if◌then◌otherwise◌}
 use Rattle.model.specs.Bytes.{Bytes, bytes}
 use Rattle.model.specs.Atoms.{decimal, quoted}
 use Rattle.model.specs.Block.{number, value_at}
@@ -74,9 +74,9 @@ unfolding gap_text
 no_gap false k e = refl
 no_gap true k e = absurd (true≢false (sym e))
 
-pub gap_by : (word : Bool) (k : ℕ) {v : Bool} → not word ≡ false → word_kind k ≡ v → (if v then bytes " " else []) ≡ gap_text word k
+pub gap_by : (word : Bool) (k : ℕ) {v : Bool} → not word ≡ false → word_kind k ≡ v → (if v then bytes " " otherwise []) ≡ gap_text word k
 unfolding gap_text
-gap_by true k e q = ap (λ (x : Bool). if x then bytes " " else []) (sym q)
+gap_by true k e q = ap (λ (x : Bool). if x then bytes " " otherwise []) (sym q)
 gap_by false k e q = absurd (true≢false e)
 
 -- ---- one token: its text, and how many bytes of code it takes

@@ -1,7 +1,7 @@
 -- The fields and lines that the words of a book and the bytes of its rules spell: of what is declared, and of rules. On any words, so that code is compared
 -- with words alone. That these are the lines of the state that a book holds is told by `BookDeclared`, `BookHolders` and `BookRules`.
 use Rattle.std.specs.Prelude.{ℕ, zero, suc, ◌+◌, ◌-◌, ◌*◌, ◌%◌, min, Bool, false, ◌&&◌, ◌||◌, List, [], ◌∷◌, ◌++◌, get_or, take, drop, eqb, leb}
-use Rattle.model.specs.Notation.{if◌then◌else◌, map, each, below}
+use Rattle.model.specs.Notation.{if◌then◌otherwise◌, map, each, below}
 use Rattle.model.specs.Limits.{attribute_limit, operation_limit, pair_limit, rule_limit}
 use Rattle.model.specs.Bytes.{Bytes, bytes, newline}
 use Rattle.model.specs.Atoms.{decimal, quoted}
@@ -66,7 +66,7 @@ string_text book at = name_text book at ++ word_text 8 (get_or book (at + 2) 0)
 unfoldable pub atom_text : List ℕ → ℕ → ℕ → Bytes
 atom_text book type at =
     if eqb type 1 then decimal (get_or book at 0 % 4294967296)
-    else (if eqb type 2 then quoted (string_text book at) else listed_text bool_words (get_or book at 0))
+    otherwise (if eqb type 2 then quoted (string_text book at) otherwise listed_text bool_words (get_or book at 0))
 
 -- SRC.NAME of the attribute whose row is at a place
 unfoldable pub attribute_text : List ℕ → ℕ → Bytes
@@ -104,7 +104,7 @@ pair_line_text book p = listed_text key_words 3 ++ (attribute_text book (row_of_
 -- the line of holder k, if it is of that sort
 unfoldable pub holder_line_text : List ℕ → ℕ → ℕ → Bytes
 holder_line_text book sort k =
-    if eqb (get_or book ((section.sorts).start + k) 0) sort then listed_text key_words sort ++ (name_of_holder book k ++ line_end) else []
+    if eqb (get_or book ((section.sorts).start + k) 0) sort then listed_text key_words sort ++ (name_of_holder book k ++ line_end) otherwise []
 
 -- the lines before the holders
 abbrev pub declared_text : List ℕ → Bytes
@@ -137,7 +137,7 @@ code_string code place = take (get_or code (place + 1) 0) (drop (place + 2) code
 
 -- what goes with a kind of token: that of numbers, of strings, of names, and of those that carry nothing
 abbrev pub by_kind : {A : Type 0} → ℕ → A → A → A → A → A
-by_kind kind int str name plain = if eqb kind 1 then int else (if eqb kind 2 then str else (if eqb kind 4 then name else plain))
+by_kind kind int str name plain = if eqb kind 1 then int otherwise (if eqb kind 2 then str otherwise (if eqb kind 4 then name otherwise plain))
 
 -- the token at a place of rule code
 unfoldable pub token_text : List ℕ → Bytes → ℕ → Bytes
@@ -151,14 +151,14 @@ size_at code place = by_kind (get_or code place 0) 5 (get_or code (place + 1) 0 
 
 -- the space before a token of a kind, behind a word or behind none
 unfoldable pub gap_text : Bool → ℕ → Bytes
-gap_text word kind = if (word && word_kind kind) then bytes " " else []
+gap_text word kind = if (word && word_kind kind) then bytes " " otherwise []
 
 -- the tokens from a place on, up to the first that is none; n at most
 unfoldable pub code_text : ℕ → Bool → List ℕ → Bytes → ℕ → Bytes
 code_text zero word book code place = []
 code_text (suc n) word book code place =
     if eqb (get_or code place 0) 0 then []
-    else (gap_text word (get_or code place 0) ++ (token_text book code place ++ code_text n (word_kind (get_or code place 0)) book code (place + size_at code place)))
+    otherwise (gap_text word (get_or code place 0) ++ (token_text book code place ++ code_text n (word_kind (get_or code place 0)) book code (place + size_at code place)))
 
 -- the policy of a rule's code
 abbrev pub policy_text : List ℕ → Bytes → Bytes

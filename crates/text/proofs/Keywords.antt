@@ -10,7 +10,7 @@ use borrow.Author.Tests.{leb-true, eqb-true, eq-eqb, ne_eqb}
 use lib.ListN.{length, get_or, drop}
 use lib.Seq.{drop-drop, get_or-drop}
 use lib.Dec.{eqb, leb}
-use Rattle.model.specs.Notation.{if◌then◌else◌, all_of, map}
+use Rattle.model.specs.Notation.{if◌then◌otherwise◌, all_of, map}
 use Rattle.model.specs.Bytes.{Bytes, same, one_of}
 use Rattle.model.specs.Block.{number}
 use Rattle.model.proofs.WordTables.{false-is-true, none-is-some, one-of-word, same-eq, same_refl}
@@ -97,7 +97,7 @@ module _ (table : List ℕ) (s : Bytes) where
         let (h, r) = all-parts is_keyword w ws e in
         let a = word_same w h in
         let b = among (k + 1) ws r in
-        λ i. if a i then k else b i
+        λ i. if a i then k otherwise b i
 
     pub keyword-at : (r w : ℕ) → r ≤ length table - 1 → w ≡ number s → r ≡ place_from 1 (λ x. eqb x w) (drop 1 table) → Keyword table s r
     keyword-at r w within n e = record {
@@ -129,7 +129,7 @@ module _ {A : Type 0} (word : A → Bytes) (code : A → ℕ) where
   place-number s k (a ∷ rest) e =
       let (h, r) = parts (eqb (code a) k) (counted_from (k + 1) rest) e in
       let b = place-number s (k + 1) rest r in
-      λ i. if same (word a) s then sym (eqb-true (code a) k h) i else b i
+      λ i. if same (word a) s then sym (eqb-true (code a) k h) i otherwise b i
 
   place-code : (s : Bytes) (codes : List ℕ) → get_or codes 0 0 ≡ 0 → (k : ℕ) (list : List A) → drop k codes ≡ map code list
       → get_or codes (place_from k (λ w. same w s) (map word list)) 0 ≡ selected word code list s
@@ -137,7 +137,7 @@ module _ {A : Type 0} (word : A → Bytes) (code : A → ℕ) where
   place-code s codes z k (a ∷ rest) e = go (same (word a) s) (place-code s codes z (k + 1) rest (sym (drop-drop 1 k codes) ∙ ap (drop 1) e))
     where
       go : (t : Bool) → get_or codes (place_from (k + 1) (λ w. same w s) (map word rest)) 0 ≡ selected word code rest s
-          → get_or codes (if t then k else place_from (k + 1) (λ w. same w s) (map word rest)) 0 ≡ (if t then code a else selected word code rest s)
+          → get_or codes (if t then k otherwise place_from (k + 1) (λ w. same w s) (map word rest)) 0 ≡ (if t then code a otherwise selected word code rest s)
       go true r = simp unary_clauses at (sym (get_or-drop k codes 0 0)) ∙ ap (λ (l : List ℕ). get_or l 0 0) e
       go false r = r
 

@@ -1,6 +1,6 @@
 -- Words of the format in tables, each packed in a word. The number of one is its place; place 0 is that of none.
 use Rattle.std.specs.Prelude.{ℕ, ◌+◌, ◌-◌, ◌≤◌, ◌≡◌, Bool, true, ◌&&◌, List, [], ◌∷◌, length, leb}
-use Rattle.model.specs.Notation.{if◌then◌else◌, all_of, map}
+use Rattle.model.specs.Notation.{if◌then◌otherwise◌, all_of, map}
 use Rattle.model.specs.Bytes.{Bytes, same}
 use Rattle.model.specs.Block.{number}
 use Rattle.text.specs.Packing.{word_bytes, solid}
@@ -12,7 +12,7 @@ is_keyword w = leb 1 (length w) && leb (length w) word_bytes && all_of solid w
 -- the place of the first element that passes, where places are counted from k; 0 where none passes
 abbrev pub place_from : {A : Type 0} → ℕ → (A → Bool) → List A → ℕ
 place_from k p [] = 0
-place_from k p (a ∷ rest) = if p a then k else place_from (k + 1) p rest
+place_from k p (a ∷ rest) = if p a then k otherwise place_from (k + 1) p rest
 
 -- r is the place of s in a table of words, whatever words these are; 0 where s is none of them
 pub record Keyword (table : List ℕ) (s : Bytes) (r : ℕ) : Type 0 where

@@ -2,7 +2,7 @@
 #![tactic(auto)]
 
 ghost use Rattle.std.specs.Prelude.{◌≡◌, true, ◌+◌, ◌/◌, ◌≤◌, ◌<◌, length};
-ghost use Rattle.model.specs.Notation.{if◌then◌else◌, all_of};
+ghost use Rattle.model.specs.Notation.{if◌then◌otherwise◌, all_of};
 ghost use Rattle.model.specs.Bytes.{same};
 ghost use Rattle.model.specs.Names.{is_name, name_byte};
 ghost use Rattle.model.specs.Atoms.{is_text, text_byte, read_int, read_atom};

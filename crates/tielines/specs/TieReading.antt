@@ -2,7 +2,7 @@
 use Rattle.std.specs.Prelude.{ℕ, ◌≡◌, true, List, [], ◌∷◌, eqb}
 use Rattle.std.proofs.Math.Option.{Option, some}
 use Rattle.model.specs.Numbers as refusal
-use Rattle.model.specs.Notation.{if◌then◌else◌, ◌>>=◌, ◌is◌, is_none}
+use Rattle.model.specs.Notation.{if◌then◌otherwise◌, ◌>>=◌, ◌is◌, is_none}
 use Rattle.model.specs.Limits.{pair_limit}
 use Rattle.model.specs.Bytes.{Bytes}
 use Rattle.model.specs.Names.{is_name}
@@ -26,7 +26,7 @@ use Rattle.book.specs.Held.{sort_code, Holds}
 -- the tie of a key, by the number of the edited holder and that of the group or of the pair
 unfoldable pub tie_by : ℕ → ℕ → ℕ → Tie
 tie_by key lower upper =
-    if eqb key (key_code Key.value) then Tie.value lower upper else if eqb key (key_code Key.parent) then Tie.parent lower upper else Tie.member lower upper
+    if eqb key (key_code Key.value) then Tie.value lower upper otherwise if eqb key (key_code Key.parent) then Tie.parent lower upper otherwise Tie.member lower upper
 
 -- the names, the pair and the sorts of a tie line: 8 or 9, or its tie
 abbrev pub tie_tests : State → Line → List Test
@@ -38,7 +38,7 @@ TieOfLine book l r t =
 
 -- which sort stands above which in a tie of that key
 unfoldable pub above_for : ℕ → Sort → Option Sort
-above_for key s = if eqb key (key_code Key.parent) then parent_sort s else group_sort s
+above_for key s = if eqb key (key_code Key.parent) then parent_sort s otherwise group_sort s
 
 abbrev pub SortAbove : ℕ → ℕ → ℕ → Type 0
 SortAbove key sort r = (s : Sort) → sort ≡ sort_code s → r ≡ coded sort_code (above_for key s)

@@ -11,7 +11,7 @@ use lib.Dec.{eqb, ltb}
 use lib.ListN.{get_or, length, set, length-set}
 use lib.Seq.{get_or-set_same, get_or-set_other}
 use borrow.Author.Tests.{eq-eqb, eqb-true, ne_eqb}
-use Rattle.model.specs.Notation.{if◌then◌else◌}
+use Rattle.model.specs.Notation.{if◌then◌otherwise◌}
 use Rattle.model.specs.Declarations.{Declarations, Sort, parent_sort, group_sort}
 use Rattle.model.specs.Ties.{Tie, same_tie, Ties, no_ties, parent, member, value, up}
 use Rattle.model.specs.Edits.{edited_ties}
@@ -55,53 +55,53 @@ pair-test k r h p l m = same_truth (eqb (256 * k + r) (256 * h + p)) (eqb k h &&
 -- ---- a word that is stored anew
 
 module _ (plus : Bool) where
-  tied-set : (ups : List ℕ) (h q v : ℕ) → h < length ups → ((j : ℕ) → bit v j ≡ (if eqb j q then plus else bit (get_or ups h 0) j)) → (k r : ℕ)
-      → tied_up (set ups h v) k r ≡ (if eqb k h && eqb r q then plus else tied_up ups k r)
+  tied-set : (ups : List ℕ) (h q v : ℕ) → h < length ups → ((j : ℕ) → bit v j ≡ (if eqb j q then plus otherwise bit (get_or ups h 0) j)) → (k r : ℕ)
+      → tied_up (set ups h v) k r ≡ (if eqb k h && eqb r q then plus otherwise tied_up ups k r)
   unfolding tied_up
   tied-set ups h q v few one k r = go (ℕ_discrete k h)
     where
-      go : Dec (k ≡ h) → bit (get_or (set ups h v) k 0) r ≡ (if eqb k h && eqb r q then plus else bit (get_or ups k 0) r)
+      go : Dec (k ≡ h) → bit (get_or (set ups h v) k 0) r ≡ (if eqb k h && eqb r q then plus otherwise bit (get_or ups k 0) r)
       go (yes e) =
           ap (λ (i : ℕ). bit (get_or (set ups h v) i 0) r) e ∙ ap (λ (w : ℕ). bit w r) (get_or-set_same ups h v 0 few) ∙ one r
-          ∙ ap₂ (λ (i : ℕ) (b : Bool). if b && eqb r q then plus else bit (get_or ups i 0) r) (sym e) (sym (eq-eqb k h e))
+          ∙ ap₂ (λ (i : ℕ) (b : Bool). if b && eqb r q then plus otherwise bit (get_or ups i 0) r) (sym e) (sym (eq-eqb k h e))
       go (no n) =
           ap (λ (w : ℕ). bit w r) (get_or-set_other ups h k v 0 n)
-          ∙ sym (ap (λ (b : Bool). if b && eqb r q then plus else bit (get_or ups k 0) r) (ne_eqb k h n))
+          ∙ sym (ap (λ (b : Bool). if b && eqb r q then plus otherwise bit (get_or ups k 0) r) (ne_eqb k h n))
 
   holds-set : (own : List ℕ) (h p v : ℕ) → 4 * h + 4 ≤ length own → p < 256
-      → ((j : ℕ) → bit v j ≡ (if eqb j (p % 64) then plus else bit (get_or own (4 * h + p / 64) 0) j))
-      → (k r : ℕ) → r < 256 → holds (set own (4 * h + p / 64) v) k r ≡ (if eqb k h && eqb r p then plus else holds own k r)
+      → ((j : ℕ) → bit v j ≡ (if eqb j (p % 64) then plus otherwise bit (get_or own (4 * h + p / 64) 0) j))
+      → (k r : ℕ) → r < 256 → holds (set own (4 * h + p / 64) v) k r ≡ (if eqb k h && eqb r p then plus otherwise holds own k r)
   holds-set own h p v few low one k r l =
       let d : 4 * h + p / 64 ≡ (256 * h + p) / 64 = omega arith in
       let e : p % 64 ≡ (256 * h + p) % 64 = omega arith in
       sym (holds-member (set own (4 * h + p / 64) v) k r l)
       ∙ ap (λ (i : ℕ). Bits.member (set own i v) (256 * k + r)) d
-      ∙ member-stored own (256 * h + p) v (omega arith) (λ a b. if b then plus else a) (λ b. refl)
-      (λ j. one j ∙ ap₂ (λ (x y : ℕ). if eqb j y then plus else bit (get_or own x 0) j) d e) (256 * k + r) (ℕ_discrete ((256 * k + r) / 64) ((256 * h + p) / 64))
-      ∙ ap₂ (λ (a b : Bool). if b then plus else a) (holds-member own k r l) (pair-test k r h p l low)
+      ∙ member-stored own (256 * h + p) v (omega arith) (λ a b. if b then plus otherwise a) (λ b. refl)
+      (λ j. one j ∙ ap₂ (λ (x y : ℕ). if eqb j y then plus otherwise bit (get_or own x 0) j) d e) (256 * k + r) (ℕ_discrete ((256 * k + r) / 64) ((256 * h + p) / 64))
+      ∙ ap₂ (λ (a b : Bool). if b then plus otherwise a) (holds-member own k r l) (pair-test k r h p l low)
 
 -- ---- ties with one more or less
 
 -- by each tie
-edited-at : (plus : Bool) (t : Tie) (T : Ties) (u : Tie) → edited_ties plus (some t) T u ≡ (if same_tie t u then plus else T u)
+edited-at : (plus : Bool) (t : Tie) (T : Ties) (u : Tie) → edited_ties plus (some t) T u ≡ (if same_tie t u then plus otherwise T u)
 edited-at true t T u = go (same_tie t u)
   where
-    go : (b : Bool) → (b || T u) ≡ (if b then true else T u)
+    go : (b : Bool) → (b || T u) ≡ (if b then true otherwise T u)
     go true = refl
     go false = refl
 edited-at false t T u = go (same_tie t u)
   where
-    go : (b : Bool) → (not b && T u) ≡ (if b then false else T u)
+    go : (b : Bool) → (not b && T u) ≡ (if b then false otherwise T u)
     go true = refl
     go false = refl
 
 -- where one of two is put, and a cleared one is not made up for by the other
-put-left : (x a b plus : Bool) → (plus ≡ false → x ≡ true → b ≡ false) → ((if x then plus else a) || b) ≡ (if x then plus else (a || b))
+put-left : (x a b plus : Bool) → (plus ≡ false → x ≡ true → b ≡ false) → ((if x then plus otherwise a) || b) ≡ (if x then plus otherwise (a || b))
 put-left true a b true n = refl
 put-left true a b false n = n refl refl
 put-left false a b plus n = refl
 
-put_right : (x a b plus : Bool) → (plus ≡ false → x ≡ true → a ≡ false) → (a || (if x then plus else b)) ≡ (if x then plus else (a || b))
+put_right : (x a b plus : Bool) → (plus ≡ false → x ≡ true → a ≡ false) → (a || (if x then plus otherwise b)) ≡ (if x then plus otherwise (a || b))
 put_right true true b true n = refl
 put_right true false b true n = refl
 put_right true a b false n = or-false a ∙ n refl refl
@@ -121,8 +121,8 @@ one-kind D h g x y =
 
 module _ (plus : Bool) (t : Tie) (h g : ℕ) where
   up-edited : (D : Declarations) (T : Ties) → Standing (record { declared = D; ties = T }) → T t ≡ not plus → LeadsUp t h g
-      → (k m : ℕ) → up (edited_ties plus (some t) T) k m ≡ (if eqb k h && eqb m g then plus else up T k m)
-  up-edited D T standing on leads k m = go leads ∙ ap (λ (b : Bool). if b then plus else up T k m) (flip-both h k g m)
+      → (k m : ℕ) → up (edited_ties plus (some t) T) k m ≡ (if eqb k h && eqb m g then plus otherwise up T k m)
+  up-edited D T standing on leads k m = go leads ∙ ap (λ (b : Bool). if b then plus otherwise up T k m) (flip-both h k g m)
     where
       -- a tie that is taken stands
       stood : (line : ℕ → ℕ → Tie) → t ≡ line h g → plus ≡ false → (eqb h k && eqb g m) ≡ true → T (line k m) ≡ true
@@ -130,7 +130,7 @@ module _ (plus : Bool) (t : Tie) (h g : ℕ) where
           let s = parts (eqb h k) (eqb g m) x in
           ap T (ap₂ line (sym (eqb-true h k s.0)) (sym (eqb-true g m s.1)) ∙ sym e) ∙ on ∙ ap not p
 
-      go : LeadsUp t h g → up (edited_ties plus (some t) T) k m ≡ (if eqb h k && eqb g m then plus else up T k m)
+      go : LeadsUp t h g → up (edited_ties plus (some t) T) k m ≡ (if eqb h k && eqb g m then plus otherwise up T k m)
       go (inl e) =
           ap (λ (t : Tie). up (edited_ties plus (some t) T) k m) e
           ∙ ap₂ (λ (a b : Bool). a || b) (edited-at plus (parent h g) T (parent k m)) (edited-at plus (parent h g) T (member k m))
@@ -151,12 +151,12 @@ module _ (plus : Bool) (t : Tie) (h g : ℕ) where
 
 -- a tie of the holder h up to the group of slot q
 module _ (ups : List ℕ) (h q : ℕ) (plus : Bool) (ups' : List ℕ) (long : length ups' ≡ length ups)
-    (bits : (k r : ℕ) → tied_up ups' k r ≡ (if eqb k h && eqb r q then plus else tied_up ups k r)) (own slots : List ℕ) (D : Declarations) (T : Ties) (t : Tie)
+    (bits : (k r : ℕ) → tied_up ups' k r ≡ (if eqb k h && eqb r q then plus otherwise tied_up ups k r)) (own slots : List ℕ) (D : Declarations) (T : Ties) (t : Tie)
     (standing : Standing (record { declared = D; ties = T })) (kept : KeepsTies ups own slots T) (low : q < 64) (live : in_use (length ups) slots q ≡ true)
     (on : T t ≡ not plus) (leads : LeadsUp t h (get_or slots q 0)) where
   -- the slots are distinct: no other one has the group
   groups-edited : (k g : ℕ) → any_below 64 (λ r. tied_up ups' k r && eqb (get_or slots r 0) g)
-      ≡ (if eqb k h && eqb g (get_or slots q 0) then plus else any_below 64 (λ r. tied_up ups k r && eqb (get_or slots r 0) g))
+      ≡ (if eqb k h && eqb g (get_or slots q 0) then plus otherwise any_below 64 (λ r. tied_up ups k r && eqb (get_or slots r 0) g))
   unfolding Distinct
   groups-edited k g = go (eqb k h && eqb g (get_or slots q 0)) refl
     where
@@ -166,7 +166,7 @@ module _ (ups : List ℕ) (h q : ℕ) (plus : Bool) (ups' : List ℕ) (long : le
       old : ℕ → Bool
       old r = tied_up ups k r && eqb (get_or slots r 0) g
 
-      there : (x b : Bool) → ((if x then plus else b) && x) ≡ (plus && x)
+      there : (x b : Bool) → ((if x then plus otherwise b) && x) ≡ (plus && x)
       there true b = refl
       there false b = and-false b ∙ sym (and-false plus)
 
@@ -177,13 +177,13 @@ module _ (ups : List ℕ) (h q : ℕ) (plus : Bool) (ups' : List ℕ) (long : le
           let same : eqb (get_or slots r 0) g ≡ eqb r q = same_truth (eqb (get_or slots r 0) g) (eqb r q)
           (λ x. eq-eqb r q (kept.distinct q r low l live (eqb-true (get_or slots r 0) g x ∙ group)))
           (λ x. eq-eqb (get_or slots r 0) g (ap (λ (i : ℕ). get_or slots i 0) (eqb-true r q x) ∙ sym group)) in
-          ap₂ (λ (a b : Bool). a && b) (bits k r ∙ ap (λ (b : Bool). if b && eqb r q then plus else tied_up ups k r) z.0) same ∙ there (eqb r q) (tied_up ups k r)
+          ap₂ (λ (a b : Bool). a && b) (bits k r ∙ ap (λ (b : Bool). if b && eqb r q then plus otherwise tied_up ups k r) z.0) same ∙ there (eqb r q) (tied_up ups k r)
 
       one-slot : (b : Bool) → any_below 64 (λ r. b && eqb r q) ≡ b
       one-slot true = find-any 64 (λ r. eqb r q) q low (eq-eqb q q refl)
       one-slot false = any_at 64 (λ r. false) (λ r l. refl)
 
-      elsewhere : (eqb k h && eqb g (get_or slots q 0)) ≡ false → (r : ℕ) (b : Bool) → (eqb k h && eqb r q) ≡ b → tied_up ups' k r ≡ (if b then plus else tied_up ups k r)
+      elsewhere : (eqb k h && eqb g (get_or slots q 0)) ≡ false → (r : ℕ) (b : Bool) → (eqb k h && eqb r q) ≡ b → tied_up ups' k r ≡ (if b then plus otherwise tied_up ups k r)
           → new r ≡ old r
       elsewhere e r false y is = ap (λ (a : Bool). a && eqb (get_or slots r 0) g) is
       elsewhere e r true y is =
@@ -193,14 +193,14 @@ module _ (ups : List ℕ) (h q : ℕ) (plus : Bool) (ups' : List ℕ) (long : le
           ap (λ (a : Bool). tied_up ups' k r && a) other ∙ and-false (tied_up ups' k r)
           ∙ sym (ap (λ (a : Bool). tied_up ups k r && a) other ∙ and-false (tied_up ups k r))
 
-      go : (b : Bool) → (eqb k h && eqb g (get_or slots q 0)) ≡ b → any_below 64 new ≡ (if b then plus else any_below 64 old)
+      go : (b : Bool) → (eqb k h && eqb g (get_or slots q 0)) ≡ b → any_below 64 new ≡ (if b then plus otherwise any_below 64 old)
       go true e = any-ext 64 new (λ r. plus && eqb r q) (at_slot e) ∙ one-slot plus
       go false e = any-ext 64 new old (λ r l. elsewhere e r (eqb k h && eqb r q) refl (bits k r))
 
   used-edited : (k r : ℕ) → k < length ups → r < 64 → tied_up ups' k r ≡ true → in_use (length ups) slots r ≡ true
   used-edited k r few l e = go (eqb k h && eqb r q) refl (sym (bits k r) ∙ e)
     where
-      go : (b : Bool) → (eqb k h && eqb r q) ≡ b → (if b then plus else tied_up ups k r) ≡ true → in_use (length ups) slots r ≡ true
+      go : (b : Bool) → (eqb k h && eqb r q) ≡ b → (if b then plus otherwise tied_up ups k r) ≡ true → in_use (length ups) slots r ≡ true
       go true y x = ap (in_use (length ups) slots) (eqb-true r q (parts (eqb k h) (eqb r q) y).1) ∙ live
       go false y x = kept.used k r few l x
 
@@ -209,17 +209,17 @@ module _ (ups : List ℕ) (h q : ℕ) (plus : Bool) (ups' : List ℕ) (long : le
     pairs = λ k p few l. kept.pairs k p (omega arith) l ∙ sym (value-edited plus t h (get_or slots q 0) leads T k p);
     groups = λ k g few.
         up-edited plus t h (get_or slots q 0) D T standing on leads k g
-        ∙ ap (λ (b : Bool). if eqb k h && eqb g (get_or slots q 0) then plus else b) (kept.groups k g (omega arith)) ∙ sym (groups-edited k g);
+        ∙ ap (λ (b : Bool). if eqb k h && eqb g (get_or slots q 0) then plus otherwise b) (kept.groups k g (omega arith)) ∙ sym (groups-edited k g);
     used = λ k r few l e. ap (λ (n : ℕ). in_use n slots r) long ∙ used-edited k r (omega arith) l e;
     distinct = subst (λ (n : ℕ). Distinct n slots) (sym long) kept.distinct;
   }
 
 -- a pair of the holder h
-keeps-value : (own : List ℕ) (h p : ℕ) (plus : Bool) (own' : List ℕ) → ((k r : ℕ) → r < 256 → holds own' k r ≡ (if eqb k h && eqb r p then plus else holds own k r))
+keeps-value : (own : List ℕ) (h p : ℕ) (plus : Bool) (own' : List ℕ) → ((k r : ℕ) → r < 256 → holds own' k r ≡ (if eqb k h && eqb r p then plus otherwise holds own k r))
     → (ups slots : List ℕ) (T : Ties) → KeepsTies ups own slots T → KeepsTies ups own' slots (edited_ties plus (some (value h p)) T)
 keeps-value own h p plus own' bits ups slots T kept = record {
   pairs = λ k r few l.
-      bits k r l ∙ ap₂ (λ (a b : Bool). if b then plus else a) (kept.pairs k r few l) (flip-both k h r p) ∙ sym (edited-at plus (value h p) T (value k r));
+      bits k r l ∙ ap₂ (λ (a b : Bool). if b then plus otherwise a) (kept.pairs k r few l) (flip-both k h r p) ∙ sym (edited-at plus (value h p) T (value k r));
   groups = λ k g few. ap₂ (λ (a b : Bool). a || b) (edited-at plus (value h p) T (parent k g)) (edited-at plus (value h p) T (member k g)) ∙ kept.groups k g few;
   used = kept.used;
   distinct = kept.distinct;
@@ -283,7 +283,7 @@ keeps-none ups own slots no-ups no_own no-slots = record {
 
 -- ---- what the functions do
 
-pub up-changed : (ups : List ℕ) (h q v : ℕ) (plus : Bool) → h < length ups → q < 64 → ((j : ℕ) → bit v j ≡ (if eqb j q then plus else bit (get_or ups h 0) j))
+pub up-changed : (ups : List ℕ) (h q v : ℕ) (plus : Bool) → h < length ups → q < 64 → ((j : ℕ) → bit v j ≡ (if eqb j q then plus otherwise bit (get_or ups h 0) j))
     → MaskChanged ups h q plus (set ups h v)
 up-changed ups h q v plus few low one =
     let words = tied-set plus ups h q v few one in
@@ -294,7 +294,7 @@ up-changed ups h q v plus few low one =
     }
 
 pub value-changed : (own : List ℕ) (h p v : ℕ) (plus : Bool) → 4 * h + 4 ≤ length own → p < 256
-    → ((j : ℕ) → bit v j ≡ (if eqb j (p % 64) then plus else bit (get_or own (4 * h + p / 64) 0) j)) → OwnChanged own h p plus (set own (4 * h + p / 64) v)
+    → ((j : ℕ) → bit v j ≡ (if eqb j (p % 64) then plus otherwise bit (get_or own (4 * h + p / 64) 0) j)) → OwnChanged own h p plus (set own (4 * h + p / 64) v)
 value-changed own h p v plus few low one =
     let words = holds-set plus own h p v few low one in
     record { bits = words; keeps = keeps-value own h p plus (set own (4 * h + p / 64) v) words }

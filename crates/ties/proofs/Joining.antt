@@ -10,7 +10,7 @@ use native.Mathlib.Omega.{arith}
 use lib.Dec.{eqb}
 use lib.ListN.{get_or, length}
 use borrow.Author.Tests.{eq-eqb, ne_eqb}
-use Rattle.model.specs.Notation.{if◌then◌else◌, sum_of, below}
+use Rattle.model.specs.Notation.{if◌then◌otherwise◌, sum_of, below}
 use Rattle.model.specs.Limits.{group_limit}
 use Rattle.model.specs.Declarations.{Declarations, is_holder, holder_numbers_of}
 use Rattle.model.specs.Ties.{Ties, up, Below, one, more, is_below}
@@ -39,9 +39,9 @@ joins-by-few mask = omega (arith, count-below-le 64 (bit mask))
 
 -- holder k's, by whether it is under e
 module _ (ups : List ℕ) (m e k : ℕ) where
-  at-by : (b : Bool) → under ups m e k ≡ b → joins_at ups m e k ≡ (if b then joins_by (get_or ups k 0) else 0)
+  at-by : (b : Bool) → under ups m e k ≡ b → joins_at ups m e k ≡ (if b then joins_by (get_or ups k 0) otherwise 0)
   unfolding joins_at
-  at-by b on = ap (λ (b : Bool). if b then joins_by (get_or ups k 0) else 0) on
+  at-by b on = ap (λ (b : Bool). if b then joins_by (get_or ups k 0) otherwise 0) on
 
   pub joins-at : under ups m e k ≡ true → joins_at ups m e k ≡ joins_by (get_or ups k 0)
   joins-at on = at-by true on
@@ -80,12 +80,12 @@ module _ (ups : List ℕ) (m e : ℕ) where
   pub joins-alone : (n : ℕ) → e < n → ((k : ℕ) → under ups m e k ≡ eqb k e) → joins_under ups m e n ≡ joins_by (get_or ups e 0)
   unfolding joins_under
   joins-alone n l only =
-      let others = sum-none (λ k. if eqb k e then 0 else joins_at ups m e k) (below n) (λ k i. other k (true-or-false (eqb k e))) in
+      let others = sum-none (λ k. if eqb k e then 0 otherwise joins_at ups m e k) (below n) (λ k i. other k (true-or-false (eqb k e))) in
       omega (arith, sum-split (joins_at ups m e) e n l, others, joins-at ups m e e (only e ∙ eq-eqb e e refl))
     where
-      other : (k : ℕ) → (eqb k e ≡ true) ⊎ (eqb k e ≡ false) → ◌≡◌ {A = ℕ} (if eqb k e then 0 else joins_at ups m e k) 0
-      other k (inl y) = ap (λ (b : Bool). if b then 0 else joins_at ups m e k) y
-      other k (inr y) = ap (λ (b : Bool). if b then 0 else joins_at ups m e k) y ∙ none-at ups m e k (only k ∙ y)
+      other : (k : ℕ) → (eqb k e ≡ true) ⊎ (eqb k e ≡ false) → ◌≡◌ {A = ℕ} (if eqb k e then 0 otherwise joins_at ups m e k) 0
+      other k (inl y) = ap (λ (b : Bool). if b then 0 otherwise joins_at ups m e k) y
+      other k (inr y) = ap (λ (b : Bool). if b then 0 otherwise joins_at ups m e k) y ∙ none-at ups m e k (only k ∙ y)
 
 -- ---- on arrays that keep ties
 
@@ -134,8 +134,8 @@ module _ (ups own slots : List ℕ) (D : Declarations) (T : Ties) (standing : St
   unfolding set_joins joins_under joins_at holder_numbers_of joins_by
   joins-are e m there marks =
       sum-filter (λ k. 1 + ties_up (holder_numbers_of D) T k) (λ k. eqb k e || is_below (holder_numbers_of D) T k e) (holder_numbers_of D)
-      ∙ sum-ext (λ k. if eqb k e || is_below (holder_numbers_of D) T k e then 1 + ties_up (holder_numbers_of D) T k else 0) (joins_at ups m e) (holder_numbers_of D)
-      (λ k i. ap₂ (λ (b : Bool) (n : ℕ). if b then 1 + n else 0) (under-is e m marks k) (ties-are-bits k (room k (holder-below D k i))))
+      ∙ sum-ext (λ k. if eqb k e || is_below (holder_numbers_of D) T k e then 1 + ties_up (holder_numbers_of D) T k otherwise 0) (joins_at ups m e) (holder_numbers_of D)
+      (λ k i. ap₂ (λ (b : Bool) (n : ℕ). if b then 1 + n otherwise 0) (under-is e m marks k) (ties-are-bits k (room k (holder-below D k i))))
       ∙ sum-numbers (λ h. h.number) (joins_at ups m e) D.holders (length ups) standing.declarations.holders.ordered (λ k i. room k (holder-below D k i))
       (λ k l out. none-at ups m e k (outside k (absent k out)))
     where

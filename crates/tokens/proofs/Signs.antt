@@ -8,7 +8,7 @@ use native.Mathlib.Omega.{arith}
 use borrow.Author.Tests.{ne_eqb}
 use lib.ListN.{length, get_or, drop}
 use lib.Dec.{eqb}
-use Rattle.model.specs.Notation.{◌>>=◌, ◌or_else◌, is_empty, if◌then◌else◌}
+use Rattle.model.specs.Notation.{◌>>=◌, ◌or_else◌, is_empty, if◌then◌otherwise◌}
 use Rattle.model.specs.Bytes.{Bytes, bytes, behind}
 use Rattle.model.specs.Tokens.{Token, Read, run, read_word, read_text, read_sign, signs, read_token, read_attribute_name, operator, mark, unequal, at_most, at_least, equal, less, greater, lparen, rparen, lbrace, rbrace, comma}
 use Rattle.model.specs.Atoms.{read_int}
@@ -33,15 +33,15 @@ module _ (n : ℕ) where
   pub at-equals : (s : Bytes) (x : ℕ) (t : Token) (other : Bytes → Read) → 1 ≤ length s → get_or s 0 0 ≡ x
       → ((r : Bytes) → token_in n (x ∷ r) ≡ coded_read n ((behind (61 ∷ []) r >>= λ rest. some (t, rest)) or_else other r))
       → (e : Bool) → e ≡ eqb (get_or s 1 0) 61 → (two : ℕ) → two ≡ n - (length s - 2) → (w : Placed) → w ≡ coded_read n (other (drop 1 s))
-      → token_in n s ≡ (if e then placed (code_of t) two else w)
+      → token_in n s ≡ (if e then placed (code_of t) two otherwise w)
   at-equals [] x t other h i f e p two q w l = absurd (omega arith)
   at-equals (a ∷ []) x t other h i f e p two q w l =
-      ap (λ (z : ℕ). token_in n (z ∷ [])) i ∙ f [] ∙ sym l ∙ ap (λ (b : Bool). if b then placed (code_of t) two else w) (sym p)
+      ap (λ (z : ℕ). token_in n (z ∷ [])) i ∙ f [] ∙ sym l ∙ ap (λ (b : Bool). if b then placed (code_of t) two otherwise w) (sym p)
   at-equals (a ∷ y ∷ r) x t other h i f e p two q w l =
-      ap (λ (z : ℕ). token_in n (z ∷ y ∷ r)) i ∙ f (y ∷ r) ∙ go (eqb y 61) ∙ ap (λ (b : Bool). if b then placed (code_of t) two else w) (sym p)
+      ap (λ (z : ℕ). token_in n (z ∷ y ∷ r)) i ∙ f (y ∷ r) ∙ go (eqb y 61) ∙ ap (λ (b : Bool). if b then placed (code_of t) two otherwise w) (sym p)
     where
       go : (b : Bool) → coded_read n (((elim b as (λ _. Option Bytes) [ true ↦ some r | false ↦ none ]) >>= λ rest. some (t, rest)) or_else other (y ∷ r))
-          ≡ (if b then placed (code_of t) two else w)
+          ≡ (if b then placed (code_of t) two otherwise w)
       go true =
           let m : length r ≡ suc (suc (length r)) - 2 = omega arith in
           ap (λ (l : ℕ). placed (code_of t) (n - l)) m ∙ ap (placed (code_of t)) (sym q)

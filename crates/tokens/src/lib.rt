@@ -2,7 +2,7 @@
 #![tactic(auto)]
 
 ghost use Rattle.std.specs.Prelude.{◌≡◌, ◌+◌, ◌-◌, ◌*◌, ◌%◌, ◌≤◌, ◌||◌, false, [], ◌∷◌, length, get_or, eqb};
-ghost use Rattle.model.specs.Notation.{if◌then◌else◌};
+ghost use Rattle.model.specs.Notation.{if◌then◌otherwise◌};
 ghost use Rattle.model.specs.Tokens.{word_byte, read_word, read_attribute_name, read_text};
 ghost use Rattle.tokens.specs.TokenAt.{plain_code, coded_token, placed, coded_read, in_run, lead, capital_kind, word_token, token_in, token_at};
 ghost use Rattle.tokens.specs.RuleCode.{low_bytes, Encodes};
@@ -242,7 +242,7 @@ fn equals_next(s: &[u8]) -> bool
 
 // The first kind and place where t, else the second.
 fn either(t: bool, a: u8, x: usize, b: u8, y: usize) -> Token
-    ensures { result ≡ (if t then placed (plain_code a) x else placed (plain_code b) y) }
+    ensures { result ≡ (if t then placed (plain_code a) x otherwise placed (plain_code b) y) }
 {
     if t { plain(a, x) } else { plain(b, y) }
 }

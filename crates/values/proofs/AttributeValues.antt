@@ -8,7 +8,7 @@ use lib.Dec.{eqb}
 use lib.ListN.{length, get_or, take, drop, length-take, length-drop}
 use lib.Seq.{drop-cons}
 use borrow.Author.Tests.{eq-eqb, ne_eqb, lt-ltb, le-ltb, le-leb, lt-leb}
-use Rattle.model.specs.Notation.{if◌then◌else◌}
+use Rattle.model.specs.Notation.{if◌then◌otherwise◌}
 use Rattle.model.specs.Bytes.{Bytes}
 use Rattle.model.specs.Block.{number, byte_at, value_at}
 use Rattle.bits.specs.Bits.{holds}
@@ -73,13 +73,13 @@ module _ (session : List ℕ) (k i : ℕ) where
 -- the words of an entry's value, by the type
 module _ (ty v : ℕ) where
   pub entry-number : (ty ≡ 3 → ⊥) → words v 0 0 ≡ entry_words ty v
-  entry-number h = sym (ap (λ (t : Bool). if t then words (truth_bit (eqb v 1)) 0 0 else words v 0 0) (ne_eqb ty 3 h))
+  entry-number h = sym (ap (λ (t : Bool). if t then words (truth_bit (eqb v 1)) 0 0 otherwise words v 0 0) (ne_eqb ty 3 h))
 
   pub entry-true : ty ≡ 3 → v ≡ 1 → words 1 0 0 ≡ entry_words ty v
-  entry-true h e = sym (ap₂ (λ (t u : Bool). if t then words (truth_bit u) 0 0 else words v 0 0) (eq-eqb ty 3 h) (eq-eqb v 1 e))
+  entry-true h e = sym (ap₂ (λ (t u : Bool). if t then words (truth_bit u) 0 0 otherwise words v 0 0) (eq-eqb ty 3 h) (eq-eqb v 1 e))
 
   pub entry-false : ty ≡ 3 → (v ≡ 1 → ⊥) → words 0 0 0 ≡ entry_words ty v
-  entry-false h e = sym (ap₂ (λ (t u : Bool). if t then words (truth_bit u) 0 0 else words v 0 0) (eq-eqb ty 3 h) (ne_eqb v 1 e))
+  entry-false h e = sym (ap₂ (λ (t u : Bool). if t then words (truth_bit u) 0 0 otherwise words v 0 0) (eq-eqb ty 3 h) (ne_eqb v 1 e))
 
 module _ (entries : Bytes) (ty k i j : ℕ) (first : First (λ n. eqb (byte_at entries (5 * n)) k) (length entries / 5) i j) where
   pub entry-end : length entries / 5 ≤ j → Finds (entries_from entries ty k) i nothing

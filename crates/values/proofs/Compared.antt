@@ -9,7 +9,7 @@ use native.Mathlib.Omega.{arith}
 use native.Mathlib.Decide.{dec_lt}
 use lib.Dec.{eqb, leb, ltb}
 use borrow.Author.Tests.{eq-eqb, ne_eqb, eqb-true, eqb-false}
-use Rattle.model.specs.Notation.{if◌then◌else◌, any_of, map, is_empty}
+use Rattle.model.specs.Notation.{if◌then◌otherwise◌, any_of, map, is_empty}
 use Rattle.model.specs.Attributes.{same_type}
 use Rattle.model.specs.Atoms.{Atom, int, str, bool, type_of, is_atom}
 use Rattle.model.specs.Truth as model
@@ -44,14 +44,14 @@ like_values Operator.at_least ty l r = order_of ty true r l
 
 -- and of any values
 unfoldable compare_values : Operator → ℕ → ℕ → List Words → List Words → model.Truth
-compare_values o ty ty' l r = if eqb ty ty' then of_present l r (like_values o ty l r) else model.UNDEF
+compare_values o ty ty' l r = if eqb ty ty' then of_present l r (like_values o ty l r) otherwise model.UNDEF
 
 -- what a lone attribute with these values comes to
 unfoldable lone_of : ℕ → List Words → model.Truth
-lone_of ty values = if (eqb ty 3 && not (is_empty values)) then truth (among_values values (words 1 0 0)) else model.UNDEF
+lone_of ty values = if (eqb ty 3 && not (is_empty values)) then truth (among_values values (words 1 0 0)) otherwise model.UNDEF
 
 -- what is said of two operands that have values, by the test for them
-undef-either : (b : Bool) → (if b then model.UNDEF else model.UNDEF) ≡ model.UNDEF
+undef-either : (b : Bool) → (if b then model.UNDEF otherwise model.UNDEF) ≡ model.UNDEF
 undef-either true = refl
 undef-either false = refl
 
@@ -83,7 +83,7 @@ not-inside : (l r : List Words) (t : model.Truth) → NOT (of_present l r t) ≡
 unfolding of_present
 not-inside l r t = go (not (is_empty l) && not (is_empty r))
   where
-    go : (b : Bool) → NOT (if b then t else model.UNDEF) ≡ (if b then NOT t else model.UNDEF)
+    go : (b : Bool) → NOT (if b then t otherwise model.UNDEF) ≡ (if b then NOT t otherwise model.UNDEF)
     go true = refl
     go false = refl
 
@@ -91,18 +91,18 @@ not-inside l r t = go (not (is_empty l) && not (is_empty r))
 module _ (l r : List Words) (t : model.Truth) (a : Bool) (ea : a ≡ not (is_empty l)) where
   pub without-left : a ≡ false → model.UNDEF ≡ of_present l r t
   unfolding of_present
-  without-left fa = sym (ap (λ (x : Bool). if (x && not (is_empty r)) then t else model.UNDEF) (sym ea ∙ fa))
+  without-left fa = sym (ap (λ (x : Bool). if (x && not (is_empty r)) then t otherwise model.UNDEF) (sym ea ∙ fa))
 
   module _ (ta : a ≡ true) (b : Bool) (eb : b ≡ not (is_empty r)) where
-    tested-both : of_present l r t ≡ (if b then t else model.UNDEF)
+    tested-both : of_present l r t ≡ (if b then t otherwise model.UNDEF)
     unfolding of_present
-    tested-both = ap₂ (λ (x y : Bool). if (x && y) then t else model.UNDEF) (sym ea ∙ ta) (sym eb)
+    tested-both = ap₂ (λ (x y : Bool). if (x && y) then t otherwise model.UNDEF) (sym ea ∙ ta) (sym eb)
 
     pub without-right : b ≡ false → model.UNDEF ≡ of_present l r t
-    without-right fb = sym (tested-both ∙ ap (λ (x : Bool). if x then t else model.UNDEF) fb)
+    without-right fb = sym (tested-both ∙ ap (λ (x : Bool). if x then t otherwise model.UNDEF) fb)
 
     pub with-both : b ≡ true → t ≡ of_present l r t
-    with-both tb = sym (tested-both ∙ ap (λ (x : Bool). if x then t else model.UNDEF) tb)
+    with-both tb = sym (tested-both ∙ ap (λ (x : Bool). if x then t otherwise model.UNDEF) tb)
 
 -- the ways through the tests before it
 module _ (o : Operator) (k k' : ℕ) (l r : List Words) where
@@ -117,7 +117,7 @@ module _ (o : Operator) (k k' : ℕ) (l r : List Words) where
   -- whatever the types
   empty : of_present l r (like_values o k l r) ≡ model.UNDEF → compare_values o k k' l r ≡ model.UNDEF
   unfolding compare_values
-  empty h = ap (λ (t : model.Truth). if eqb k k' then t else model.UNDEF) h ∙ undef-either (eqb k k')
+  empty h = ap (λ (t : model.Truth). if eqb k k' then t otherwise model.UNDEF) h ∙ undef-either (eqb k k')
 
 -- searches: what they say of values that are there
 module _ (answer : Words → model.Truth) (p : Words → Bool) (so : (w : Words) → answer w ≡ truth (p w)) where
@@ -130,12 +130,12 @@ module _ (answer : Words → model.Truth) (p : Words → Bool) (so : (w : Words)
       go true = refl
       go false = refl
 
-  sought-so : (l : List Words) → sought_from answer false l ≡ (if not (is_empty l) then truth (any_of p l) else model.UNDEF)
+  sought-so : (l : List Words) → sought_from answer false l ≡ (if not (is_empty l) then truth (any_of p l) otherwise model.UNDEF)
   unfolding sought_from
   sought-so [] = refl
   sought-so (w ∷ l) = sought-all (w ∷ l)
 
-among-so : (values : List Words) (w : Words) → among_of values w ≡ (if not (is_empty values) then truth (among_values values w) else model.UNDEF)
+among-so : (values : List Words) (w : Words) → among_of values w ≡ (if not (is_empty values) then truth (among_values values w) otherwise model.UNDEF)
 unfolding among_of
 among-so values w = sought-so (λ v. truth (same_words w v)) (same_words w) (λ v. refl) values
 
@@ -191,7 +191,7 @@ module _ (k : ℕ) (a : Atom) (l : List Atom) (b : Atom) (m : List Atom) (tl : T
       ty : (x : Atom) → x ≡ a → k ≡ type_code (type_of x)
       ty x p = sym (tl.types a (here refl)) ∙ ap (λ (y : Atom). type_code (type_of y)) (sym p)
 
-      go : (x : Atom) → x ≡ a → (if eqb k 1 then truth (least_below_greatest equal low high) else model.UNDEF) ≡ order before (type_of x) (a ∷ l) (b ∷ m)
+      go : (x : Atom) → x ≡ a → (if eqb k 1 then truth (least_below_greatest equal low high) otherwise model.UNDEF) ≡ order before (type_of x) (a ∷ l) (b ∷ m)
       go (int x) p =
           let e : k ≡ 1 = ty (int x) p in
           rw (eq-eqb k 1 e) (ap truth (f (subst (λ (j : ℕ). Typed j (a ∷ l)) e tl) (subst (λ (j : ℕ). Typed j (b ∷ m)) e tm)))
@@ -378,8 +378,8 @@ module _ (ty : ℕ) (equal : Bool) (low high : List Words) where
 
     pub at-most : equal ≡ true → truth (leb (least_of low) (greatest_of high)) ≡ order_of ty equal low high
     unfolding least_below_greatest
-    at-most f = sym (ap (λ (t : Bool). truth (if t then leb (least_of low) (greatest_of high) else ltb (least_of low) (greatest_of high))) f) ∙ ints
+    at-most f = sym (ap (λ (t : Bool). truth (if t then leb (least_of low) (greatest_of high) otherwise ltb (least_of low) (greatest_of high))) f) ∙ ints
 
     pub strictly : equal ≡ false → truth (ltb (least_of low) (greatest_of high)) ≡ order_of ty equal low high
     unfolding least_below_greatest
-    strictly f = sym (ap (λ (t : Bool). truth (if t then leb (least_of low) (greatest_of high) else ltb (least_of low) (greatest_of high))) f) ∙ ints
+    strictly f = sym (ap (λ (t : Bool). truth (if t then leb (least_of low) (greatest_of high) otherwise ltb (least_of low) (greatest_of high))) f) ∙ ints

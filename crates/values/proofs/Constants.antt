@@ -7,7 +7,7 @@ use mathlib.Core.List.{List, [], ◌∷◌}
 use lib.Dec.{eqb, leb}
 use lib.ListN.{length, take, drop}
 use borrow.Author.Tests.{eq-eqb, ne_eqb, le-leb, lt-leb, leb-true}
-use Rattle.model.specs.Notation.{if◌then◌else◌}
+use Rattle.model.specs.Notation.{if◌then◌otherwise◌}
 use Rattle.model.specs.Bytes.{Bytes}
 use Rattle.model.specs.Block.{byte_at, value_at}
 use Rattle.model.proofs.Options.{parts}
@@ -69,7 +69,7 @@ module _ (code : Bytes) (end i : ℕ) where
   unfolding int_at
   int-moves = go (leb end (length code) && leb (i + 5) end) refl
     where
-      go : (t : Bool) → (leb end (length code) && leb (i + 5) end) ≡ t → Moves (if t then found (words (value_at code (i + 1)) 0 0) (i + 6) else nothing)
+      go : (t : Bool) → (leb end (length code) && leb (i + 5) end) ≡ t → Moves (if t then found (words (value_at code (i + 1)) 0 0) (i + 6) otherwise nothing)
       go true e = λ _.
           let (a, b) = parts (leb end (length code)) (leb (i + 5) end) e in
           let x = leb-true end (length code) a in
@@ -87,7 +87,7 @@ module _ (code : Bytes) (end i : ℕ) where
       rest : Bool
       rest = leb n 24 && leb (i + 2 + n) end
 
-      go : (t : Bool) → (leb end (length code) && (leb (i + 2) end && rest)) ≡ t → Moves (if t then found (three_words (take n (drop (i + 2) code))) (i + 3 + n) else nothing)
+      go : (t : Bool) → (leb end (length code) && (leb (i + 2) end && rest)) ≡ t → Moves (if t then found (three_words (take n (drop (i + 2) code))) (i + 3 + n) otherwise nothing)
       go true e = λ _.
           let (a, d) = parts (leb end (length code)) (leb (i + 2) end && rest) e in
           let (b, f) = parts (leb (i + 2) end) rest d in
@@ -99,23 +99,23 @@ module _ (code : Bytes) (end i : ℕ) where
 module _ (ty : ℕ) (code : Bytes) (end : ℕ) where
   pub as-str : (i : ℕ) → ty ≡ 2 → str_at code end i ≡ constant_at ty code end i
   unfolding constant_at
-  as-str i e = sym (ap (λ (t : Bool). if t then str_at code end i else int_at code end i) (eq-eqb ty 2 e))
+  as-str i e = sym (ap (λ (t : Bool). if t then str_at code end i otherwise int_at code end i) (eq-eqb ty 2 e))
 
   pub as_int : (i : ℕ) → (ty ≡ 2 → ⊥) → int_at code end i ≡ constant_at ty code end i
   unfolding constant_at
-  as_int i e = sym (ap (λ (t : Bool). if t then str_at code end i else int_at code end i) (ne_eqb ty 2 e))
+  as_int i e = sym (ap (λ (t : Bool). if t then str_at code end i otherwise int_at code end i) (ne_eqb ty 2 e))
 
   moves : (i : ℕ) → Moves code end i (constant_at ty code end i)
   unfolding constant_at
   moves i = go (eqb ty 2)
     where
-      go : (t : Bool) → Moves code end i (if t then str_at code end i else int_at code end i)
+      go : (t : Bool) → Moves code end i (if t then str_at code end i otherwise int_at code end i)
       go true = str-moves code end i
       go false = int-moves code end i
 
   -- one step of a walk
   abbrev step : ℕ → ℕ → List Words
-  step n i = if (constant_at ty code end i).here then (constant_at ty code end i).words ∷ constants_within n ty code end (constant_at ty code end i).next else []
+  step n i = if (constant_at ty code end i).here then (constant_at ty code end i).words ∷ constants_within n ty code end (constant_at ty code end i).next otherwise []
 
   within_step : (n i : ℕ) → constants_within (suc n) ty code end i ≡ step n i
   unfolding constants_within
@@ -124,11 +124,11 @@ module _ (ty : ℕ) (code : Bytes) (end : ℕ) where
   step-here : (n i : ℕ) → (constant_at ty code end i).here ≡ true
       → step n i ≡ (constant_at ty code end i).words ∷ constants_within n ty code end (constant_at ty code end i).next
   step-here n i e =
-      ap (λ (t : Bool). if t then (constant_at ty code end i).words ∷ constants_within n ty code end (constant_at ty code end i).next else []) e
+      ap (λ (t : Bool). if t then (constant_at ty code end i).words ∷ constants_within n ty code end (constant_at ty code end i).next otherwise []) e
 
   step-none : (n i : ℕ) → (constant_at ty code end i).here ≡ false → step n i ≡ []
   step-none n i e =
-      ap (λ (t : Bool). if t then (constant_at ty code end i).words ∷ constants_within n ty code end (constant_at ty code end i).next else []) e
+      ap (λ (t : Bool). if t then (constant_at ty code end i).words ∷ constants_within n ty code end (constant_at ty code end i).next otherwise []) e
 
   nothing-within : (n i : ℕ) → (constant_at ty code end i).here ≡ false → constants_within n ty code end i ≡ []
   unfolding constants_within
@@ -193,5 +193,5 @@ module _ (ty : ℕ) (code : Bytes) (end i : ℕ) where
       go : (n j : ℕ) → constants_within n 1 code end j ≡ constants_within n ty code end j
       go zero j = refl
       go (suc n) j =
-          ap (λ (x : Found). if x.here then x.words ∷ constants_within n 1 code end x.next else []) (at j)
-          ∙ ap (λ (l : List Words). if (constant_at ty code end j).here then (constant_at ty code end j).words ∷ l else []) (go n (constant_at ty code end j).next)
+          ap (λ (x : Found). if x.here then x.words ∷ constants_within n 1 code end x.next otherwise []) (at j)
+          ∙ ap (λ (l : List Words). if (constant_at ty code end j).here then (constant_at ty code end j).words ∷ l otherwise []) (go n (constant_at ty code end j).next)

@@ -10,7 +10,7 @@ use mathlib.Core.List.Memᴰ.{tail as there}
 use mathlib.Core.List.{List, [], ◌∷◌}
 use lib.Dec.{leb, ltb}
 use borrow.Author.Tests.{lt-ltb, le-ltb, ltb-true, le-leb, leb-true}
-use Rattle.model.specs.Notation.{any_of, if◌then◌else◌}
+use Rattle.model.specs.Notation.{any_of, if◌then◌otherwise◌}
 use Rattle.model.specs.Limits.{largest_int}
 use Rattle.model.proofs.Lists.{◌∈◌, any-in, in-any, same_truth}
 use Rattle.text.specs.declared.Words.{Words}
@@ -21,12 +21,12 @@ further-cases : (greatest : Bool) (a b : ℕ) → (further greatest a b ≡ a) �
 unfolding further
 further-cases true a b = go (ltb a b)
   where
-    go : (t : Bool) → ((if t then b else a) ≡ a) ⊎ ((if t then b else a) ≡ b)
+    go : (t : Bool) → ((if t then b otherwise a) ≡ a) ⊎ ((if t then b otherwise a) ≡ b)
     go true = inr refl
     go false = inl refl
 further-cases false a b = go (ltb b a)
   where
-    go : (t : Bool) → ((if t then b else a) ≡ a) ⊎ ((if t then b else a) ≡ b)
+    go : (t : Bool) → ((if t then b otherwise a) ≡ a) ⊎ ((if t then b otherwise a) ≡ b)
     go true = inr refl
     go false = inl refl
 
@@ -51,12 +51,12 @@ further-reaches : (greatest : Bool) (a b : ℕ) → Reaches greatest a (further 
 unfolding further
 further-reaches true a b = go (dec_lt a b)
   where
-    go : Dec (a < b) → (a ≤ (if ltb a b then b else a)) × (b ≤ (if ltb a b then b else a))
+    go : Dec (a < b) → (a ≤ (if ltb a b then b otherwise a)) × (b ≤ (if ltb a b then b otherwise a))
     go (yes h) = rw (lt-ltb a b h) (omega arith, omega arith)
     go (no h) = let l : b ≤ a = omega arith in rw (le-ltb a b l) (omega arith, omega arith)
 further-reaches false a b = go (dec_lt b a)
   where
-    go : Dec (b < a) → ((if ltb b a then b else a) ≤ a) × ((if ltb b a then b else a) ≤ b)
+    go : Dec (b < a) → ((if ltb b a then b otherwise a) ≤ a) × ((if ltb b a then b otherwise a) ≤ b)
     go (yes h) = rw (lt-ltb b a h) (omega arith, omega arith)
     go (no h) = let l : a ≤ b = omega arith in rw (le-ltb b a l) (omega arith, omega arith)
 

@@ -5,7 +5,7 @@ use mathlib.Core.Path.{◌≡◌, refl, sym, ap, ◌∙◌}
 use mathlib.Core.Bool.{Bool, false}
 use mathlib.Core.List.{[]}
 use borrow.Author.Tests.{lt-ltb}
-use Rattle.model.specs.Notation.{if◌then◌else◌}
+use Rattle.model.specs.Notation.{if◌then◌otherwise◌}
 use Rattle.bits.specs.Bits.{holds}
 use Rattle.values.specs.declared.Found.{Found}
 use Rattle.values.specs.Operands.{Lent, chosen, pair_words, words_from, entries_from, constant_at, values_from, first_of, operand_values, Stands, operand, no_values}
@@ -15,7 +15,7 @@ use Rattle.values.proofs.Constants.{int-short, as_int, constants-find}
 module _ (L : Lent) (ty k : ℕ) where
   pub session-values : k < 32 → operand_values L (operand ty 0 k 0) ≡ chosen (holds L.session k) (pair_words L.pairs) 256 0
   unfolding values_from first_of words_from
-  session-values h = ap (λ (t : Bool). if t then chosen (holds L.session k) (pair_words L.pairs) 256 0 else []) (lt-ltb k 32 h)
+  session-values h = ap (λ (t : Bool). if t then chosen (holds L.session k) (pair_words L.pairs) 256 0 otherwise []) (lt-ltb k 32 h)
 
   pub block-values : operand_values L (operand ty 1 k 0) ≡ entries_from L.entries ty k 0
   unfolding values_from first_of

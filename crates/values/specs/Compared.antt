@@ -1,6 +1,6 @@
 -- What a comparison asks of the values of two operands.
 use Rattle.std.specs.Prelude.{ℕ, ◌≡◌, Bool, true, false, not, ◌&&◌, List, [], ◌∷◌, eqb, leb, ltb}
-use Rattle.model.specs.Notation.{is_empty, if◌then◌else◌}
+use Rattle.model.specs.Notation.{is_empty, if◌then◌otherwise◌}
 use Rattle.model.specs.Limits.{largest_int}
 use Rattle.model.specs.Bytes.{Bytes}
 use Rattle.model.specs.Atoms.{Atom}
@@ -19,8 +19,8 @@ use Rattle.values.specs.Operands.{Lent, lent, operand_values, Stands}
 
 -- the greater of two numbers, or the less
 unfoldable pub further : Bool → ℕ → ℕ → ℕ
-further true a b = if ltb a b then b else a
-further false a b = if ltb b a then b else a
+further true a b = if ltb a b then b otherwise a
+further false a b = if ltb b a then b otherwise a
 
 -- the greatest, or the least, of `best` and the first words of the values
 unfoldable pub extreme_from : Bool → ℕ → List Words → ℕ
@@ -45,7 +45,7 @@ pub record Extreme (greatest : Bool) (values : List Words) (r : Bound) : Type 0 
 
 -- the least of some values is below the greatest of others, or with `equal` not above it
 unfoldable pub least_below_greatest : Bool → List Words → List Words → Bool
-least_below_greatest equal low high = if equal then leb (least_of low) (greatest_of high) else ltb (least_of low) (greatest_of high)
+least_below_greatest equal low high = if equal then leb (least_of low) (greatest_of high) otherwise ltb (least_of low) (greatest_of high)
 
 -- ---- searches: UNDEF where there is no value
 
@@ -62,7 +62,7 @@ is_false model.TRUE = false
 
 -- what a search says that met no other answer than FALSE: UNDEF where it met no value
 abbrev pub at_end : Bool → model.Truth
-at_end some = if some then model.FALSE else model.UNDEF
+at_end some = if some then model.FALSE otherwise model.UNDEF
 
 -- the first answer of the values that is not FALSE; `some` says whether there was a value before them
 unfoldable pub sought_from : (Words → model.Truth) → Bool → List Words → model.Truth
@@ -74,7 +74,7 @@ unfoldable pub among_of : List Words → Words → model.Truth
 among_of values w = sought_from (λ v. truth (same_words w v)) false values
 
 abbrev pub asked : Bool → model.Truth → model.Truth
-asked wanted t = if wanted then t else NOT t
+asked wanted t = if wanted then t otherwise NOT t
 
 -- whether some left value is among the right, or with `wanted` false, whether some is not
 unfoldable pub found_of : Bool → List Words → List Words → model.Truth
@@ -82,11 +82,11 @@ found_of wanted left right = sought_from (λ w. asked wanted (among_of right w))
 
 -- what is said of two operands that have values
 unfoldable pub of_present : List Words → List Words → model.Truth → model.Truth
-of_present left right t = if (not (is_empty left) && not (is_empty right)) then t else model.UNDEF
+of_present left right t = if (not (is_empty left) && not (is_empty right)) then t otherwise model.UNDEF
 
 -- an order, by the least of some values and the greatest of others; "an order between non-integers" gives UNDEF
 unfoldable pub order_of : ℕ → Bool → List Words → List Words → model.Truth
-order_of ty equal low high = if eqb ty 1 then truth (least_below_greatest equal low high) else model.UNDEF
+order_of ty equal low high = if eqb ty 1 then truth (least_below_greatest equal low high) otherwise model.UNDEF
 
 -- what an order says of two operands, the low one first
 abbrev pub below_of : Lent → Bool → Operand → Operand → model.Truth

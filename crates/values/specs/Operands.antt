@@ -1,6 +1,6 @@
 -- Operands: where the values are that stand beside an operator, and which they are.
 use Rattle.std.specs.Prelude.{ℕ, zero, suc, ◌+◌, ◌-◌, ◌*◌, ◌/◌, ◌≤◌, ◌<◌, ◌≡◌, Bool, true, false, ◌&&◌, List, [], ◌∷◌, eqb, leb, ltb, length, get_or, take, drop}
-use Rattle.model.specs.Notation.{map, filter, all_of, if◌then◌else◌}
+use Rattle.model.specs.Notation.{map, filter, all_of, if◌then◌otherwise◌}
 use Rattle.model.specs.Limits.{attribute_limit, pair_limit, entry_bytes}
 use Rattle.model.specs.Bytes.{Bytes}
 use Rattle.model.specs.Block.{byte_at, value_at}
@@ -44,13 +44,13 @@ abbrev pub pair_words : List ℕ → ℕ → Words
 pair_words pairs p = words (get_or pairs (4 * p + 1) 0) (get_or pairs (4 * p + 2) 0) (get_or pairs (4 * p + 3) 0)
 
 unfoldable pub words_from : List ℕ → List ℕ → ℕ → ℕ → List Words
-words_from pairs session k i = if ltb k attribute_limit then chosen (holds session k) (pair_words pairs) pair_limit i else []
+words_from pairs session k i = if ltb k attribute_limit then chosen (holds session k) (pair_words pairs) pair_limit i otherwise []
 
 -- ---- the entries of an attribute, from number i on
 
 -- "a 32-bit value … (bool 0 or 1)", by the number of the type
 abbrev pub entry_words : ℕ → ℕ → Words
-entry_words ty v = if eqb ty 3 then words (truth_bit (eqb v 1)) 0 0 else words v 0 0
+entry_words ty v = if eqb ty 3 then words (truth_bit (eqb v 1)) 0 0 otherwise words v 0 0
 
 unfoldable pub entries_from : Bytes → ℕ → ℕ → ℕ → List Words
 entries_from entries ty k i =
@@ -66,22 +66,22 @@ nothing = record { here = false; words = words 0 0 0; next = 0 }
 
 -- an int: the four bytes behind its kind; the next constant begins behind the byte that parts them
 unfoldable pub int_at : Bytes → ℕ → ℕ → Found
-int_at code end i = if (leb end (length code) && leb (i + 5) end) then found (words (value_at code (i + 1)) 0 0) (i + 6) else nothing
+int_at code end i = if (leb end (length code) && leb (i + 5) end) then found (words (value_at code (i + 1)) 0 0) (i + 6) otherwise nothing
 
 -- a str: the bytes behind its kind and its length, if they fit three words
 unfoldable pub str_at : Bytes → ℕ → ℕ → Found
 str_at code end i =
     if (leb end (length code) && (leb (i + 2) end && (leb (byte_at code (i + 1)) 24 && leb (i + 2 + byte_at code (i + 1)) end)))
-    then found (three_words (take (byte_at code (i + 1)) (drop (i + 2) code))) (i + 3 + byte_at code (i + 1)) else nothing
+    then found (three_words (take (byte_at code (i + 1)) (drop (i + 2) code))) (i + 3 + byte_at code (i + 1)) otherwise nothing
 
 unfoldable pub constant_at : ℕ → Bytes → ℕ → ℕ → Found
-constant_at ty code end i = if eqb ty 2 then str_at code end i else int_at code end i
+constant_at ty code end i = if eqb ty 2 then str_at code end i otherwise int_at code end i
 
 -- at most n constants: each begins behind the one before it, so that a code's length is enough
 unfoldable pub constants_within : ℕ → ℕ → Bytes → ℕ → ℕ → List Words
 constants_within zero ty code end i = []
 constants_within (suc n) ty code end i =
-    if (constant_at ty code end i).here then (constant_at ty code end i).words ∷ constants_within n ty code end (constant_at ty code end i).next else []
+    if (constant_at ty code end i).here then (constant_at ty code end i).words ∷ constants_within n ty code end (constant_at ty code end i).next otherwise []
 
 abbrev pub constants_from : ℕ → Bytes → ℕ → ℕ → List Words
 constants_from ty code end i = constants_within (length code - i) ty code end i
@@ -92,12 +92,12 @@ constants_from ty code end i = constants_within (length code - i) ty code end i
 unfoldable pub values_from : Lent → Operand → ℕ → List Words
 values_from L o i =
     if eqb o.place 0 then words_from L.pairs L.session o.start i
-    else (if eqb o.place 1 then entries_from L.entries o.ty o.start i
-    else constants_from o.ty L.code o.end i)
+    otherwise (if eqb o.place 1 then entries_from L.entries o.ty o.start i
+    otherwise constants_from o.ty L.code o.end i)
 
 -- where they begin
 unfoldable pub first_of : Operand → ℕ
-first_of o = if leb o.place 1 then 0 else o.start
+first_of o = if leb o.place 1 then 0 otherwise o.start
 
 abbrev pub operand_values : Lent → Operand → List Words
 operand_values L o = values_from L o (first_of o)
@@ -128,12 +128,12 @@ no_values = operand 0 2 0 0
 
 -- the type of row k of attributes, 0 where it is none; and where its values are: in the session for user, object and admin, else in the block
 unfoldable pub row_type : List ℕ → ℕ → ℕ
-row_type rows k = if leb (get_or rows (8 * k + 1) 0) 3 then get_or rows (8 * k + 1) 0 else 0
+row_type rows k = if leb (get_or rows (8 * k + 1) 0) 3 then get_or rows (8 * k + 1) 0 otherwise 0
 
 unfoldable pub attribute_operand : List ℕ → ℕ → Operand
 attribute_operand rows k =
     if ltb k attribute_limit
     then (if eqb (get_or rows (8 * k) 0) 0 then no_values
-    else (if leb (get_or rows (8 * k) 0) 3 then operand (row_type rows k) 0 k 0
-    else operand (row_type rows k) 1 k 0))
-    else no_values
+    otherwise (if leb (get_or rows (8 * k) 0) 3 then operand (row_type rows k) 0 k 0
+    otherwise operand (row_type rows k) 1 k 0))
+    otherwise no_values

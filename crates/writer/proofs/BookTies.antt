@@ -7,7 +7,7 @@ use mathlib.Core.Option.{Option, some, some-injective}
 use native.Mathlib.Omega.{arith}
 use lib.ListN.{length, get_or, drop}
 use lib.Seq.{get_or-take, get_or-drop}
-use Rattle.model.specs.Notation.{if◌then◌else◌, ◌>>=◌, map, each, filter, nth, listed, below}
+use Rattle.model.specs.Notation.{if◌then◌otherwise◌, ◌>>=◌, map, each, filter, nth, listed, below}
 use Rattle.model.specs.Limits.{pair_limit}
 use Rattle.model.specs.Bytes.{Bytes, bytes}
 use Rattle.model.specs.Atoms.{write_atom}
@@ -114,7 +114,7 @@ module _ {book : List ℕ} {rules : Bytes} {S : State} (standing : Standing S) (
 
   -- the line of a tie, if it stands
   abbrev tie_text : Tie → Bytes
-  tie_text t = if S.ties t then each line_text (listed (tie_line S.declared t)) else []
+  tie_text t = if S.ties t then each line_text (listed (tie_line S.declared t)) otherwise []
 
   -- the line of a tie up, from the word of its key
   up-line : (key : ℕ) (line : Bytes → Bytes → Line) → ((x y : Bytes) → listed_text key_words key ++ (x ++ (bytes "," ++ (y ++ line_end))) ≡ line_text (line x y)) → (h g : ℕ) → h < count → g < count
@@ -143,14 +143,14 @@ module _ {book : List ℕ} {rules : Bytes} {S : State} (standing : Standing S) (
   unfolding up_text
   ups-text key tie h k on line =
       sym (ups-of-key book h count key k)
-      ∙ each_same (up_text book key h) (λ g. tie_text (tie h g)) count (λ g l. ap₂ (λ (t : Bool) (x : Bytes). if t then x else []) (on g l) (line g l))
+      ∙ each_same (up_text book key h) (λ g. tie_text (tie h g)) count (λ g l. ap₂ (λ (t : Bool) (x : Bytes). if t then x otherwise []) (on g l) (line g l))
 
   no-ups-text : (key : ℕ) (tie : ℕ → ℕ → Tie) (h : ℕ) → (key_of_ups book h ≡ key → ⊥) → ((g : ℕ) → S.ties (tie h g) ≡ false)
       → holder_ups_text book count key h ≡ each (λ g. tie_text (tie h g)) (below count)
   no-ups-text key tie h k no_tie =
       sym (ups-of-other book h count key k)
       ∙ each_none (λ g. tie_text (tie h g)) 0 count (omega arith)
-      (λ g a b. ap (λ (t : Bool). if t then each line_text (listed (tie_line S.declared (tie h g))) else []) (no_tie g))
+      (λ g a b. ap (λ (t : Bool). if t then each line_text (listed (tie_line S.declared (tie h g))) otherwise []) (no_tie g))
 
   group-key : (h : ℕ) (s : Sort) → sort_of S.declared h ≡ some s → is_group s ≡ true → key_of_ups book h ≡ 8
   group-key h s e f = let (q, a, b, c) = group-slot h s e f in sym (parent-key book h (λ z. omega arith))
@@ -244,9 +244,9 @@ module _ {book : List ℕ} {rules : Bytes} {S : State} (standing : Standing S) (
         let (a, e) = holder-there standing held h l in
         let few = sorted-in-book standing held h (sort-of h a e) in
         sym (each_none (member_text (own_of book h) (value_line_text book h)) (length S.declared.pairs) pair_limit (pairs-fit standing)
-        (λ p i j. ap (λ (t : Bool). if t then value_line_text book h p else []) (own_is h p few j ∙ off (S.ties (Tie.value h p)) (λ on. no-pair p i on))))
+        (λ p i j. ap (λ (t : Bool). if t then value_line_text book h p otherwise []) (own_is h p few j ∙ off (S.ties (Tie.value h p)) (λ on. no-pair p i on))))
         ∙ each_same (member_text (own_of book h) (value_line_text book h)) (λ p. tie_text (Tie.value h p)) (length S.declared.pairs)
-        (λ p i. ap₂ (λ (t : Bool) (x : Bytes). if t then x else []) (own_is h p few (omega (arith, pairs-fit standing))) (value-line h p l i))
+        (λ p i. ap₂ (λ (t : Bool) (x : Bytes). if t then x otherwise []) (own_is h p few (omega (arith, pairs-fit standing))) (value-line h p l i))
       where
         no-pair : (p : ℕ) → length S.declared.pairs ≤ p → S.ties (Tie.value h p) ≡ true → ⊥
         no-pair p i on = let m = nth-lt S.declared.pairs p (standing.ties-fit (Tie.value h p) on).pair_is in omega arith

@@ -10,7 +10,7 @@ use borrow.Author.Tests.{ne_eqb}
 use lib.Dec.{eqb}
 use lib.ListN.{length, get_or, take, drop, length-drop}
 use lib.Seq.{length-take-le}
-use Rattle.model.specs.Notation.{if◌then◌else◌, each, below}
+use Rattle.model.specs.Notation.{if◌then◌otherwise◌, each, below}
 use Rattle.model.specs.Bytes.{Bytes}
 use Rattle.bits.specs.Bits.{bit, member}
 use Rattle.bits.specs.Lowest.{FirstFrom}
@@ -89,11 +89,11 @@ groups-end {slots} {mask} {before} {groups} {left} so_far none = record {
 module _ (s : List ℕ) (line : ℕ → Bytes) where
   among-lacks : (k : ℕ) → member s k ≡ false → member_text s line k ≡ []
   unfolding member_text
-  among-lacks k e = ap (λ (t : Bool). if t then line k else []) e
+  among-lacks k e = ap (λ (t : Bool). if t then line k otherwise []) e
 
   among_there : (k : ℕ) → member s k ≡ true → line k ≡ member_text s line k
   unfolding member_text
-  among_there k e = ap (λ (t : Bool). if t then line k else []) (sym e)
+  among_there k e = ap (λ (t : Bool). if t then line k otherwise []) (sym e)
 
   -- the lines of the members below k are laid, each of `most` bytes at most, and k is the next member, or no number below n
   pub record WalkLaid (most n : ℕ) (before : Bytes) (at : ℕ) (out : Bytes) (m k : ℕ) : Type 0 where
@@ -156,7 +156,7 @@ pub ups-among : (groups before book : List ℕ) (n key h : ℕ) {mask : ℕ} →
 unfolding member_text up_text
 ups-among groups before book n key h {mask} few empty same added =
     each_same (member_text groups (up_line_text book key h)) (up_text book key h) n
-    (λ g l. ap (λ (t : Bool). if t then up_line_text book key h g else [])
+    (λ g l. ap (λ (t : Bool). if t then up_line_text book key h g otherwise [])
     (added.members g (omega arith) ∙ ap (λ (b : Bool). b || in_mask (section_words section.slots book) mask g) (empty g) ∙ ap (λ (m : ℕ). in_mask (section_words section.slots book) m g) same))
 
 -- ---- values

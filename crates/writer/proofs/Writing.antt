@@ -8,7 +8,7 @@ use borrow.Author.Tests.{lt-ltb, le-ltb}
 use lib.ListN.{length, drop}
 use lib.Seq.{sets-eq}
 use lib.Dec.{ltb}
-use Rattle.model.specs.Notation.{if◌then◌else◌}
+use Rattle.model.specs.Notation.{if◌then◌otherwise◌}
 use Rattle.model.specs.Limits.{file_bytes}
 use Rattle.model.specs.Numbers as refusal
 use Rattle.model.specs.Bytes.{Bytes}
@@ -26,9 +26,9 @@ module _ (text before : Bytes) where
   abbrev done : FileWritten
   done = written 0 (length text) (text ++ drop (length text) before)
 
-  by-test : {x y : Bool} → ltb (length before) (length text) ≡ x → ltb file_bytes (length text) ≡ y → (if (x || y) then refused else done) ≡ write_text text before
+  by-test : {x y : Bool} → ltb (length before) (length text) ≡ x → ltb file_bytes (length text) ≡ y → (if (x || y) then refused otherwise done) ≡ write_text text before
   unfolding write_text does_not_fit
-  by-test p q = ap₂ (λ (x y : Bool). if (x || y) then refused else done) (sym p) (sym q)
+  by-test p q = ap₂ (λ (x y : Bool). if (x || y) then refused otherwise done) (sym p) (sym q)
 
   pub over-buffer : length before < length text → refused ≡ write_text text before
   over-buffer l = by-test (lt-ltb (length before) (length text) l) refl

@@ -1,7 +1,7 @@
 -- The lines of ties as the words of a book spell them, and the text of a whole book: on any words, so that code is compared with words alone. That it is the
 -- file of the state that a book holds is `BookTexts.book-text`.
 use Rattle.std.specs.Prelude.{ℕ, ◌+◌, ◌*◌, Bool, ◌&&◌, List, [], ◌++◌, get_or, take, drop, eqb}
-use Rattle.model.specs.Notation.{if◌then◌else◌, each, below}
+use Rattle.model.specs.Notation.{if◌then◌otherwise◌, each, below}
 use Rattle.model.specs.Limits.{Edition, pair_limit, group_limit}
 use Rattle.model.specs.Bytes.{Bytes, bytes}
 use Rattle.model.specs.Lines.{first_line}
@@ -14,7 +14,7 @@ use Rattle.spelling.specs.LineTexts.{key_words, listed_text, name_text, name_of_
 
 -- the line of number k, if a set has it
 unfoldable pub member_text : List ℕ → (ℕ → Bytes) → ℕ → Bytes
-member_text s line k = if member s k then line k else []
+member_text s line k = if member s k then line k otherwise []
 
 -- holder g is the group of some slot of a mask
 unfoldable pub in_mask : List ℕ → ℕ → ℕ → Bool
@@ -28,7 +28,7 @@ abbrev pub up_line_text : List ℕ → ℕ → ℕ → ℕ → Bytes
 up_line_text book key h g = listed_text key_words key ++ (name_of_holder book h ++ (bytes "," ++ (name_of_holder book g ++ line_end)))
 
 unfoldable pub up_text : List ℕ → ℕ → ℕ → ℕ → Bytes
-up_text book key h g = if has_up book h g then up_line_text book key h g else []
+up_text book key h g = if has_up book h g then up_line_text book key h g otherwise []
 
 -- the ties of holder h up to holders with numbers below n
 abbrev pub ups_text : List ℕ → ℕ → ℕ → ℕ → Bytes
@@ -36,11 +36,11 @@ ups_text book n key h = each (up_text book key h) (below n)
 
 -- a group's ties up are to parents, another holder's are those of a member
 unfoldable pub key_of_ups : List ℕ → ℕ → ℕ
-key_of_ups book h = if eqb (get_or book ((section.slot_of).start + h) 0) 0 then 9 else 8
+key_of_ups book h = if eqb (get_or book ((section.slot_of).start + h) 0) 0 then 9 otherwise 8
 
 -- the ties of holder h up, if they are of that key
 unfoldable pub holder_ups_text : List ℕ → ℕ → ℕ → ℕ → Bytes
-holder_ups_text book n key h = if eqb (key_of_ups book h) key then ups_text book n key h else []
+holder_ups_text book n key h = if eqb (key_of_ups book h) key then ups_text book n key h otherwise []
 
 -- the own pairs of holder h
 abbrev pub own_of : List ℕ → ℕ → List ℕ

@@ -2,17 +2,17 @@
 use mathlib.Core.Path.{◌≡◌, refl, sym, ◌∙◌}
 use mathlib.Core.Bool.{Bool, true, false, ◌||◌, ◌&&◌, not}
 use lib.Dec.{eqb}
-use Rattle.model.specs.Notation.{if◌then◌else◌}
+use Rattle.model.specs.Notation.{if◌then◌otherwise◌}
 use Rattle.bits.specs.Bits.{bit}
 use Rattle.bits.proofs.put.Goals as goal
 
-set-by : (a b on : Bool) → on ≡ true → (a || b) ≡ (if b then on else a)
+set-by : (a b on : Bool) → on ≡ true → (a || b) ≡ (if b then on otherwise a)
 set-by true true on e = sym e
 set-by false true on e = sym e
 set-by true false on e = refl
 set-by false false on e = refl
 
-clear-by : (a b on : Bool) → on ≡ false → (a && not b) ≡ (if b then on else a)
+clear-by : (a b on : Bool) → on ≡ false → (a && not b) ≡ (if b then on otherwise a)
 clear-by true true on e = sym e
 clear-by false true on e = sym e
 clear-by true false on e = refl

@@ -5,7 +5,6 @@ use lib.Seq.{length-take-le}
 use Rattle.text.proofs.LoopPlaces.{tail-part}
 use Rattle.office.specs.Answers.{memory}
 use Rattle.office.proofs.Whole.{commands-as, too_long_lem, whole}
-use borrow.Author.Rules.{rules}
 use Rattle.office.proofs.run.Goals as goal
 
 pub returns-then-input-gt-INPUT_BYTES : goal.returns-then-input-gt-INPUT_BYTES
@@ -13,10 +12,10 @@ returns-then-input-gt-INPUT_BYTES c = too_long_lem c.args.input.now c.if-input-g
 
 pub slice_bounds-load-end : goal.slice_bounds-load-end
 slice_bounds-load-end c =
-        sym (length-take-le c.split-places.result.file c.args.input.now (omega (arith, c.split-places.ensures.ordered, c.split-places.ensures.within)))
+    sym (length-take-le c.split-places.result.file c.args.input.now (omega (arith, c.split-places.ensures.ordered, c.split-places.ensures.within)))
 
 pub returns : goal.returns
 returns c =
-                whole c.args.input.now c.split-places.result (omega (arith, c.if-input-gt-INPUT_BYTES.false)) c.split-places.ensures _ (sym (slice-aggregate-load-2 c.before.before.before.before.before.before.before.before.before.before.before.before.before.before.before))
-    (memory c.load-loaded.new.rules c.load-loaded.new.table c.load-loaded.new.1.1.1.0) c.load-loaded.ensures c.put_load-at.ensures
+    whole c.args.input.now c.split-places.result (omega (arith, c.if-input-gt-INPUT_BYTES.false)) c.split-places.ensures _ (omega arith)
+    (memory c.load-loaded.new.book c.load-loaded.new.rules c.load-loaded.new.table) c.load-loaded.ensures c.put_load-at.ensures
     (commands-as (tail-part c.split-places.result.commands c.args.input.now) c.answer_commands.ensures)

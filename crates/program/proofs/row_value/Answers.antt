@@ -1,18 +1,8 @@
 -- `program::row_value` meets its contract. Assumes nothing.
 use native.Mathlib.Omega.{arith}
 use Rattle.values.specs.Operands.{lent}
-use Rattle.program.proofs.RowValues.{spoken-row, lone_row, compared-row}
+use Rattle.program.proofs.RowValues.{compared-row}
 use Rattle.program.proofs.row_value.Goals as goal
-
-pub returns-in-4 : goal.returns-in-4
-returns-in-4 c =
-    let L = lent c.args.code.now c.args.pairs.now c.args.session.now c.args.entries.now in
-    lone_row L c.args.rows.now c.args.row c.operand_at-left.result c.operand_at-left.ensures c.lone.result c.in-4.is c.lone.ensures
-
-pub returns-in-13-to-15 : goal.returns-in-13-to-15
-returns-in-13-to-15 c =
-    let L = lent c.args.code.now c.args.pairs.now c.args.session.now c.args.entries.now in
-    spoken-row L c.args.rows.now c.args.row (omega arith) (omega arith) c.spoken.result c.spoken.ensures
 
 pub returns-in_default : goal.returns-in_default
 returns-in_default c =

@@ -36,7 +36,7 @@ loop-j-smaller c = omega arith
 
 pub loop-j-preserved : goal.loop-j-preserved
 loop-j-preserved c =
-                    (length-set c.loop-j.table c.loop-j.j (get_or c.args.own.now c.loop-j.j 0) ∙ c.loop-j.invariant.0, omega arith, c.loop-j.invariant.2, copy_more c.loop-j.table c.args.own.now c.loop-j.j (omega arith) c.loop-j.invariant.3)
+    (length-set c.loop-j.table c.loop-j.j (get_or c.args.own.now c.loop-j.j 0) ∙ c.loop-j.invariant.0, omega arith, c.loop-j.invariant.2, copy_more c.loop-j.table c.args.own.now c.loop-j.j (omega arith) c.loop-j.invariant.3)
 
 pub shape_of-table : goal.shape_of-table
 shape_of-table c = c.loop-j.invariant.0

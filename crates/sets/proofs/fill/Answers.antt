@@ -8,6 +8,6 @@ use Rattle.sets.proofs.fill.Goals as goal
 
 pub returns : goal.returns
 returns c =
-                                filled c.args.ups.now c.args.own.now c.args.slots.now c.copy_own.new.table c.settle_groups.new.table c.store_tied.new.table _ _ _ c.settle_groups.result
+    filled c.args.ups.now c.args.own.now c.args.slots.now c.copy_own.new.table c.settle_groups.new.table c.store_tied.new.table _ _ _ c.settle_groups.result
     (λ g l u. bit_not 64 c.numbered-free.result g c.numbered-free.type_inv l ∙ ap not (c.numbered-free.ensures g l (in-use-lt _ c.args.slots.now g u).0)) c.requires.1
-    (c.store_tied.auto.0 ∙ c.settle_groups.auto.0 ∙ c.copy_own.auto.0 ∙ c.requires.0.table-long) (λ j. (c.type_inv.table j).fits) c.copy_own.ensures c.settle_groups.ensures c.store_tied.ensures
+    (c.store_tied.auto.table ∙ c.settle_groups.auto.table ∙ c.copy_own.auto.table ∙ c.requires.0.table-long) (λ j. (c.type_inv.table j).fits) c.copy_own.ensures c.settle_groups.ensures c.store_tied.ensures

@@ -10,7 +10,7 @@ use Rattle.sets.proofs.gather.Goals as goal
 
 pub loop-above-init : goal.loop-above-init
 loop-above-init c p h =
-        ap (λ (b : Bool). b || any_below 64 (λ q. bit c.args.mask q && holds c.args.table.now (get_or c.args.slots.now q 0) p)) (member-none p h)
+    ap (λ (b : Bool). b || any_below 64 (λ q. bit c.args.mask q && holds c.args.table.now (get_or c.args.slots.now q 0) p)) (member-none p h)
 
 pub without-above-requires : goal.without-above-requires
 without-above-requires c = (c.lowest-q.ensures.held c.loop-above-test.true).0
@@ -22,7 +22,7 @@ loop-above-smaller c =
 
 pub loop-above-preserved : goal.loop-above-preserved
 loop-above-preserved c p h =
-            let q = c.lowest-q.result in
+    let q = c.lowest-q.result in
     let held = c.lowest-q.ensures.held c.loop-above-test.true in
     let f : ℕ → Bool = λ q. holds c.args.table.now (get_or c.args.slots.now q 0) p in
     let rest : Bool = any_below 64 (λ q. bit c.without-above.result q && f q) in
@@ -33,5 +33,5 @@ loop-above-preserved c p h =
 
 pub returns : goal.returns
 returns c p h =
-            sym (ap (λ (b : Bool). member c.loop-above.sum p || b) (none_left c.loop-above.above 64 (λ q. holds c.args.table.now (get_or c.args.slots.now q 0) p) c.loop-above-test.false) ∙ or-false (member c.loop-above.sum p))
+    sym (ap (λ (b : Bool). member c.loop-above.sum p || b) (none_left c.loop-above.above 64 (λ q. holds c.args.table.now (get_or c.args.slots.now q 0) p) c.loop-above-test.false) ∙ or-false (member c.loop-above.sum p))
     ∙ c.loop-above.invariant p h

@@ -9,8 +9,8 @@ use Rattle.sets.proofs.inherit.Goals as goal
 
 pub returns-then-k-table : goal.returns-then-k-table
 returns-then-k-table c p h =
-        sym (ap (λ (b : Bool). member c.args.sum p || b) (holds-past c.args.table.now c.args.k p (omega arith)) ∙ or-false (member c.args.sum p))
+    sym (ap (λ (b : Bool). member c.args.sum p || b) (holds-past c.args.table.now c.args.k p (omega arith)) ∙ or-false (member c.args.sum p))
 
 pub returns : goal.returns
 returns c p h =
-        rw (← member-part c.args.table.now c.args.k p h) (c.joined.ensures p h)
+    rw (← member-part c.args.table.now c.args.k p h) (c.joined.ensures p h)

@@ -8,10 +8,9 @@ use Rattle.sets.proofs.Telling.{counted-alone}
 use Rattle.sets.proofs.refresh_alone.Goals as goal
 
 pub returns : goal.returns
-returns c =
-                    (
-      subst (λ (m : ℕ). Stored c.args.own.now c.args.slots.now c.args.edited m c.args.table.now c.store-changed.new.table) c.ties_up-up.ensures c.store-changed.ensures.0,
-      c.ones.ensures
-          ∙ counted-alone c.store-changed.ensures.0 c.store-changed.auto.0 (omega (arith, c.requires.0.table-long, c.requires.1)) c.put-mark.result c.store-changed.result c.store-changed.ensures.1 c.put-mark.ensures,
-      c.joins.ensures.0 ∙ ap joins_by c.ties_up-up.ensures,
-    )
+returns c = (
+  subst (λ (m : ℕ). Stored c.args.own.now c.args.slots.now c.args.edited m c.args.table.now c.store-changed.new.table) c.ties_up-up.ensures c.store-changed.ensures.0,
+  c.ones.ensures
+      ∙ counted-alone c.store-changed.ensures.0 c.store-changed.auto.table (omega (arith, c.requires.0.table-long, c.requires.1)) c.put-mark.result c.store-changed.result c.store-changed.ensures.1 c.put-mark.ensures,
+  c.joins.ensures.0 ∙ ap joins_by c.ties_up-up.ensures,
+)

@@ -1,6 +1,5 @@
 -- `sets::settle_groups` meets its contract: the groups that the walk has passed are settled. Assumes nothing.
 use mathlib.Core.Path.{refl, sym, ap, ◌∙◌}
-use mathlib.Core.Bool.{false}
 use Prim.Native.Nat.{ℕ, ◌<◌}
 use borrow.Author.Tests.{not-false}
 use Rattle.bits.specs.Bits.{bit}
@@ -12,15 +11,14 @@ use Rattle.sets.proofs.settle_groups.Goals as goal
 
 pub loop-left-init : goal.loop-left-init
 loop-left-init c =
-            (c.requires.0.table-long, refl, settled-none _ _ _ _ _ (λ dp g l u w. not-false (bit c.args.done g) (sym (bit_not 64 c.args.done g c.ranges.done.fits l) ∙ w.1)))
+    (c.requires.0.table-long, refl, settled-none _ _ _ _ _ (λ dp g l u w. not-false (bit c.args.done g) (sym (bit_not 64 c.args.done g c.ranges.done.fits l) ∙ w.1)))
 
 pub settle-seen-requires : goal.settle-seen-requires
-settle-seen-requires c =
-        (
-      record { own-long = c.requires.0.own-long; slots-long = c.requires.0.slots-long; table-long = c.loop-left.invariant.0 },
-      omega (arith, c.requires.1, c.loop-left.invariant.1),
-      (c.lowest-g.ensures.held c.loop-left-test.true).0,
-    )
+settle-seen-requires c = (
+  record { own-long = c.requires.0.own-long; slots-long = c.requires.0.slots-long; table-long = c.loop-left.invariant.0 },
+  omega (arith, c.requires.1, c.loop-left.invariant.1),
+  (c.lowest-g.ensures.held c.loop-left-test.true).0,
+)
 
 pub without-left-requires : goal.without-left-requires
 without-left-requires c = (c.lowest-g.ensures.held c.loop-left-test.true).0
@@ -32,9 +30,9 @@ loop-left-smaller c =
 
 pub loop-left-preserved : goal.loop-left-preserved
 loop-left-preserved c =
-                    let held = c.lowest-g.ensures.held c.loop-left-test.true in (
-      c.settle-seen.auto.0 ∙ c.loop-left.invariant.0,
-      c.settle-seen.auto.1.0 ∙ c.loop-left.invariant.1,
+    let held = c.lowest-g.ensures.held c.loop-left-test.true in (
+      c.settle-seen.auto.table ∙ c.loop-left.invariant.0,
+      c.settle-seen.auto.marks ∙ c.loop-left.invariant.1,
       turn (λ q. q < 64) c.loop-left.left c.lowest-g.result c.without-left.result c.without-left.ensures c.loop-left.invariant.2 c.settle-seen.ensures.0
           (deep-start c.args.ups.now c.args.slots.now c.lowest-g.result held.0),
     )

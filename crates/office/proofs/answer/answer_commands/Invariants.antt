@@ -1,7 +1,6 @@
 -- `office::answer::answer_commands` meets its contract: the commands passed are answered.
 use Prim.Native.Nat.{◌-◌}
 use mathlib.Core.Path.{◌≡◌}
-use borrow.Author.Rules.{rules}
 use lib.ListN.{length}
 use Rattle.office.specs.Answers.{memory, AnsweredTo}
 use Rattle.office.proofs.answer.answer_commands.Given as goal
