@@ -5,13 +5,13 @@ use mathlib.Core.Bool.{Bool, true, false, not, ◌&&◌, ◌||◌, beq, true≢f
 use mathlib.Core.List.{List, [], ◌∷◌}
 use native.Mathlib.Decide.{ℕ_discrete}
 use native.Mathlib.Omega.{arith}
-use lib.Bits.{bit_and, bit_or}
+use lib.Bits.{bit_or}
 use lib.Dec.{eqb}
 use lib.ListN.{length, get_or, take, drop, set, drop_of_length-le}
 use lib.Seq.{get_or-take, get_or-drop, sets-eq, get_or-set_same, get_or-set_other}
 use borrow.Author.Tests.{eq-eqb, ne_eqb}
 use Rattle.bits.specs.Bits.{bit, member, holds, differ}
-use Rattle.bits.proofs.Bits.{same_test, bit-or, bit-and, bit-none, bit-ext}
+use Rattle.bits.proofs.Bits.{same_test, bit-or, bit-none, bit-ext}
 use Rattle.bits.proofs.Counts.{any_at, any_none}
 
 -- a set's four words, one after another

@@ -3,7 +3,6 @@ use mathlib.Core.Path.{◌≡◌, refl, sym, ap, ap₂, ◌∙◌}
 use mathlib.Core.Bool.{Bool, true, false, ◌&&◌, ◌||◌}
 use mathlib.Core.List.{List, [], ◌∷◌}
 use mathlib.Core.Option.{Option, none, some}
-use Rattle.model.specs.Notation.{if◌then◌otherwise◌, is_empty}
 use Rattle.model.specs.Atoms.{Atom}
 use Rattle.model.specs.Truth.{Truth, FALSE, UNDEF, TRUE, NOT, ◌AND◌, ◌OR◌, is_undef}
 use Rattle.model.specs.Tokens.{Token, Operator}

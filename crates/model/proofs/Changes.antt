@@ -4,11 +4,10 @@ use mathlib.Core.Path.{◌≡◌, refl, sym, ap, ◌∙◌}
 use mathlib.Core.Logic.{◌⊎◌, inl, inr, ⊎_elim}
 use mathlib.Core.Bool.{Bool, true, false, not, beq}
 use mathlib.Core.List.{List}
-use mathlib.Core.Option.{Option, none, some}
 use native.Mathlib.Decide.{dec_lt}
 use native.Mathlib.Omega.{arith}
 use lib.ListN.{length, replicate}
-use Rattle.model.specs.Notation.{if◌then◌otherwise◌, count_of, below, map}
+use Rattle.model.specs.Notation.{count_of, below, map}
 use Rattle.model.specs.Limits.{holder_numbers, pair_limit, set_words}
 use Rattle.model.specs.Bytes.{same}
 use Rattle.model.specs.Declarations.{Declarations, Holder, is_holder, holder_numbers_of}

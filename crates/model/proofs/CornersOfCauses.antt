@@ -4,7 +4,7 @@ use Prim.Native.String.{String}
 use mathlib.Core.Path.{refl}
 use mathlib.Core.Bool.{Bool, true, false}
 use mathlib.Core.List.{List, [], ◌∷◌}
-use mathlib.Core.Option.{Option, none, some}
+use mathlib.Core.Option.{Option, some}
 use Rattle.model.specs.Notation.{◌>>=◌}
 use Rattle.model.specs.Bytes.{Bytes, bytes}
 use Rattle.model.specs.Tokens.{tokens_of}

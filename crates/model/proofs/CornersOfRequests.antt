@@ -7,7 +7,7 @@ use Rattle.model.specs.Limits.{Edition}
 use Rattle.model.specs.Bytes.{Bytes, bytes}
 use Rattle.model.specs.State.{empty}
 use Rattle.model.specs.Load.{load}
-use Rattle.model.specs.Causes.{absent, unlike}
+use Rattle.model.specs.Causes.{absent}
 use Rattle.model.specs.Decision.{Decision, permit, deny, undefined, refused, decide}
 use Rattle.model.specs.Ledger.{Call, Answer, loaded, edited, decided, step}
 use Rattle.model.specs.Host.{host_call}

@@ -3,7 +3,7 @@ use Prim.Native.Nat.{ℕ, zero, suc, ◌+◌, ◌≤◌, ◌<◌}
 use mathlib.Core.Path.{◌≡◌, refl, sym, ap, subst, ◌∙◌}
 use mathlib.Core.Logic.{◌⊎◌, inl, inr, ⊎_elim}
 use mathlib.Core.Bool.{Bool, true, false, ◌&&◌, not, true≢false}
-use mathlib.Core.List.{List, [], ◌∷◌, ◌++◌}
+use mathlib.Core.List.{List, [], ◌∷◌}
 use mathlib.Core.Option.{Option, none, some, some-injective}
 use native.Mathlib.Decide.{ℕ_discrete, dec_lt}
 use native.Mathlib.Omega.{arith}
@@ -25,9 +25,9 @@ use Rattle.model.specs.Refusals.{unknown_name, over_limits, undeclared, wrong_so
 use Rattle.model.specs.Standing.{PairStands, PairsStand, HoldersStand, RuleStands, RulesStand, WellDeclared}
 use Rattle.model.proofs.WordTables.{none-is-some, false-is-true, same-eq, same_refl, same_word, reads-source, reads_type, bools, reads-bool}
 use Rattle.model.proofs.Options.{parts, both, bind-some, some-not}
-use Rattle.model.proofs.Lists.{true-or-false, or-none, nth-append, place-nth, length-below, count-last}
+use Rattle.model.proofs.Lists.{true-or-false, or-none, nth-append, place-nth}
 use Rattle.model.proofs.Numbered.{find_none, found_number, find-inserted, length_inserted, count-inserted, rising-inserted, length-map}
-use Rattle.model.proofs.Growing.{nth_last, each_more, unique-more, place-append, place-nowhere, any-none-by, one-longer}
+use Rattle.model.proofs.Growing.{each_more, unique-more, place-append, place-nowhere, any-none-by, one-longer}
 
 -- ---- tests that tell what is alike
 

@@ -3,7 +3,7 @@ use Prim.Native.Nat.{ℕ}
 use mathlib.Core.Path.{◌≡◌, ap, sym, ◌∙◌}
 use mathlib.Core.Bool.{true, ◌&&◌, not, true≢false}
 use mathlib.Core.Option.{Option, none, some}
-use Rattle.model.specs.Notation.{◌is◌, nth}
+use Rattle.model.specs.Notation.{nth}
 use Rattle.model.specs.Attributes.{AtomType, from_block}
 use Rattle.model.specs.Grammar.{Policy, read_policy}
 use Rattle.model.specs.Meaning.{Values, meaning, meaning_of}

@@ -21,7 +21,7 @@ use Rattle.model.specs.Attributes.{Source, source_word, AtomType, type_word, sam
 use Rattle.model.specs.Atoms.{Atom, is_atom, write_atom, type_of, same_atom, decimal, is_text, text_byte}
 use Rattle.model.specs.Keys.{rank}
 use Rattle.model.specs.Declarations.{Declarations, Attribute, Pair, Holder, Rule, Sort, sort_word, is_sort, is_group, groups, same_source_and_name, attribute_number, attribute_of, operation_number, pair_number, holder_number, holder_of, holder_numbers_of}
-use Rattle.model.specs.Lines.{Line, op, atom}
+use Rattle.model.specs.Lines.{Line, op}
 use Rattle.model.specs.Ties.{Ties, no_ties}
 use Rattle.model.specs.State.{State, after}
 use Rattle.model.specs.Refusals.{circular}

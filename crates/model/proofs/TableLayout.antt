@@ -3,24 +3,23 @@
 use Prim.Native.Nat.{ℕ, zero, suc, ◌+◌, ◌*◌, ◌/◌, ◌%◌, ◌^◌, ◌≤◌, ◌<◌}
 use mathlib.Core.Path.{◌≡◌, refl, sym, ap, ap₂, ◌∙◌}
 use mathlib.Core.Logic.{⊎_elim}
-use mathlib.Core.Bool.{Bool, true, false, ◌&&◌, not}
-use mathlib.Core.List.{List, [], ◌∷◌, ◌++◌, append_assoc, append-nil}
-use mathlib.Core.Option.{Option}
+use mathlib.Core.Bool.{Bool, true, false, ◌&&◌}
+use mathlib.Core.List.{List, ◌++◌}
 use native.Mathlib.Nat.{eq-or-lt_of_le}
 use native.Mathlib.Decide.{dec_lt}
 use native.Mathlib.Omega.{arith}
 use lib.ListN.{length, length-append, length-drop, get_or, take, drop, replicate, get_or-eq_default}
 use lib.Seq.{ext_get_or, get_or-take, get_or-drop, take_all, take-append-le, drop-append-le, drop_at}
-use Rattle.model.specs.Notation.{if◌then◌otherwise◌, is_none, each, below}
+use Rattle.model.specs.Notation.{if◌then◌otherwise◌, each, below}
 use Rattle.model.specs.Limits.{holder_numbers, pair_limit, table_words, word_bits, set_words}
-use Rattle.model.specs.Declarations.{Declarations, Holder, is_holder, holder_numbers_of}
+use Rattle.model.specs.Declarations.{Declarations, is_holder, holder_numbers_of}
 use Rattle.model.specs.Ties.{Ties, value}
 use Rattle.model.specs.Effective.{Has, own, inherited}
 use Rattle.model.specs.Table.{word, words_of, effective_set, stored_set, table}
 pub use Rattle.model.specs.Table.{set_in}
 use Rattle.model.specs.State.{State}
 use Rattle.model.proofs.Options.{parts, both}
-use Rattle.model.proofs.Lists.{◌∈◌, same_truth, nth-lt, lt-nth, in-below, each_below}
+use Rattle.model.proofs.Lists.{◌∈◌, same_truth, nth-lt, each_below}
 use Rattle.model.proofs.Effective.{effective-has}
 use Rattle.model.specs.Standing.{Standing}
 use Rattle.model.proofs.Standing.{among, holder-below}

@@ -1,5 +1,5 @@
 -- Document 02, E2: "Two sorts of undefined". Whether what is UNDEF is so for lack of a value. It is found beside the value, which stays document 01's.
-use Rattle.std.specs.Prelude.{ℕ, Bool, true, false, ◌&&◌, ◌||◌, List}
+use Rattle.std.specs.Prelude.{ℕ, Bool, false, ◌&&◌, ◌||◌, List}
 use Rattle.std.proofs.Math.Option.{none, some}
 use Rattle.model.specs.Notation.{if◌then◌otherwise◌, is_empty}
 use Rattle.model.specs.Bytes.{Bytes, bytes}

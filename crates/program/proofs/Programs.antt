@@ -4,7 +4,7 @@ use mathlib.Core.Path.{◌≡◌, sym, subst, ◌∙◌}
 use mathlib.Core.List.{List}
 use mathlib.Core.Option.{some}
 use lib.Dec.{eqb, leb, ltb}
-use Rattle.model.specs.Notation.{if◌then◌else◌, nth}
+use Rattle.model.specs.Notation.{if◌then◌otherwise◌, nth}
 use Rattle.model.specs.Limits.{attribute_limit}
 use Rattle.model.specs.Bytes.{Bytes}
 use Rattle.model.specs.Attributes.{Source}
@@ -20,9 +20,9 @@ abbrev operand_by : ℕ → ℕ → ℕ → Operand
 operand_by k source type =
     if ltb k attribute_limit
     then (if eqb source 0 then no_values
-    else (if leb source 3 then operand (if leb type 3 then type else 0) 0 k 0
-    else operand (if leb type 3 then type else 0) 1 k 0))
-    else no_values
+    otherwise (if leb source 3 then operand (if leb type 3 then type otherwise 0) 0 k 0
+    otherwise operand (if leb type 3 then type otherwise 0) 1 k 0))
+    otherwise no_values
 
 operands_same : (D : Declarations) (a b : List ℕ) → HasRows a D → HasRows b D → (s : Source) (n : Bytes) (k : ℕ) → attribute_number D s n ≡ some k → attribute_operand a k ≡ attribute_operand b k
 unfolding attribute_operand row_type attribute_number

@@ -5,7 +5,7 @@ use mathlib.Core.Bool.{Bool, true}
 use mathlib.Core.List.{[]}
 use native.Mathlib.Omega.{arith}
 use lib.ListN.{length, get_or}
-use Rattle.model.specs.Notation.{if◌then◌else◌}
+use Rattle.model.specs.Notation.{if◌then◌otherwise◌}
 use Rattle.model.specs.Bytes.{Bytes}
 use Rattle.model.proofs.WordTables.{false-is-true}
 use Rattle.truth.specs.declared.verdict.Verdict as truth
@@ -58,9 +58,9 @@ module _ (L : Lent) (rows : Bytes) (c : code.Walk) where
         go w t (done h k) is = absurd (some k)
         go w t (past h p few s) is =
             let x : n ≡ at + 1 = N.mark p in
-            let y : m ≡ row = e ∙ ap (λ (b : Bool). if b then row else row + row_bytes) p in
+            let y : m ≡ row = e ∙ ap (λ (b : Bool). if b then row otherwise row + row_bytes) p in
             (passed kind w, rw (x, y) s, S.mark p w is few)
         go w t (term {u = u} h k p fits v ahead s) is =
             let x : n ≡ row_next rows row = omega (arith, N.behind_row p fits) in
-            let y : m ≡ row + row_bytes = e ∙ ap (λ (b : Bool). if b then row else row + row_bytes) p in
+            let y : m ≡ row + row_bytes = e ∙ ap (λ (b : Bool). if b then row otherwise row + row_bytes) p in
             (termed u w, rw (x, y) s, S.row-value p fits u v w is)

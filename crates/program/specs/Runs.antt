@@ -7,7 +7,7 @@ use Rattle.model.specs.Attributes.{Source}
 use Rattle.model.specs.Declarations.{Declarations, Attribute, attribute_number}
 use Rattle.model.specs.Tokens.{Token}
 use Rattle.model.specs.Meaning.{Values}
-use Rattle.model.specs.Notation.{if◌then◌else◌, nth}
+use Rattle.model.specs.Notation.{if◌then◌otherwise◌, nth}
 use Rattle.codes.specs.Codes.{end_code}
 use Rattle.rows.specs.Rows.{AttributeRow}
 use Rattle.values.specs.Operands.{Lent, lent, Stands, attribute_operand}
@@ -53,7 +53,7 @@ pub record NextAt (rows : Bytes) (kind row at r : ℕ) : Type 0 where
 
 -- where the rows go on
 abbrev pub next_row : ℕ → ℕ → ℕ
-next_row kind row = if is_passed kind then row else row + row_bytes
+next_row kind row = if is_passed kind then row otherwise row + row_bytes
 
 -- from c to r: a mark passed, or the term of a row, by the kind
 pub record Stepped (L : Lent) (rows : Bytes) (kind row : ℕ) (c r : code.Walk) : Type 0 where

@@ -2,7 +2,7 @@
 -- each one around it whose parenthesis is open.
 use Rattle.std.specs.Prelude.{ℕ, ◌+◌, ◌*◌, ◌≤◌, ◌≡◌, Bool, true, false, ◌&&◌, ◌||◌, List, [], ◌∷◌, eqb, leb, length}
 use Rattle.std.proofs.Math.Option.{none, some}
-use Rattle.model.specs.Notation.{◌or_else◌, if◌then◌else◌}
+use Rattle.model.specs.Notation.{◌or_else◌, if◌then◌otherwise◌}
 use Rattle.model.specs.Limits.{depth_limit}
 use Rattle.model.specs.Truth.{TRUE, FALSE}
 use Rattle.model.specs.Tokens.{Token, Mark}
@@ -61,10 +61,10 @@ termed v w = walk (with_term v w.inner) w.outer
 unfoldable pub passed : ℕ → Walk → Walk
 passed kind w =
     if eqb kind 12 then walk (level w.inner.either w.inner.both true) w.outer
-    else (if eqb kind 5 then walk fresh (w.inner ∷ w.outer)
-    else (if eqb kind 6 then termed (comes_to w.inner) (around w.outer)
-    else (if eqb kind 11 then walk (level (comes_to w.inner) no_term w.inner.negated) w.outer
-    else w)))
+    otherwise (if eqb kind 5 then walk fresh (w.inner ∷ w.outer)
+    otherwise (if eqb kind 6 then termed (comes_to w.inner) (around w.outer)
+    otherwise (if eqb kind 11 then walk (level (comes_to w.inner) no_term w.inner.negated) w.outer
+    otherwise w)))
 
 -- the numbers of these marks
 unfoldable pub is_passed : ℕ → Bool

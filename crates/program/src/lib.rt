@@ -4,7 +4,7 @@
 
 ghost use Rattle.std.specs.Prelude.{◌≡◌, true, [], ℕ, ◌+◌, ◌*◌, ◌≤◌, ◌<◌, length, get_or};
 ghost use Rattle.model.specs.Truth as model;
-ghost use Rattle.model.specs.Notation.{if◌then◌else◌};
+ghost use Rattle.model.specs.Notation.{if◌then◌otherwise◌};
 ghost use Rattle.codes.specs.Codes.{truth_code};
 ghost use Rattle.truth.specs.Truths.{truth_of};
 ghost use Rattle.truth.specs.Verdicts.{verdict_of, either};

@@ -11,7 +11,7 @@ use lib.Dec.{eqb}
 use lib.ListN.{length, get_or, take, drop, set}
 use borrow.Author.Tests.{eq-eqb, ne_eqb}
 use borrow.Rule.Slice.PartMut.{put_mid}
-use Rattle.model.specs.Notation.{if◌then◌else◌}
+use Rattle.model.specs.Notation.{if◌then◌otherwise◌}
 use Rattle.bits.specs.Bits.{bit, member, holds, differ, count_below}
 use Rattle.bits.proofs.Bits.{bit-none}
 use Rattle.bits.proofs.Sets.{member-part, same-beq, four, stored4}
@@ -131,7 +131,7 @@ module _ {own slots t t' : List ℕ} {k mask : ℕ} (stored : Stored own slots k
       count-rest 0 256 (unlike t t') (omega arith) (λ j a b. unlike-same t t' j (others_same stored j (λ e. omega arith))) ∙ ap num (sym off)
 
   -- the ones of a word that marks the holder
-  pub counted-alone : (w : ℕ) (b : Bool) → b ≡ unlike t t' k → ((j : ℕ) → bit w j ≡ (if eqb j (k % 64) then b else bit 0 j)) → count_below 64 (bit w) ≡ count_below 256 (unlike t t')
+  pub counted-alone : (w : ℕ) (b : Bool) → b ≡ unlike t t' k → ((j : ℕ) → bit w j ≡ (if eqb j (k % 64) then b otherwise bit 0 j)) → count_below 64 (bit w) ≡ count_below 256 (unlike t t')
   counted-alone w b is put =
-      count-one 64 (k % 64) (bit w) (omega arith) (λ j n. put j ∙ ap (λ (x : Bool). if x then b else bit 0 j) (ne_eqb j (k % 64) n) ∙ bit-none j)
-      ∙ ap num (put (k % 64) ∙ ap (λ (x : Bool). if x then b else bit 0 (k % 64)) (eq-eqb (k % 64) (k % 64) refl) ∙ is) ∙ sym (changed-count (dec_lt k 256))
+      count-one 64 (k % 64) (bit w) (omega arith) (λ j n. put j ∙ ap (λ (x : Bool). if x then b otherwise bit 0 j) (ne_eqb j (k % 64) n) ∙ bit-none j)
+      ∙ ap num (put (k % 64) ∙ ap (λ (x : Bool). if x then b otherwise bit 0 (k % 64)) (eq-eqb (k % 64) (k % 64) refl) ∙ is) ∙ sym (changed-count (dec_lt k 256))

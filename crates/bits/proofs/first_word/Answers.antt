@@ -1,6 +1,5 @@
 -- `bits::first_word` meets its contract: the words before `at` have no number from word k on. Assumes nothing.
 use mathlib.Core.Path.{ap, ◌∙◌}
-use mathlib.Core.Bool.{false}
 use Prim.Native.Nat.{ℕ, ◌*◌}
 use Rattle.bits.specs.Bits.{bit}
 use Rattle.bits.proofs.Bits.{bit-none}
