@@ -13,7 +13,6 @@ use Rattle.model.specs.Attributes.{read_source, read_type}
 use Rattle.model.specs.Atoms.{read_atom}
 use Rattle.model.specs.Lines.{attr, atom, value, read_attr, read_pair, read_two, read_value, read_rule}
 use Rattle.codes.specs.Codes.{coded, source_code, type_code}
-use Rattle.text.specs.declared.Packed.{Packed}
 use Rattle.text.specs.declared.Value.{Value}
 use Rattle.text.specs.ReadCodes.{source_number, type_number}
 use Rattle.text.specs.Packing.{packed_of}

@@ -4,14 +4,14 @@ use Rattle.std.proofs.Math.Option.{Option, none, some}
 use Rattle.model.specs.Notation.{◌>>=◌}
 use Rattle.model.specs.Bytes.{Bytes}
 use Rattle.model.specs.Attributes.{Source, AtomType}
-use Rattle.model.specs.Atoms.{Atom, type_of}
+use Rattle.model.specs.Atoms.{Atom}
 use Rattle.model.specs.Tokens.{tokens_of}
 use Rattle.model.specs.Grammar.{read_policy}
 use Rattle.model.specs.Lines.{Line, attr, atom, value, rule, read_attr, read_pair, read_two, read_value, read_rule}
 use Rattle.codes.specs.Codes.{source_code, type_code}
 use Rattle.text.specs.declared.Packed.{Packed}
 use Rattle.text.specs.Packing.{packed_of}
-use Rattle.text.specs.Values.{words, atom_words, atom_value, coded_atom}
+use Rattle.text.specs.Values.{atom_value, coded_atom}
 use Rattle.fields.specs.declared.AttrFields.{AttrFields}
 use Rattle.fields.specs.declared.NameField.{NameField}
 use Rattle.fields.specs.declared.PairFields.{PairFields}

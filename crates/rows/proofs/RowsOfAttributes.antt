@@ -4,14 +4,14 @@ use native.Mathlib.Omega.{arith}
 use native.Mathlib.Decide.{dec_lt}
 use mathlib.Core.Path.{◌≡◌, refl, sym, ap, ap₂, ◌∙◌}
 use mathlib.Core.Bool.{Bool, true, false, ◌&&◌, true≢false}
-use mathlib.Core.List.{List, [], ◌∷◌}
+use mathlib.Core.List.{List}
 use mathlib.Core.Option.{none, some, some-injective}
 use lib.Dec.{eqb}
 use lib.ListN.{length, get_or}
 use borrow.Author.Tests.{eq-eqb, ne_eqb}
 use Rattle.model.specs.Notation.{nth}
 use Rattle.model.specs.Limits.{attribute_limit}
-use Rattle.model.specs.Bytes.{Bytes, same}
+use Rattle.model.specs.Bytes.{Bytes}
 use Rattle.model.specs.Names.{is_name}
 use Rattle.model.specs.Attributes.{Source, same_source}
 use Rattle.model.specs.Declarations.{Declarations, Attribute, same_source_and_name, attribute_number}
@@ -19,7 +19,6 @@ use Rattle.model.proofs.Lists.{nth-lt, lt-nth, place-nth}
 use Rattle.model.proofs.Declared.{named-eq}
 use Rattle.codes.specs.Codes.{source_code}
 use Rattle.codes.proofs.Codes.{source-some}
-use Rattle.text.specs.declared.Packed.{Packed}
 use Rattle.text.specs.Packing.{packed_of, packed_at}
 use Rattle.text.proofs.Packing.{named-at}
 use Rattle.model.specs.Standing.{WellDeclared}

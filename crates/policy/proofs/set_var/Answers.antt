@@ -1,5 +1,4 @@
 -- `policy::set_var` meets its contract. Assumes nothing.
-use mathlib.Core.Logic.{⊎_elim}
 use native.Mathlib.Omega.{arith}
 use borrow.Author.Tests.{not-true, not-false}
 use Rattle.policy.proofs.VarsInCode.{set-none, set-off, set_on}
@@ -7,21 +6,15 @@ use Rattle.policy.proofs.set_var.Goals as goal
 
 pub returns-then-not-l : goal.returns-then-not-l
 returns-then-not-l c =
-                    set-off c.args.code.now c.args.at c.kind_at-kind.result c.kind_at-kind.ensures (omega (arith, c.in-1-to-2.if-kind-lt1-own.false))
-    (omega (arith, c.in-1-to-2.if-kind-lt3-own.true)) c.items-l.result c.items-l.ensures c.no_var.result c.no_var.ensures
-    (not-true _ c.if-not-l.true)
-
-pub overflow_add-result : goal.overflow_add-result
-overflow_add-result c = let w = c.items-l.ensures.further (not-false _ c.if-not-l.false) in omega (arith, w.1)
+    set-off c.args.code.now c.args.at c.kind_at-kind.result c.kind_at-kind.ensures (omega arith) (omega arith)
+    c.items-l.result c.items-l.ensures c.no_var.result c.no_var.ensures (not-true _ c.if-not-l.true)
 
 pub returns-else-not-l : goal.returns-else-not-l
 returns-else-not-l c =
-                    set_on c.args.code.now c.args.at c.kind_at-kind.result c.kind_at-kind.ensures
-    (omega (arith, c.in-1-to-2.if-kind-lt1-own.false))
-    (omega (arith, c.in-1-to-2.if-kind-lt3-own.true)) c.items-l.result c.items-l.ensures c.constant-o.result
-    c.constant-o.ensures (not-false _ c.if-not-l.false)
+    set_on c.args.code.now c.args.at c.kind_at-kind.result c.kind_at-kind.ensures (omega arith) (omega arith)
+    c.items-l.result c.items-l.ensures c.constant-o.result c.constant-o.ensures (not-false _ c.if-not-l.false)
 
 pub returns-in_default : goal.returns-in_default
 returns-in_default c =
-                set-none c.args.code.now c.args.at c.kind_at-kind.result c.kind_at-kind.ensures c.no_var-in_default.result c.no_var-in_default.ensures
-    (λ x y. ⊎_elim (λ w. omega (arith, x, w)) (λ w. omega (arith, y, w)) c.in_default.branch)
+    set-none c.args.code.now c.args.at c.kind_at-kind.result c.kind_at-kind.ensures
+    c.no_var-in_default.result c.no_var-in_default.ensures (λ lo hi. omega arith)

@@ -1,7 +1,6 @@
 -- `rows::attribute_number` meets its contract: no row that was passed has that source and name.
 use native.Mathlib.Omega.{arith}
 use mathlib.Core.Path.{sym, ◌∙◌}
-use mathlib.Core.Bool.{false}
 use borrow.Author.Count.{below_more}
 use Rattle.rows.proofs.RowsOfAttributes.{searched, found}
 use Rattle.rows.proofs.attribute_number.Goals as goal

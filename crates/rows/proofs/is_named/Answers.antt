@@ -13,4 +13,4 @@ returns-then-attributes-at c = simp (ne_eqb _ _ c.if-attributes-at.true)
 pub returns : goal.returns
 unfolding row_named
 returns c =
-        behind-first (get_or c.args.attributes.now (8 * c.args.i) 0) c.args.source _ _ c.if-attributes-at.false c.is_packed_at.ensures
+    behind-first (get_or c.args.attributes.now (8 * c.args.i) 0) c.args.source _ _ c.if-attributes-at.false c.is_packed_at.ensures

@@ -20,19 +20,19 @@ returns-then-t-eq-BAD c = passed-bad c.loop-at.invariant (sym (ap (λ (v : Place
 
 pub write-w-requires : goal.write-w-requires
 write-w-requires c =
-        (c.requires.0, passed-given c.loop-at.invariant c.requires.1 c.token_at-t.result c.token_at-t.ensures c.if-t-eq-BAD.false)
+    (c.requires.0, passed-given c.loop-at.invariant c.requires.1 c.token_at-t.result c.token_at-t.ensures c.if-t-eq-BAD.false)
 
 pub either_of-unknown-requires : goal.either_of-unknown-requires
 either_of-unknown-requires c = tt
 
 pub loop-at-smaller : goal.loop-at-smaller
 loop-at-smaller c =
-            let f = passed-further c.loop-at.invariant c.requires.1 c.token_at-t.result c.token_at-t.ensures c.if-t-eq-BAD.false c.loop-at-test.true in
+    let f = passed-further c.loop-at.invariant c.requires.1 c.token_at-t.result c.token_at-t.ensures c.if-t-eq-BAD.false c.loop-at-test.true in
     omega arith
 
 pub loop-at-preserved : goal.loop-at-preserved
 loop-at-preserved c =
-                passed-as (sym c.either_of-unknown.ensures)
+    passed-as (sym c.either_of-unknown.ensures)
     (passed_on c.loop-at.invariant c.requires.1 c.token_at-t.result c.token_at-t.ensures c.if-t-eq-BAD.false c.write-w.ensures)
 
 pub bounds-code-len : goal.bounds-code-len

@@ -16,7 +16,7 @@ in_run-requires c = tt
 
 pub returns-then-not-in_run : goal.returns-then-not-in_run
 returns-then-not-in_run c =
-            omega (arith, c.loop-i.invariant.1, lead-off (in_run c.args.class) c.args.s.now c.loop-i.i (omega arith) (sym c.in_run.ensures ∙ c.if-not-in_run.true))
+    omega (arith, c.loop-i.invariant.1, lead-off (in_run c.args.class) c.args.s.now c.loop-i.i (omega arith) (sym c.in_run.ensures ∙ c.if-not-in_run.true))
 
 pub overflow_add-i : goal.overflow_add-i
 overflow_add-i c = omega arith
@@ -26,9 +26,9 @@ loop-i-smaller c = omega arith
 
 pub loop-i-preserved : goal.loop-i-preserved
 loop-i-preserved c =
-            let e = lead-on (in_run c.args.class) c.args.s.now c.loop-i.i (omega arith) (sym c.in_run.ensures ∙ c.if-not-in_run.false) in
+    let e = lead-on (in_run c.args.class) c.args.s.now c.loop-i.i (omega arith) (sym c.in_run.ensures ∙ c.if-not-in_run.false) in
     (omega arith, omega (arith, c.loop-i.invariant.1, e))
 
 pub returns : goal.returns
 returns c =
-            omega (arith, c.loop-i.invariant.1, lead-end (in_run c.args.class) c.args.s.now c.loop-i.i (omega arith))
+    omega (arith, c.loop-i.invariant.1, lead-end (in_run c.args.class) c.args.s.now c.loop-i.i (omega arith))

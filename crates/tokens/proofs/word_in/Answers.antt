@@ -12,9 +12,9 @@ returns-then-k-ne0 c =
 
 pub returns-in-Number : goal.returns-in-Number
 returns-in-Number c =
-        sym (number c.args.w.now (no-capital c.args.w.now (sym c.if-k-ne0.false ∙ c.capital_of-k.ensures)) c.in-Number.v (sym c.int_of-i.ensures ∙ c.in-Number.is))
+    sym (number c.args.w.now (no-capital c.args.w.now (sym c.if-k-ne0.false ∙ c.capital_of-k.ensures)) c.in-Number.v (sym c.int_of-i.ensures ∙ c.in-Number.is))
 
 pub returns : goal.returns
 returns c =
-        let i : read_int c.args.w.now ≡ none = no-int c.args.w.now (sym c.int_of-i.ensures ∙ c.in_default.is) in
+    let i : read_int c.args.w.now ≡ none = no-int c.args.w.now (sym c.int_of-i.ensures ∙ c.in_default.is) in
     c.name_in.ensures ∙ sym (attribute c.args.w.now (no-capital c.args.w.now (sym c.if-k-ne0.false ∙ c.capital_of-k.ensures)) i)

@@ -39,4 +39,4 @@ returns-in-4 c = wrote-name c.in-4.is c.write_name.ensures
 
 pub returns-in_default : goal.returns-in_default
 returns-in_default c =
-            wrote-kind c.in_default.in_default-own.rest.0.0.0.1 c.in_default.in_default-own.rest.0.0.1 c.in_default.in_default-own.rest.0.1 c.in_default.in_default-own.rest.1 c.write_kind.ensures.0 c.write_kind.ensures.1
+    wrote-kind c.in_default.in_default-own.rest.0.0.0.1 c.in_default.in_default-own.rest.0.0.1 c.in_default.in_default-own.rest.0.1 c.in_default.in_default-own.rest.1 c.write_kind.ensures.0 c.write_kind.ensures.1

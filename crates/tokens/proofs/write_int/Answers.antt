@@ -22,7 +22,7 @@ bounds-code-at-5 c = simp length-set (omega arith)
 
 pub returns : goal.returns
 returns c =
-                        let e : 1 ∷ c.low_byte.result ∷ c.low_byte-2.result ∷ c.low_byte-3.result ∷ c.low_byte-4.result ∷ [] ≡ 1 ∷ low_bytes 4 c.args.n =
+    let e : 1 ∷ c.low_byte.result ∷ c.low_byte-2.result ∷ c.low_byte-3.result ∷ c.low_byte-4.result ∷ [] ≡ 1 ∷ low_bytes 4 c.args.n =
     λ i. 1 ∷ c.low_byte.ensures i ∷ c.low_byte-2.ensures i ∷ c.low_byte-3.ensures i ∷ c.low_byte-4.ensures i ∷ [] in
     let two = laid_more c.low_byte.result (c.args.at + 1) (laid_one c.args.code.now c.args.at 1) refl in
     let four = laid_more c.low_byte-3.result (c.args.at + 3) (laid_more c.low_byte-2.result (c.args.at + 2) two refl) refl in

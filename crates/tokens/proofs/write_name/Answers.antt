@@ -26,7 +26,7 @@ bounds-code-at-then-k-lt-ATTRIBUTES c = simp length-set (omega arith)
 
 pub returns-then-k-lt-ATTRIBUTES : goal.returns-then-k-lt-ATTRIBUTES
 returns-then-k-lt-ATTRIBUTES c =
-            record {
+    record {
       byte = c.attribute_number-k.result;
       laid = laid_more c.attribute_number-k.result (c.args.at + 1) (laid_one c.args.code.now c.args.at 4) refl;
       number = λ D ord ar s n name from words.
@@ -39,7 +39,7 @@ bounds-code-at-2 c = simp length-set (omega arith)
 
 pub returns : goal.returns
 returns c =
-            record {
+    record {
       byte = 255;
       laid = laid_more 255 (c.args.at + 1) (laid_one c.args.code.now c.args.at 4) refl;
       number = λ D ord ar s n name from words.

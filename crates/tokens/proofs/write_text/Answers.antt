@@ -14,4 +14,4 @@ shape_of-code c = laid-length c.put.ensures ∙ simp length-set
 
 pub returns : goal.returns
 returns c =
-        (laid_on (laid_more (length c.args.s.now) (c.args.at + 1) (laid_one c.args.code.now c.args.at 2) refl) c.put.ensures, refl)
+    (laid_on (laid_more (length c.args.s.now) (c.args.at + 1) (laid_one c.args.code.now c.args.at 2) refl) c.put.ensures, refl)

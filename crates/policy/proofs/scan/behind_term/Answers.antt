@@ -1,42 +1,34 @@
 -- `policy::scan::behind_term` meets its contract. Assumes nothing.
 use native.Mathlib.Omega.{arith}
-use Rattle.policy.proofs.Turns.{token-within, joined-turn, closed-turn, closed_none, ended-turn, ended-none, other_none}
+use Rattle.policy.proofs.Turns.{joined-turn, closed-turn, closed_none, ended-turn, ended-none, other_none}
 use Rattle.policy.proofs.scan.behind_term.Goals as goal
 
 pub returns-then-x-eq0 : goal.returns-then-x-eq0
 returns-then-x-eq0 c =
-        closed_none c.args.code.now c.args.x c.requires c.kind_at-k.result c.kind_at-k.ensures c.in-6.is c.if-x-eq0.true
-
-pub overflow_add-x : goal.overflow_add-x
-overflow_add-x c =
-        let l = token-within c.args.code.now c.args.x c.requires c.kind_at-k.result c.kind_at-k.ensures (omega (arith, c.in-6.is)) in
-    omega (arith, l)
+    closed_none c.args.code.now c.args.x c.requires c.kind_at-k.result c.kind_at-k.ensures c.in-6.is c.if-x-eq0.true
 
 pub returns-then-x-eq0-2 : goal.returns-then-x-eq0-2
 returns-then-x-eq0-2 c =
-        ended-turn c.args.code.now c.args.x c.requires c.kind_at-k.result c.kind_at-k.ensures c.in-0.is c.if-x-eq0-2.true
-
-pub overflow_add-x-in-10 : goal.overflow_add-x-in-10
-overflow_add-x-in-10 c =
-        let l = token-within c.args.code.now c.args.x c.requires c.kind_at-k.result c.kind_at-k.ensures (omega (arith, c.in-10.if-k-lt10-own.false)) in
-    omega (arith, l)
+    ended-turn c.args.code.now c.args.x c.requires c.kind_at-k.result c.kind_at-k.ensures c.in-0.is c.if-x-eq0-2.true
 
 pub returns-else-x-eq0 : goal.returns-else-x-eq0
 returns-else-x-eq0 c =
-        closed-turn c.args.code.now c.args.x c.requires c.kind_at-k.result c.kind_at-k.ensures c.moved.result c.moved.ensures c.in-6.is c.if-x-eq0.false
+    closed-turn c.args.code.now c.args.x c.requires c.kind_at-k.result c.kind_at-k.ensures c.moved.result c.moved.ensures c.in-6.is c.if-x-eq0.false
 
 pub returns-else-x-eq0-2 : goal.returns-else-x-eq0-2
 returns-else-x-eq0-2 c =
-        ended-none c.args.code.now c.args.x c.requires c.kind_at-k.result c.kind_at-k.ensures c.in-0.is c.if-x-eq0-2.false
+    ended-none c.args.code.now c.args.x c.requires c.kind_at-k.result c.kind_at-k.ensures c.in-0.is c.if-x-eq0-2.false
 
 pub returns-in-10 : goal.returns-in-10
 returns-in-10 c =
-        joined-turn c.args.code.now c.args.x c.requires c.kind_at-k.result c.kind_at-k.ensures c.moved-in-10.result c.moved-in-10.ensures c.in-10.if-k-lt10-own.false c.in-10.if-k-lt12-own.true
+    joined-turn c.args.code.now c.args.x c.requires c.kind_at-k.result c.kind_at-k.ensures c.moved-in-10.result c.moved-in-10.ensures (omega arith) (omega arith)
 
 pub returns-in_default : goal.returns-in_default
 returns-in_default c =
-            other_none c.args.code.now c.args.x c.requires c.kind_at-k.result c.kind_at-k.ensures c.in_default.in_default-own.rest.1 c.in_default.in_default-own.rest.0.1 (λ e. omega arith) (λ e. omega arith)
+    other_none c.args.code.now c.args.x c.requires c.kind_at-k.result c.kind_at-k.ensures
+    (λ k. omega arith) (λ k. omega arith) (λ k. omega arith) (λ k. omega arith)
 
 pub returns-in_default-2 : goal.returns-in_default-2
 returns-in_default-2 c =
-            other_none c.args.code.now c.args.x c.requires c.kind_at-k.result c.kind_at-k.ensures c.in_default.in_default-own.rest.1 c.in_default.in_default-own.rest.0.1 (λ e. omega arith) (λ e. omega arith)
+    other_none c.args.code.now c.args.x c.requires c.kind_at-k.result c.kind_at-k.ensures
+    (λ k. omega arith) (λ k. omega arith) (λ k. omega arith) (λ k. omega arith)

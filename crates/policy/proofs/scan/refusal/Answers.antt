@@ -1,24 +1,15 @@
 -- `policy::scan::refusal` meets its contract. Assumes nothing.
-use Rattle.policy.proofs.Wholes.{refuse-before, refuse-behind, refuse-none, refuse-large, refuse-unknown, accept}
+use Rattle.policy.proofs.Wholes.{refuse-large, refuse-unknown, accept}
 use Rattle.policy.proofs.scan.refusal.Goals as goal
 
 pub returns-then-is_large : goal.returns-then-is_large
 returns-then-is_large c =
-                refuse-large c.args.s c.args.unknown c.in-Whole.x c.in-Whole.is c.is_large.result c.is_large.ensures c.if-is_large.true
+    refuse-large c.args.s c.args.unknown c.in-Whole.x c.in-Whole.is c.is_large.result c.is_large.ensures c.if-is_large.true
 
 pub returns-then-unknown : goal.returns-then-unknown
 returns-then-unknown c =
-                refuse-unknown c.args.s c.args.unknown c.in-Whole.x c.in-Whole.is c.is_large.result c.is_large.ensures c.if-is_large.false c.if-unknown.true
-
-pub returns-in-Before : goal.returns-in-Before
-returns-in-Before c = refuse-before c.args.s c.args.unknown c.in-Before.field-0 c.in-Before.is
-
-pub returns-in-Behind : goal.returns-in-Behind
-returns-in-Behind c = refuse-behind c.args.s c.args.unknown c.in-Behind.field-0 c.in-Behind.is
+    refuse-unknown c.args.s c.args.unknown c.in-Whole.x c.in-Whole.is c.is_large.result c.is_large.ensures c.if-is_large.false c.if-unknown.true
 
 pub returns-else-unknown : goal.returns-else-unknown
 returns-else-unknown c =
-                accept c.args.s c.args.unknown c.in-Whole.x c.in-Whole.is c.is_large.result c.is_large.ensures c.if-is_large.false c.if-unknown.false
-
-pub returns-in-Failed : goal.returns-in-Failed
-returns-in-Failed c = refuse-none c.args.s c.args.unknown c.in-Failed.is
+    accept c.args.s c.args.unknown c.in-Whole.x c.in-Whole.is c.is_large.result c.is_large.ensures c.if-is_large.false c.if-unknown.false
