@@ -14,7 +14,7 @@ use Rattle.model.specs.Block.{byte_at, value_at}
 use Rattle.text.specs.declared.Words.{Words}
 use Rattle.values.specs.declared.Operand.{Operand}
 use Rattle.values.specs.declared.Found.{Found}
-use Rattle.values.specs.Operands.{lent, First, FirstPair, Finds, entry_words, words_from, entries_from, constants_from, operand_values}
+use Rattle.values.specs.Operands.{lent, First, FirstPair, Finds, entry_words, words_from, entries_from, constants_from}
 use Rattle.values.specs.Compared.{Lacks}
 use Rattle.values.proofs.AttributeValues.{entry-end, entry_next, session-values, block-values, code-values}
 

@@ -9,8 +9,8 @@ use Rattle.values.proofs.among_constants.Goals as goal
 
 pub returns-then-ty-eq-STR : goal.returns-then-ty-eq-STR
 returns-then-ty-eq-STR c =
-        c.among_strs.ensures ∙ ap (λ (l : List Words). among_of l (words c.args.x c.args.y c.args.z)) (strs-of c.args.ty c.args.code.now c.args.end c.args.start c.if-ty-eq-STR.true)
+    c.among_strs.ensures ∙ ap (λ (l : List Words). among_of l (words c.args.x c.args.y c.args.z)) (strs-of c.args.ty c.args.code.now c.args.end c.args.start c.if-ty-eq-STR.true)
 
 pub returns-else-ty-eq-STR : goal.returns-else-ty-eq-STR
 returns-else-ty-eq-STR c =
-        c.among_ints.ensures ∙ ap (λ (l : List Words). among_of l (words c.args.x c.args.y c.args.z)) (ints_of c.args.ty c.args.code.now c.args.end c.args.start c.if-ty-eq-STR.false)
+    c.among_ints.ensures ∙ ap (λ (l : List Words). among_of l (words c.args.x c.args.y c.args.z)) (ints_of c.args.ty c.args.code.now c.args.end c.args.start c.if-ty-eq-STR.false)

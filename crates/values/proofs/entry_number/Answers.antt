@@ -6,7 +6,6 @@ use Prim.Native.Nat.{◌*◌}
 use borrow.Author.Rules.{rules}
 use native.Mathlib.Omega.{arith}
 use mathlib.Core.Path.{◌∙◌}
-use mathlib.Core.Bool.{false}
 use lib.Dec.{eqb}
 use borrow.Author.Tests.{eq-eqb, ne_eqb}
 use Rattle.model.specs.Block.{byte_at}
@@ -32,7 +31,7 @@ loop-j-smaller c = omega arith
 
 pub loop-j-preserved : goal.loop-j-preserved
 loop-j-preserved c =
-        (none-further (λ m. eqb (byte_at c.args.entries.now (5 * m)) c.args.k) c.args.i c.loop-j.j c.loop-j.invariant.0 (ne_eqb _ _ (λ e. c.if-byte_to_word-k.false (c.byte_to_word.ensures.0 ∙ e))), omega arith)
+    (none-further (λ m. eqb (byte_at c.args.entries.now (5 * m)) c.args.k) c.args.i c.loop-j.j c.loop-j.invariant.0 (ne_eqb _ _ (λ e. c.if-byte_to_word-k.false (c.byte_to_word.ensures.0 ∙ e))), omega arith)
 
 pub returns : goal.returns
 returns c = record { lower = λ m a b l. c.loop-j.invariant.0 m a (omega arith); held = λ l. absurd (omega arith) }

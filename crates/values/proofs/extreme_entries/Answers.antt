@@ -12,12 +12,12 @@ loop-k-init c = nearing-start c.start_of-best.ensures
 
 pub returns-then-n-j : goal.returns-then-n-j
 returns-then-n-j c =
-        nearing-end (entry-end c.args.entries.now 1 c.args.k c.loop-k.i c.entry_number-j.result c.entry_number-j.ensures c.if-n-j.true) c.loop-k.invariant refl
+    nearing-end (entry-end c.args.entries.now 1 c.args.k c.loop-k.i c.entry_number-j.result c.entry_number-j.ensures c.if-n-j.true) c.loop-k.invariant refl
 
 pub loop-k-smaller : goal.loop-k-smaller
 loop-k-smaller c =
-        fewer (entry_next c.args.entries.now 1 c.args.k c.loop-k.i c.entry_number-j.result c.entry_number-j.ensures (words c.four.result 0 0) (ap (λ (v : ℕ). words v 0 0) c.four.ensures) (omega arith)) refl
+    fewer (entry_next c.args.entries.now 1 c.args.k c.loop-k.i c.entry_number-j.result c.entry_number-j.ensures (words c.four.result 0 0) (ap (λ (v : ℕ). words v 0 0) c.four.ensures) (omega arith)) refl
 
 pub loop-k-preserved : goal.loop-k-preserved
 loop-k-preserved c =
-        nearing-on (entry_next c.args.entries.now 1 c.args.k c.loop-k.i c.entry_number-j.result c.entry_number-j.ensures (words c.four.result 0 0) (ap (λ (v : ℕ). words v 0 0) c.four.ensures) (omega arith)) c.loop-k.invariant refl c.further-best.ensures
+    nearing-on (entry_next c.args.entries.now 1 c.args.k c.loop-k.i c.entry_number-j.result c.entry_number-j.ensures (words c.four.result 0 0) (ap (λ (v : ℕ). words v 0 0) c.four.ensures) (omega arith)) c.loop-k.invariant refl c.further-best.ensures

@@ -11,16 +11,16 @@ loop-ty-init c = record { comes-to = refl }
 
 pub returns-then-p-ge-PAIRS : goal.returns-then-p-ge-PAIRS
 returns-then-p-ge-PAIRS c =
-        seeking-end (c.pair_number-p.ensures.none c.if-p-ge-PAIRS.true c.args.pairs.now) c.loop-ty.invariant refl c.at_end.ensures
+    seeking-end (c.pair_number-p.ensures.none c.if-p-ge-PAIRS.true c.args.pairs.now) c.loop-ty.invariant refl c.at_end.ensures
 
 pub returns-then-not-is_false : goal.returns-then-not-is_false
 returns-then-not-is_false c =
-        seeking-met (c.pair_number-p.ensures.more (omega arith) c.args.pairs.now) c.loop-ty.invariant refl (c.asked-answer.ensures ∙ ap (asked c.args.wanted) c.among.ensures) (sym c.is_false.ensures ∙ c.if-not-is_false.true)
+    seeking-met (c.pair_number-p.ensures.more (omega arith) c.args.pairs.now) c.loop-ty.invariant refl (c.asked-answer.ensures ∙ ap (asked c.args.wanted) c.among.ensures) (sym c.is_false.ensures ∙ c.if-not-is_false.true)
 
 pub loop-ty-smaller : goal.loop-ty-smaller
 loop-ty-smaller c =
-        fewer (c.pair_number-p.ensures.more (omega arith) c.args.pairs.now) refl
+    fewer (c.pair_number-p.ensures.more (omega arith) c.args.pairs.now) refl
 
 pub loop-ty-preserved : goal.loop-ty-preserved
 loop-ty-preserved c =
-        seeking-on (c.pair_number-p.ensures.more (omega arith) c.args.pairs.now) c.loop-ty.invariant refl (c.asked-answer.ensures ∙ ap (asked c.args.wanted) c.among.ensures) (sym c.is_false.ensures ∙ c.if-not-is_false.false)
+    seeking-on (c.pair_number-p.ensures.more (omega arith) c.args.pairs.now) c.loop-ty.invariant refl (c.asked-answer.ensures ∙ ap (asked c.args.wanted) c.among.ensures) (sym c.is_false.ensures ∙ c.if-not-is_false.false)

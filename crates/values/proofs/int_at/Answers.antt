@@ -10,16 +10,16 @@ use Rattle.values.proofs.int_at.Goals as goal
 
 pub returns-then-code-end : goal.returns-then-code-end
 returns-then-code-end c =
-        c.nothing.ensures ∙ int-beyond c.args.code.now c.args.end c.args.i c.if-code-end.true
+    c.nothing.ensures ∙ int-beyond c.args.code.now c.args.end c.args.i c.if-code-end.true
 
 pub returns-then-end-lt5 : goal.returns-then-end-lt5
 returns-then-end-lt5 c =
-        c.nothing-then-end-lt5.ensures ∙ int-short c.args.code.now c.args.end c.args.i (omega arith) (omega arith)
+    c.nothing-then-end-lt5.ensures ∙ int-short c.args.code.now c.args.end c.args.i (omega arith) (omega arith)
 
 pub returns-then-end-i : goal.returns-then-end-i
 returns-then-end-i c =
-        c.nothing-then-end-i.ensures ∙ int-short c.args.code.now c.args.end c.args.i (omega arith) (omega arith)
+    c.nothing-then-end-i.ensures ∙ int-short c.args.code.now c.args.end c.args.i (omega arith) (omega arith)
 
 pub returns : goal.returns
 returns c =
-        ap (λ (w : Words). found w (c.args.i + 6)) (c.one_word.ensures ∙ ap (λ (v : ℕ). words v 0 0) c.four.ensures) ∙ int-whole c.args.code.now c.args.end c.args.i (omega arith) (omega arith)
+    ap (λ (w : Words). found w (c.args.i + 6)) (c.one_word.ensures ∙ ap (λ (v : ℕ). words v 0 0) c.four.ensures) ∙ int-whole c.args.code.now c.args.end c.args.i (omega arith) (omega arith)

@@ -8,4 +8,4 @@ returns-then-k-ge32 c = no_words c.args.session.now c.args.k c.args.i c.if-k-ge3
 
 pub returns : goal.returns
 returns c =
-        first-pair c.args.session.now c.args.k c.args.i (omega arith) (omega arith) c.first_from.result c.first_from.ensures
+    first-pair c.args.session.now c.args.k c.args.i (omega arith) (omega arith) c.first_from.result c.first_from.ensures

@@ -9,7 +9,7 @@ use Rattle.values.proofs.some_found.Goals as goal
 
 pub returns-then-right-gt-ENTRIES : goal.returns-then-right-gt-ENTRIES
 returns-then-right-gt-ENTRIES c =
-        let lend = lent c.args.code.now c.args.pairs.now c.args.session.now c.args.entries.now in
+    let lend = lent c.args.code.now c.args.pairs.now c.args.session.now c.args.entries.now in
     c.some_among.ensures
     ∙ ap (λ (t : ℕ). found_of true (operand_values lend c.args.right) (operand_values lend (operand t c.args.left.place c.args.left.start c.args.left.end))) (sym c.requires.1)
     ∙ found-turned (operand_values lend c.args.right) (operand_values lend c.args.left)
@@ -17,6 +17,6 @@ returns-then-right-gt-ENTRIES c =
 
 pub returns : goal.returns
 returns c =
-        let lend = lent c.args.code.now c.args.pairs.now c.args.session.now c.args.entries.now in
+    let lend = lent c.args.code.now c.args.pairs.now c.args.session.now c.args.entries.now in
     c.some_among-2.ensures
     ∙ ap (λ (t : ℕ). found_of c.args.wanted (operand_values lend c.args.left) (operand_values lend (operand t c.args.right.place c.args.right.start c.args.right.end))) c.requires.1
