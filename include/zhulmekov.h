@@ -17,9 +17,10 @@
    answers 3 with line 1, as for every file without its first line, and makes the table all 0. On the empty book, which every refused load leaves, each
    edit is refused, each request gets 15 or 16, and the file that zhul_write puts out is the first line alone, 9 bytes, which zhul_length tells.
 
-   Stack, as hosts/stack measures it on x86-64 (KB of 1000 bytes, rounded up; measured, not proved): zhul_pass 92 KB, of which 75 KB are a book and rules
-   of its own, zhul_load 17 KB, zhul_edit 16 KB, zhul_decide 2 KB, zhul_write and zhul_length 1 KB: for any file, accepted or refused, and for the last
-   three on any book and rules, also on bytes that no call left, which must not be lent.
+   Stack, as hosts/stack measures it on x86-64 (KB of 1000 bytes, rounded up; measured with the library as the older kit, rattle-kit-5b-plain, built it,
+   not proved): zhul_pass 92 KB, of which 75 KB are a book and rules of its own, zhul_load 17 KB, zhul_edit 16 KB, zhul_decide 2 KB, zhul_write and
+   zhul_length 1 KB: for any file, accepted or refused, and for the last three on any book and rules, also on bytes that no call left, which must not be
+   lent.
 
    Of the C library the calls need memset and memcpy, and nothing else; a firmware without that library gives its own. */
 #ifndef ZHULMEKOV_H
@@ -128,8 +129,8 @@ uint32_t zhul_pass(const uint8_t *file, size_t file_length, const uint8_t *block
 uint64_t zhul_load(const uint8_t *file, size_t file_length, uint64_t *book, uint8_t *rules, uint64_t *table, size_t table_words);
 
 /* One edit line, with its sign and its byte 10, on the book and the table that the last load or edit left. The number, the count and the joins: see
-   ZHUL_COUNT and ZHUL_JOINS. Time, measured and not proved: up to 0.1 us and 8 ns for each join, but for long chains of groups that stand in the file in
-   no order (README.md, "Edits between two skiers"). */
+   ZHUL_COUNT and ZHUL_JOINS. Time, measured with the library as the older kit, rattle-kit-5b-plain, built it, and not proved: up to 0.1 us and 8 ns for
+   each join, but for long chains of groups that stand in the file in no order (README.md, "Edits between two skiers"). */
 uint64_t zhul_edit(const uint8_t *line, size_t line_length, uint64_t *book, uint64_t *table, size_t table_words);
 
 /* One pass block, on the book and the table that the last load or edit left and the rules that the last load left. The number, the rule of a permit and
@@ -146,8 +147,8 @@ uint64_t zhul_write(const uint64_t *book, const uint8_t *rules, uint8_t *buffer,
 /* The length in bytes of the file that zhul_write would put out, told beforehand, from the same book and rules. Nothing is written and nothing is
    refused. zhul_write answers 18 precisely when this length is over its buffer's or over 32,768: if it is at most 32,768, a buffer of so many bytes is
    just enough. Edits can make a file longer than that, and its length is told all the same: megabytes are possible (hosts/longest.c: 3,556,503 bytes),
-   and whatever book and rules are lent, it is at most 15,782,188. Time: linear as that of a write; it takes some 0.36 of a write that is not refused
-   (bench/README.md). */
+   and whatever book and rules are lent, it is at most 15,782,188. Time: linear as that of a write; some 0.36 of a write that is not refused were
+   measured with the library as the older kit, rattle-kit-5b-plain, built it (bench/README.md). */
 uint64_t zhul_length(const uint64_t *book, const uint8_t *rules);
 
 #ifdef __cplusplus

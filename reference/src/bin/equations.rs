@@ -24,10 +24,10 @@ const TOO_MANY_STEPS: [&str; 9] = [
 ];
 
 const HEADER: &str = "-- Sessions of the conformance kit.
-use mathlib.Core.Path.{_≡_, refl}
-use Rattle·model.specs.Bytes.{bytes}
-use Rattle·model.specs.Gate.{gate}
-use Rattle·model.proofs.Computing.{computing}
+use mathlib.Core.Path.{◌≡◌, refl}
+use Rattle.model.specs.Bytes.{bytes}
+use Rattle.model.specs.Gate.{gate}
+use Rattle.model.proofs.Computing.{computing}
 ";
 
 /// Bytes as a quoted text of the prover's language.
