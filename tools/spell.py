@@ -8,7 +8,7 @@ name hold in a file, the longest beginning wins. A name is a whole word, as antt
 functions, fields and constants are in snake case or capitals, so no row is one of them. Quoted text stays as it is.
 The choice between two values, `if c then a else b` of model's Notation, has the name of an operator of std that groups otherwise, which a crate may not give to
 its own: it is written `if c then a otherwise b`, in specs/, proofs/, clauses and edits.
-It runs once, on what /opt/rattle/port/port.py made: a lemma that would fall together with a definition's new name gets `_lem`.
+It runs once, on what the port.py of the toolchain made: a lemma that would fall together with a definition's new name gets `_lem`.
 """
 
 import os
