@@ -1,6 +1,6 @@
 -- A book of zeros, and with holder 0 alone: the empty state. Assumes nothing.
 use Prim.Native.Nat.{ℕ, ◌+◌, ◌*◌, ◌/◌, ◌%◌, ◌≤◌, ◌<◌}
-use mathlib.Core.Path.{◌≡◌, refl, sym, ap, subst, ◌∙◌}
+use mathlib.Core.Path.{◌≡◌, refl, ap, ◌∙◌}
 use mathlib.Core.List.{List, []}
 use mathlib.Core.Option.{none}
 use native.Mathlib.Decide.{ℕ_discrete, dec_lt}
@@ -11,7 +11,6 @@ use Rattle.model.specs.Limits.{Edition}
 use Rattle.model.specs.Bytes.{Bytes, bytes}
 use Rattle.model.specs.Declarations.{Declarations, Sort, holder_numbers_of, groups, sort_of}
 use Rattle.model.specs.Ties.{no_ties}
-use Rattle.model.specs.State.{empty}
 use Rattle.model.proofs.WordTables.{none-is-some}
 use Rattle.text.specs.Packing.{packed_of}
 use Rattle.bits.specs.Bits.{bit}

@@ -1,6 +1,6 @@
 -- What is found in a section of a book: numbers of holders, operations and pairs, for every declarations that the section is that of.
 -- Assumes nothing: these are definitions.
-use Rattle.std.specs.Prelude.{ℕ, ◌+◌, ◌*◌, ◌≡◌, Bool, true, ◌&&◌, List, eqb, get_or}
+use Rattle.std.specs.Prelude.{ℕ, ◌≡◌, true, List}
 use Rattle.std.proofs.Math.Option.{some}
 use Rattle.model.specs.Notation.{nth}
 use Rattle.model.specs.Limits.{operation_limit, pair_limit}

@@ -3,42 +3,38 @@ use Prim.Native.Nat.{ℕ, ◌+◌, ◌*◌, ◌≤◌, ◌<◌, max}
 use mathlib.Core.Path.{◌≡◌, refl, sym, ap, subst, ◌∙◌}
 use mathlib.Core.Logic.{⊎_elim}
 use mathlib.Core.Bool.{Bool, true, false, ◌||◌}
-use mathlib.Core.List.{List, [], ◌∷◌, ◌++◌}
-use mathlib.Core.Option.{none, some}
+use mathlib.Core.List.{List, [], ◌∷◌}
 use native.Mathlib.Omega.{arith}
 use lib.Dec.{ltb}
 use lib.ListN.{length, get_or, take}
 use lib.Seq.{sets, length-sets}
 use borrow.Author.Tests.{ltb-false}
-use Rattle.model.specs.Notation.{if◌then◌otherwise◌, any_of, all_of}
+use Rattle.model.specs.Notation.{if◌then◌otherwise◌}
 use Rattle.model.specs.Limits.{term_limit, depth_limit, set_limit}
 use Rattle.model.specs.Bytes.{Bytes}
 use Rattle.truth.specs.Verdicts.{Verdict, policy_verdict}
 use Rattle.truth.proofs.Verdicts.{rule-read}
-use Rattle.model.specs.Declarations.{Declarations}
-use Rattle.model.specs.Tokens.{Token, Mark, is_token}
+use Rattle.model.specs.Tokens.{Token, Mark}
 use Rattle.model.specs.Grammar as grammar
 use Rattle.model.specs.Grammar.{Policy, Obeys, read_comparison, terms, depth, largest_set, read_policy, too_large}
 use Rattle.model.specs.Meaning.{Values}
-use Rattle.model.specs.Refusals.{unknown_name}
 use Rattle.model.proofs.WordTables.{false-is-true, none-is-some}
 use Rattle.model.proofs.Lists.{or-none}
 use Rattle.model.proofs.Sound.{sound}
 use Rattle.codes.specs.Codes.{mark_code}
 use Rattle.codes.proofs.TokenKinds.{mark-range}
-use Rattle.tokens.specs.RuleCode.{Coded}
 use Rattle.tokens.proofs.RuleCode.{coded-within}
 use Rattle.values.specs.Operands.{Lent, lent}
 use Rattle.program.specs.Walks as walks
 use Rattle.program.specs.Walks.{Walk, walk, fresh, termed, passed, is_passed, read_leaf, Ends}
-use Rattle.program.specs.TermRows.{row_bytes, row_next}
+use Rattle.program.specs.TermRows.{row_bytes}
 use Rattle.program.specs.Runs as runs
 use Rattle.program.specs.Runs.{Runs, Reads, ProgrammedBy, next_row}
 use Rattle.program.proofs.Walked.{walks-over}
 use Rattle.policy.specs.Readers.{Asked, From}
 use Rattle.policy.proofs.CodeFronts.{told, ended}
 use Rattle.compile.specs.declared.Term.{Term}
-use Rattle.compile.specs.Compiled.{IsRow, RowRead, row_of, TokenDone, Compiled}
+use Rattle.compile.specs.Compiled.{RowRead, row_of, TokenDone, Compiled}
 use Rattle.compile.proofs.Leaves.{leaf-kind}
 use Rattle.compile.proofs.RowBytes.{row-front, row_before, row_next_lem, row-value}
 

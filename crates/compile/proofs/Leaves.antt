@@ -1,24 +1,20 @@
 -- A term without parentheses at the front of the tokens: what begins with a var, and what does not.
-use Prim.Native.Nat.{ℕ, ◌+◌, ◌*◌, ◌≤◌, ◌<◌}
-use mathlib.Core.Path.{◌≡◌, refl, sym, ap, ap₂, subst, ◌∙◌}
+use Prim.Native.Nat.{ℕ, ◌+◌, ◌≤◌, ◌<◌}
+use mathlib.Core.Path.{◌≡◌, refl, sym, ap, subst, ◌∙◌}
 use mathlib.Core.Logic.{inl, inr}
-use mathlib.Core.Bool.{Bool, true, false}
+use mathlib.Core.Bool.{true, false}
 use mathlib.Core.List.{List, [], ◌∷◌}
 use mathlib.Core.Option.{Option, none, some, some-injective}
 use native.Mathlib.Omega.{arith}
 use native.Mathlib.Decide.{dec_lt}
 use lib.ListN.{length, get_or}
-use Rattle.model.specs.Notation.{◌>>=◌, ◌or_else◌}
 use Rattle.model.specs.Bytes.{Bytes}
 use Rattle.model.specs.Truth as model
 use Rattle.model.specs.Tokens.{Token, Mark, Operator}
 use Rattle.model.specs.Grammar as grammar
 use Rattle.model.specs.Grammar.{Policy, constant, lone, compare, attribute, read_operator, read_var, read_comparison}
-use Rattle.model.specs.Meaning.{Values, meaning, values_of}
+use Rattle.model.specs.Meaning.{Values, values_of}
 use Rattle.model.proofs.WordTables.{false-is-true, none-is-some}
-use Rattle.codes.specs.Codes.{operator_code}
-use Rattle.tokens.proofs.RuleCode.{coded-within}
-use Rattle.values.specs.declared.Operand.{Operand}
 use Rattle.values.specs.Operands.{lent, no_values, Stands}
 use Rattle.program.specs.Walks.{is_passed, read_bare, read_leaf}
 use Rattle.program.specs.TermRows as rows
@@ -28,7 +24,7 @@ use Rattle.policy.specs.Readers.{Lending, lending, Asked, From, VarReads, VarAns
 use Rattle.policy.proofs.CodeFronts.{told, mark_on, operator-on, operator-off}
 use Rattle.policy.proofs.Heads.{behind_operator, behind_var}
 use Rattle.compile.specs.declared.Term.{Term}
-use Rattle.compile.specs.Compiled.{IsTerm, TermRead, IsRow, RowRead}
+use Rattle.compile.specs.Compiled.{IsTerm, TermRead, RowRead}
 
 -- ---- by its first token
 

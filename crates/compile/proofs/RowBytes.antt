@@ -1,13 +1,12 @@
 -- A row that was written says what the term was.
-use Prim.Native.Nat.{ℕ, ◌+◌, ◌*◌, ◌/◌, ◌%◌, ◌≤◌, ◌<◌}
+use Prim.Native.Nat.{ℕ, ◌+◌, ◌≤◌, ◌<◌}
 use mathlib.Core.Path.{◌≡◌, refl, sym, ap, ◌∙◌}
-use mathlib.Core.List.{List, [], ◌∷◌, ◌++◌, append_assoc}
+use mathlib.Core.List.{◌++◌}
 use native.Mathlib.Omega.{arith}
 use lib.ListN.{length, get_or, take, drop, length-append}
 use lib.Seq.{sets, sets-eq, take_at, take-take, get_or-take, get_or-append-add, length-take-le}
 use Rattle.model.specs.Bytes.{Bytes}
 use Rattle.truth.specs.Verdicts.{Verdict}
-use Rattle.values.specs.declared.Operand.{Operand}
 use Rattle.values.specs.Operands.{Lent, operand}
 use Rattle.program.specs.TermRows.{row_bytes, two, operand_at, row_kind, row_left, row_right, row_next, TermValue, RowValue}
 use Rattle.compile.specs.declared.Term.{Term}

@@ -13,7 +13,6 @@ use Rattle.model.specs.Truth.{Truth, TRUE, UNDEF, FALSE, is_true, is_undef}
 use Rattle.model.specs.Declarations.{Declarations, Rule, operation_number}
 use Rattle.model.specs.State.{State}
 use Rattle.model.specs.Block.{Block}
-use Rattle.model.specs.Meaning.{meaning_of}
 use Rattle.model.specs.Causes.{absent, unlike, absent_of}
 use Rattle.model.specs.Session.{read_by}
 use Rattle.model.specs.Decision.{permit, deny, undefined, verdicts, cause, decision_by}

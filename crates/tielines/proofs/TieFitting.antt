@@ -2,7 +2,7 @@
 use Prim.Native.Nat.{ℕ, zero, suc, ◌<◌}
 use mathlib.Core.Path.{◌≡◌, sym, ap, subst, ◌∙◌}
 use mathlib.Core.Logic.{inl, inr}
-use mathlib.Core.Bool.{Bool, true, false, ◌||◌, or-false, true≢false}
+use mathlib.Core.Bool.{Bool, true, ◌||◌, or-false, true≢false}
 use mathlib.Core.List.{List}
 use mathlib.Core.Option.{some, some-injective}
 use native.Mathlib.Omega.{arith}

@@ -9,16 +9,15 @@ loop-at-init c = (refl, omega arith, compile-starts _ _ _)
 
 pub returns-then-kind-eq-END : goal.returns-then-kind-eq-END
 returns-then-kind-eq-END c =
-        (compile-ends _ _ c.loop-at.rows c.loop-at.row c.loop-at.at c.loop-at.invariant.2 c.if-kind-eq-END.true, c.loop-at.invariant.0)
+    (compile-ends _ _ c.loop-at.rows c.loop-at.row c.loop-at.at c.loop-at.invariant.2 c.if-kind-eq-END.true, c.loop-at.invariant.0)
 
 pub loop-at-preserved : goal.loop-at-preserved
-loop-at-preserved c =
-            (
-      c.token-next.ensures.long ∙ c.loop-at.invariant.0,
-      omega (arith, c.next_row-row.ensures.1, c.token-next.ensures.ahead, c.loop-at.invariant.1),
-      compile-goes-on _ _ c.loop-at.rows c.loop-at.row c.loop-at.at c.loop-at.invariant.2 c.requires.1 c.if-kind-eq-END.false _ c.token-next.result c.token-next.ensures c.next_row-row.result c.next_row-row.ensures.0,
-    )
+loop-at-preserved c = (
+  c.token-next.ensures.long ∙ c.loop-at.invariant.0,
+  omega (arith, c.next_row-row.ensures.1, c.token-next.ensures.ahead, c.loop-at.invariant.1),
+  compile-goes-on _ _ c.loop-at.rows c.loop-at.row c.loop-at.at c.loop-at.invariant.2 c.requires.1 c.if-kind-eq-END.false _ c.token-next.result c.token-next.ensures c.next_row-row.result c.next_row-row.ensures.0,
+)
 
 pub returns : goal.returns
 returns c =
-        (compile-out _ _ c.loop-at.rows c.loop-at.row c.loop-at.at c.loop-at.invariant.2 (omega arith), c.loop-at.invariant.0)
+    (compile-out _ _ c.loop-at.rows c.loop-at.row c.loop-at.at c.loop-at.invariant.2 (omega arith), c.loop-at.invariant.0)

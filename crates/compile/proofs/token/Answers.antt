@@ -14,8 +14,8 @@ returns-then-is_passed c =
 
 pub returns : goal.returns
 returns c =
-            let no = sym c.is_passed.ensures ∙ c.if-is_passed.false in
-        record {
+    let no = sym c.is_passed.ensures ∙ c.if-is_passed.false in
+    record {
       mark = λ p. false-is-true (sym no ∙ p);
       a-term = λ p. (c.row_at-t.result, c.row_at-t.ensures, c.put_row.ensures, c.behind.ensures);
       ahead = omega (arith, c.behind.ensures);

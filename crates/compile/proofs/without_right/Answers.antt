@@ -5,4 +5,4 @@ use Rattle.compile.proofs.without_right.Goals as goal
 
 pub returns : goal.returns
 returns c =
-        ap (λ (o : Operand). record { kind = c.args.kind; left = c.args.left; right = o; next = c.args.next }) c.no_values-right.ensures
+    ap (λ (o : Operand). record { kind = c.args.kind; left = c.args.left; right = o; next = c.args.next }) c.no_values-right.ensures

@@ -1,7 +1,6 @@
 -- `edit::tie_of_line` meets its contract: 4, 13, or the tie of the fields, which are lent. Assumes nothing.
 use native.Mathlib.Omega.{arith}
 use Rattle.edit.proofs.EditLines.{no-frame, key-before, key-of-rules, key-of-ties}
-use Rattle.edit.proofs.tie_of_line.Tie as tie
 use Rattle.edit.proofs.tie_of_line.Goals as goal
 
 pub returns-then-key-eq0 : goal.returns-then-key-eq0

@@ -1,7 +1,6 @@
 -- `tielines::of_fields` meets its contract: a value line, or a line of two names. Assumes nothing.
 use borrow.Author.Tests.{not-true, not-false}
 use Rattle.tielines.proofs.TieFields.{value-unread, value_read, two-unread, two-read}
-use Rattle.tielines.proofs.of_fields.Tie as tie
 use Rattle.tielines.proofs.of_fields.Goals as goal
 
 pub returns-then-not-v : goal.returns-then-not-v

@@ -3,7 +3,6 @@ use mathlib.Core.Path.{sym, ◌∙◌}
 use native.Mathlib.Omega.{arith}
 use Rattle.tielines.specs.TieReading.{tie_by, above_for}
 use Rattle.tielines.proofs.TieNaming.{two-named, holder-there, holder-absent, holder-sort, sort-word, lower-gone, upper-gone, sorts-wrong, sorts-right}
-use Rattle.tielines.proofs.two.Tie as tie
 use Rattle.tielines.proofs.two.Goals as goal
 
 pub returns-then-h-ge-HOLDERS : goal.returns-then-h-ge-HOLDERS

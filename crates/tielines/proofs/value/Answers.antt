@@ -4,7 +4,6 @@ use Rattle.model.specs.Limits.{pair_limit}
 use Rattle.model.specs.Declarations.{pair_number, source_for}
 use Rattle.tielines.specs.TieReading.{tie_by}
 use Rattle.tielines.proofs.TieNaming.{number-there, number-gone, holder-there, holder-absent, holder-sort, sort-word, pair-few, holder-gone, pair-gone, pair-there}
-use Rattle.tielines.proofs.value.Tie as tie
 use Rattle.tielines.proofs.value.Goals as goal
 
 pub returns-then-h-ge-HOLDERS : goal.returns-then-h-ge-HOLDERS

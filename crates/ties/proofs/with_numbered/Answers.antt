@@ -1,14 +1,10 @@
 -- `ties::with_numbered` meets its contract. Assumes nothing.
 use mathlib.Core.Path.{refl, ◌∙◌}
-use native.Mathlib.Omega.{arith}
 use lib.Dec.{eqb}
 use borrow.Author.Tests.{eq-eqb}
 use Rattle.model.proofs.Lists.{or_left, or_right}
 use Rattle.bits.specs.Bits.{bit}
 use Rattle.ties.proofs.with_numbered.Goals as goal
-
-pub returns-then-holder_at-eq0 : goal.returns-then-holder_at-eq0
-returns-then-holder_at-eq0 c = record { kept = λ j on. on; taken = λ h. absurd (omega (arith, h, c.holder_at.ensures, c.if-holder_at-eq0.true)) }
 
 pub returns : goal.returns
 returns c =

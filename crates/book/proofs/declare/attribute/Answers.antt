@@ -9,20 +9,18 @@ returns-then-is_block_text c = (left, attribute-sorted _ _ _ _ _ c.is_block_text
 
 pub returns-then-k-ne-ATTRIBUTES : goal.returns-then-k-ne-ATTRIBUTES
 returns-then-k-ne-ATTRIBUTES c =
-        (left, attribute-repeated _ _ _ _ _ c.is_block_text.ensures c.if-is_block_text.false _ c.attribute_number-k.ensures c.if-k-ne-ATTRIBUTES.true)
+    (left, attribute-repeated _ _ _ _ _ c.is_block_text.ensures c.if-is_block_text.false _ c.attribute_number-k.ensures c.if-k-ne-ATTRIBUTES.true)
 
 pub returns-then-n-ge-ATTRIBUTES : goal.returns-then-n-ge-ATTRIBUTES
-returns-then-n-ge-ATTRIBUTES c =
-        (
-      left,
-      attribute-full _ _ _ _ _ c.is_block_text.ensures c.if-is_block_text.false _ c.attribute_number-k.ensures c.if-k-ne-ATTRIBUTES.false _
-          c.word_to_index-n.ensures (omega arith),
-    )
+returns-then-n-ge-ATTRIBUTES c = (
+  left,
+  attribute-full _ _ _ _ _ c.is_block_text.ensures c.if-is_block_text.false _ c.attribute_number-k.ensures c.if-k-ne-ATTRIBUTES.false _
+      c.word_to_index-n.ensures (omega arith),
+)
 
 pub returns : goal.returns
-returns c =
-                    (
-      written (attribute-same-length _ _ _ _ _ (omega arith) _ c.put_attribute.ensures),
-      attribute-step _ _ _ _ _ c.is_block_text.ensures c.if-is_block_text.false _ c.attribute_number-k.ensures c.if-k-ne-ATTRIBUTES.false _
-          c.word_to_index-n.ensures (omega arith) _ c.put_attribute.ensures,
-    )
+returns c = (
+  written (attribute-same-length _ _ _ _ _ (omega arith) _ c.put_attribute.ensures),
+  attribute-step _ _ _ _ _ c.is_block_text.ensures c.if-is_block_text.false _ c.attribute_number-k.ensures c.if-k-ne-ATTRIBUTES.false _
+      c.word_to_index-n.ensures (omega arith) _ c.put_attribute.ensures,
+)

@@ -11,27 +11,25 @@ returns-then-k-ne-HOLDERS c = (left, holder-repeated _ _ _ _ c.holder_number-k.e
 
 pub returns-then-n-ge-HOLDERS : goal.returns-then-n-ge-HOLDERS
 returns-then-n-ge-HOLDERS c =
-        (left, holder-full _ _ _ _ c.holder_number-k.ensures.1 c.if-k-ne-HOLDERS.false _ c.word_to_index-n.ensures (omega arith))
+    (left, holder-full _ _ _ _ c.holder_number-k.ensures.1 c.if-k-ne-HOLDERS.false _ c.word_to_index-n.ensures (omega arith))
 
 pub returns-then-key-ge-KEY_USER : goal.returns-then-key-ge-KEY_USER
-returns-then-key-ge-KEY_USER c =
-                        (
-      written (holder-same-length _ _ _ _ c.requires (omega arith) _ c.put_holder.ensures),
-      holder-step _ _ _ _ c.holder_number-k.ensures.1 c.if-k-ne-HOLDERS.false _ c.word_to_index-n.ensures (omega arith)
-          (omega (arith, c.if-key-ge-KEY_USER.true)) _ c.put_holder.ensures,
-    )
+returns-then-key-ge-KEY_USER c = (
+  written (holder-same-length _ _ _ _ c.requires (omega arith) _ c.put_holder.ensures),
+  holder-step _ _ _ _ c.holder_number-k.ensures.1 c.if-k-ne-HOLDERS.false _ c.word_to_index-n.ensures (omega arith)
+      (omega (arith, c.if-key-ge-KEY_USER.true)) _ c.put_holder.ensures,
+)
 
 pub returns-then-g-ge-GROUPS : goal.returns-then-g-ge-GROUPS
-returns-then-g-ge-GROUPS c =
-                (
-      left,
-      group-full _ _ _ _ c.holder_number-k.ensures.1 c.if-k-ne-HOLDERS.false _ c.word_to_index-n.ensures (omega arith)
-          (omega (arith, c.if-key-ge-KEY_USER.false)) _ c.word_to_index-g.ensures (omega arith),
-    )
+returns-then-g-ge-GROUPS c = (
+  left,
+  group-full _ _ _ _ c.holder_number-k.ensures.1 c.if-k-ne-HOLDERS.false _ c.word_to_index-n.ensures (omega arith)
+      (omega (arith, c.if-key-ge-KEY_USER.false)) _ c.word_to_index-g.ensures (omega arith),
+)
 
 pub returns : goal.returns
 returns c =
-                                        let long = holder-same-length _ _ _ _ c.requires (omega arith) _ c.put_holder-2.ensures in (
+    let long = holder-same-length _ _ _ _ c.requires (omega arith) _ c.put_holder-2.ensures in (
       written (group-same-length _ _ _ (long ∙ c.requires) (omega arith) (omega arith) _ c.put_group.ensures ∙ long),
       group-step _ _ _ _ c.holder_number-k.ensures.1 c.if-k-ne-HOLDERS.false _ c.word_to_index-n.ensures (omega arith)
           (omega (arith, c.if-key-ge-KEY_USER.false)) _ c.word_to_index-g.ensures (omega arith) _ _ c.put_holder-2.ensures c.put_group.ensures,

@@ -9,11 +9,10 @@ returns-then-k-ne-OPERATIONS c = (left, operation-repeated _ _ _ c.operation_num
 
 pub returns-then-n-ge-OPERATIONS : goal.returns-then-n-ge-OPERATIONS
 returns-then-n-ge-OPERATIONS c =
-        (left, operation-full _ _ _ c.operation_number-k.ensures.1 c.if-k-ne-OPERATIONS.false _ c.word_to_index-n.ensures (omega arith))
+    (left, operation-full _ _ _ c.operation_number-k.ensures.1 c.if-k-ne-OPERATIONS.false _ c.word_to_index-n.ensures (omega arith))
 
 pub returns : goal.returns
-returns c =
-                (
-      written (operation-same-length _ _ _ (omega arith) _ c.put_operation.ensures),
-      operation-step _ _ _ c.operation_number-k.ensures.1 c.if-k-ne-OPERATIONS.false _ c.word_to_index-n.ensures (omega arith) _ c.put_operation.ensures,
-    )
+returns c = (
+  written (operation-same-length _ _ _ (omega arith) _ c.put_operation.ensures),
+  operation-step _ _ _ c.operation_number-k.ensures.1 c.if-k-ne-OPERATIONS.false _ c.word_to_index-n.ensures (omega arith) _ c.put_operation.ensures,
+)

@@ -7,8 +7,8 @@ use Rattle.book.proofs.declare.put_holder.Goals as goal
 
 pub bounds-book-3 : goal.bounds-book-3
 bounds-book-3 c =
-                omega (arith, wrote-long c.args.book.now c.args.n c.args.sort c.args.name c.requires.0 c.requires.1 _ c.add.ensures ((section.sorts).start + c.args.n) c.args.sort)
+    omega (arith, wrote-long c.args.book.now c.args.n c.args.sort c.args.name c.requires.0 c.requires.1 _ c.add.ensures ((section.sorts).start + c.args.n) c.args.sort)
 
 pub returns : goal.returns
 returns c =
-                wrote-holder c.args.book.now c.args.n c.args.sort c.args.name c.requires.0 c.requires.1 _ c.add.ensures
+    wrote-holder c.args.book.now c.args.n c.args.sort c.args.name c.requires.0 c.requires.1 _ c.add.ensures

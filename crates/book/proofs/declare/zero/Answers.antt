@@ -22,11 +22,11 @@ loop-i-smaller c = omega arith
 
 pub loop-i-preserved : goal.loop-i-preserved
 loop-i-preserved c =
-                (length-set c.loop-i.words c.loop-i.i 0 ∙ c.loop-i.invariant.0, omega arith, c.loop-i.invariant.2, zero_more c.loop-i.words c.loop-i.i (omega arith) c.loop-i.invariant.3)
+    (length-set c.loop-i.words c.loop-i.i 0 ∙ c.loop-i.invariant.0, omega arith, c.loop-i.invariant.2, zero_more c.loop-i.words c.loop-i.i (omega arith) c.loop-i.invariant.3)
 
 pub shape_of-words : goal.shape_of-words
 shape_of-words c = c.loop-i.invariant.0
 
 pub returns : goal.returns
 returns c =
-        (c.loop-i.invariant.0, zero-all c.loop-i.words c.loop-i.i (omega arith) c.loop-i.invariant.3)
+    (c.loop-i.invariant.0, zero-all c.loop-i.words c.loop-i.i (omega arith) c.loop-i.invariant.3)

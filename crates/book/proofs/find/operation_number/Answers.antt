@@ -1,7 +1,6 @@
 -- `book::find::operation_number` meets its contract: no row that was passed has that name. Assumes nothing.
 use native.Mathlib.Omega.{arith}
 use mathlib.Core.Path.{sym, ◌∙◌}
-use mathlib.Core.Bool.{false}
 use borrow.Author.Count.{below_more}
 use Rattle.book.proofs.Finding.{operation-none, operation-at}
 use Rattle.book.proofs.find.operation_number.Goals as goal

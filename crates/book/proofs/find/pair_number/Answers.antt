@@ -5,4 +5,4 @@ use Rattle.book.proofs.find.pair_number.Goals as goal
 
 pub returns : goal.returns
 returns c =
-        (omega (arith, c.find.ensures.within, c.requires.0), pair_found _ _ _ _ c.find.ensures)
+    (omega (arith, c.find.ensures.within, c.requires.0), pair_found _ _ _ _ c.find.ensures)

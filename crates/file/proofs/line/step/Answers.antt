@@ -4,7 +4,6 @@ use native.Mathlib.Omega.{arith}
 use Rattle.model.specs.Keys.{Key}
 use Rattle.tielines.proofs.TieFields.{is-tie-key}
 use Rattle.file.proofs.FileLines.{at_key}
-use Rattle.file.proofs.line.step.Tie as tie
 use Rattle.file.proofs.line.step.Goals as goal
 
 pub returns-then-key-lt-KEY_PARENT : goal.returns-then-key-lt-KEY_PARENT
