@@ -5,7 +5,6 @@ use mathlib.Core.Logic.{◌↔◌}
 use mathlib.Core.Bool.{true}
 use mathlib.Core.List.{List, ◌∷◌}
 use mathlib.Core.Option.{some}
-use lib.ListN.{length}
 use Rattle.model.specs.Notation.{map, count_of, below}
 use Rattle.model.specs.Limits.{Edition, holder_numbers, join_limit}
 use Rattle.model.specs.Bytes.{Bytes}
