@@ -23,7 +23,7 @@ use Rattle.model.specs.Host.{host_call, host_table}
 use Rattle.model.proofs.Table.{table-length}
 use Rattle.model.proofs.Editions.{load-edition}
 use Rattle.model.proofs.Outcomes.{outcome_by, outcome-by}
-use Rattle.request.specs.Decisions.{decision_of, number_and_values_of}
+use Rattle.request.specs.Decisions.{decision_of}
 use Rattle.book.specs.Calls.{answer_number, Loads}
 use Rattle.edit.specs.EditSteps.{EditCall}
 use Rattle.engine.specs.Runs.{Memory, Does, end_words}

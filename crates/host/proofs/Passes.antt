@@ -18,7 +18,7 @@ use Rattle.model.specs.Refusals.{wrong_table}
 use Rattle.model.specs.Load as model
 use Rattle.model.specs.Decision.{number_and_values}
 use Rattle.model.specs.Decision as decision
-use Rattle.model.specs.Ledger.{Call, loaded, table_after, Outcome, outcome}
+use Rattle.model.specs.Ledger.{Call, loaded, table_after, Outcome}
 use Rattle.model.specs.Host.{host_call, host_table}
 use Rattle.model.proofs.Editions.{load-edition}
 use Rattle.model.proofs.Outcomes.{outcome_by, outcome-by}
