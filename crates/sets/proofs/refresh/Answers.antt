@@ -1,7 +1,6 @@
 -- `sets::refresh` meets its contract: one set, or a group's and those below it, whose marks are counted. Assumes nothing.
 use Prim.Native.Nat.{ℕ, ◌*◌}
 use mathlib.Core.Path.{refl, sym, ap, ◌∙◌}
-use native.Mathlib.Omega.{arith}
 use Rattle.bits.specs.Bits.{member, count_below}
 use Rattle.sets.proofs.Refreshing.{refreshed-alone, refreshed-below}
 use Rattle.sets.proofs.refresh.Goals as goal
@@ -11,10 +10,6 @@ returns-then-not-is_group c =
     refreshed-alone c.args.ups.now c.args.own.now c.args.slots.now c.args.groups.now c.args.edited _ c.args.table.now c.refresh_alone.new.table
     (sym c.is_group.ensures ∙ c.if-not-is_group.true) c.requires.1 c.requires.0.table-long (c.refresh_alone.auto.table ∙ c.requires.0.table-long) refl
     c.refresh_alone.ensures.0 c.refresh_alone.result.changed c.refresh_alone.result.joins c.refresh_alone.ensures.1 c.refresh_alone.ensures.2
-
-pub rewrite_below-joins-requires : goal.rewrite_below-joins-requires
-rewrite_below-joins-requires c =
-    (c.requires.0, omega (arith, c.requires.1), omega (arith, c.requires.1))
 
 pub returns : goal.returns
 returns c =

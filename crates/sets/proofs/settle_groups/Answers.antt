@@ -6,22 +6,11 @@ use Rattle.bits.specs.Bits.{bit}
 use Rattle.bits.proofs.Bits.{bit-none, bit_not}
 use Rattle.bits.proofs.Walks.{fewer-left}
 use Rattle.sets.proofs.Laws.{settled-none, settled-less, turn, deep-start}
-use native.Mathlib.Omega.{arith}
 use Rattle.sets.proofs.settle_groups.Goals as goal
 
 pub loop-left-init : goal.loop-left-init
 loop-left-init c =
     (c.requires.0.table-long, refl, settled-none _ _ _ _ _ (λ dp g l u w. not-false (bit c.args.done g) (sym (bit_not 64 c.args.done g c.ranges.done.fits l) ∙ w.1)))
-
-pub settle-seen-requires : goal.settle-seen-requires
-settle-seen-requires c = (
-  record { own-long = c.requires.0.own-long; slots-long = c.requires.0.slots-long; table-long = c.loop-left.invariant.0 },
-  omega (arith, c.requires.1, c.loop-left.invariant.1),
-  (c.lowest-g.ensures.held c.loop-left-test.true).0,
-)
-
-pub without-left-requires : goal.without-left-requires
-without-left-requires c = (c.lowest-g.ensures.held c.loop-left-test.true).0
 
 pub loop-left-smaller : goal.loop-left-smaller
 loop-left-smaller c =
@@ -36,12 +25,6 @@ loop-left-preserved c =
       turn (λ q. q < 64) c.loop-left.left c.lowest-g.result c.without-left.result c.without-left.ensures c.loop-left.invariant.2 c.settle-seen.ensures.0
           (deep-start c.args.ups.now c.args.slots.now c.lowest-g.result held.0),
     )
-
-pub shape_of-table : goal.shape_of-table
-shape_of-table c = c.loop-left.invariant.0 ∙ sym c.requires.0.table-long
-
-pub shape_of-marks : goal.shape_of-marks
-shape_of-marks c = c.loop-left.invariant.1
 
 pub returns : goal.returns
 returns c = settled-less (λ g. g < 64) c.loop-left.invariant.2 (λ g l. (l, ap (λ (w : ℕ). bit w g) c.loop-left-test.false ∙ bit-none g))

@@ -1,10 +1,7 @@
 -- `sets::store_under` meets its contract: before holder k the parties are stored, and the joins summed. Assumes nothing.
-use mathlib.Core.Path.{◌≡◌, refl, sym, ◌∙◌, subst}
+use mathlib.Core.Path.{refl, sym, ◌∙◌}
 use native.Mathlib.Omega.{arith}
-use lib.ListN.{length}
-use Rattle.ties.specs.TieJoins.{joins_under}
 use Rattle.ties.proofs.Joining.{at_some, at_none, joins-none, joins-more, joins-few}
-use Rattle.sets.specs.Settled.{PartiesStored}
 use Rattle.sets.proofs.Laws.{parties-none, group-no-party, apart-no-party, party-by, party-passed, party-stored}
 use Rattle.sets.proofs.store_under.Goals as goal
 use Rattle.sets.proofs.store_under.Goals.{then-added-ne0+then-not-is_group, then-added-ne0+else-not-is_group, else-added-ne0}
@@ -19,19 +16,9 @@ loop-k-init c = (
   sym (joins-none c.args.ups.now c.args.below c.args.edited),
 )
 
-pub bounds-ups-k : goal.bounds-ups-k
-bounds-ups-k c = omega arith
-
-pub store_marked-requires : goal.store_marked-requires
-store_marked-requires c =
-    omega (arith, c.requires.0.own-long, c.requires.1, c.loop-k.invariant.2, c.loop-k.invariant.3)
-
 pub overflow_add-joins : goal.overflow_add-joins
 overflow_add-joins c =
     record { fits = omega (arith, c.joins_under-added.ensures.1, c.loop-k.invariant.5, c.loop-k.invariant.0, joins-few c.args.ups.now c.args.below c.args.edited c.loop-k.k, c.requires.2) }
-
-pub loop-k-smaller : goal.loop-k-smaller
-loop-k-smaller c = omega arith
 
 pub loop-k-preserved : goal.loop-k-preserved
 loop-k-preserved c =
@@ -68,16 +55,3 @@ loop-k-preserved c =
         omega (arith, more, c.joins_under-added.ensures.0, c.loop-k.invariant.5),
       )
     ]
-
-pub shape_of-table : goal.shape_of-table
-shape_of-table c = c.loop-k.invariant.2 ∙ sym c.requires.0.table-long
-
-pub shape_of-marks : goal.shape_of-marks
-shape_of-marks c = c.loop-k.invariant.3
-
-pub returns : goal.returns
-returns c =
-    let e : c.loop-k.k ≡ length c.args.ups.now = omega arith in (
-      subst (PartiesStored c.args.ups.now c.args.own.now c.args.slots.now c.args.groups.now c.args.below c.args.edited c.args.table.now c.loop-k.table c.args.marks.now c.loop-k.marks) e c.loop-k.invariant.4,
-      subst (λ n. c.loop-k.joins ≡ joins_under c.args.ups.now c.args.below c.args.edited n) e c.loop-k.invariant.5,
-    )

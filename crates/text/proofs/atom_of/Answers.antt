@@ -20,15 +20,6 @@ pub returns-in-Number : goal.returns-in-Number
 returns-in-Number c =
     c.single.ensures ∙ sym (read_int_lem c.args.s.now c.in-Number.n (sym c.int_of-i.ensures ∙ c.in-Number.is))
 
-pub overflow_sub-e : goal.overflow_sub-e
-overflow_sub-e c = omega (arith, c.is_str.ensures.long c.if-is_str.true)
-
-pub slice_bounds-words_of-count : goal.slice_bounds-words_of-count
-slice_bounds-words_of-count c = omega (arith, c.is_str.ensures.long c.if-is_str.true)
-
-pub slice_bounds-words_of-start : goal.slice_bounds-words_of-start
-slice_bounds-words_of-start c = omega (arith, c.is_str.ensures.long c.if-is_str.true)
-
 pub words_of-requires : goal.words_of-requires
 words_of-requires c =
     omega (arith, inside-length c.args.s.now c.is_str.ensures c.if-is_str.true)

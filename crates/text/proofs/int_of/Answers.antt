@@ -5,9 +5,6 @@ use Rattle.text.specs.ReadCodes.{is_decimal, coded_int}
 use Rattle.text.proofs.DecimalDigits.{int-decimal, int-other}
 use Rattle.text.proofs.int_of.Goals as goal
 
-pub number_of-requires : goal.number_of-requires
-number_of-requires c = sym c.is_decimal.ensures ∙ c.if-is_decimal.true
-
 pub returns-then-is_decimal : goal.returns-then-is_decimal
 returns-then-is_decimal c =
     let e : is_decimal c.args.s.now ≡ true = sym c.is_decimal.ensures ∙ c.if-is_decimal.true in

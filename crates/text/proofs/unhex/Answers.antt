@@ -1,6 +1,6 @@
 -- `text::unhex` meets its contract: the pairs passed stand at the front of the output, and what is behind them is kept.
 use Prim.Native.Nat.{ℕ, ◌+◌, ◌*◌, ◌/◌}
-use mathlib.Core.Path.{◌≡◌, refl, sym, ap, subst, ◌∙◌}
+use mathlib.Core.Path.{◌≡◌, sym, ap, subst, ◌∙◌}
 use mathlib.Core.Bool.{not}
 use mathlib.Core.Option.{Option}
 use native.Mathlib.Omega.{arith}
@@ -10,7 +10,7 @@ use lib.Dec.{eqb}
 use Rattle.model.specs.Notation.{is_none}
 use Rattle.model.specs.Bytes.{Bytes}
 use Rattle.text.specs.Hex.{Unhexed}
-use Rattle.text.proofs.HexPairs.{so-far-start, so_far_more, stops, ends, filled, pair_code_lem, no-pair}
+use Rattle.text.proofs.HexPairs.{so_far_more, stops, ends, filled, pair_code_lem, no-pair}
 use Rattle.text.proofs.unhex.Goals as goal
 
 -- one byte more is written, and what is behind it is kept
@@ -18,44 +18,10 @@ kept : (before after : Bytes) (i b : ℕ) → drop i after ≡ drop i before →
 kept before after i b e =
     drop-set-lt (i + 1) after i b (omega arith) ∙ sym (drop-drop 1 i after) ∙ ap (drop 1) e ∙ drop-drop 1 i before
 
-pub loop-i-init : goal.loop-i-init
-loop-i-init c = (omega arith, refl, refl, so-far-start c.args.s.now c.args.out.now)
-
-pub overflow_mul-at : goal.overflow_mul-at
-overflow_mul-at c = omega arith
-
-pub bounds-s-at : goal.bounds-s-at
-bounds-s-at c = omega arith
-
-pub overflow_add-at : goal.overflow_add-at
-overflow_add-at c = omega arith
-
-pub bounds-s-at-in-loop-i : goal.bounds-s-at-in-loop-i
-bounds-s-at-in-loop-i c = omega arith
-
-pub hex_pair-b-requires : goal.hex_pair-b-requires
-hex_pair-b-requires c = tt
-
-pub shape_of-out-then-b-eq256 : goal.shape_of-out-then-b-eq256
-shape_of-out-then-b-eq256 c = c.loop-i.invariant.1
-
 pub returns-then-b-eq256 : goal.returns-then-b-eq256
 returns-then-b-eq256 c =
     let (l, z) = stops c.args.s.now c.loop-i.out c.loop-i.i (omega arith) (no-pair (get_or c.args.s.now (2 * c.loop-i.i) 0) (get_or c.args.s.now (2 * c.loop-i.i + 1) 0) (sym c.if-b-eq256.true ∙ c.hex_pair-b.ensures)) c.loop-i.invariant.3 in
     filled c.args.s.now c.args.out.now c.loop-i.out c.loop-i.i _ (omega arith) l c.loop-i.invariant.2 (sym (ap (λ (o : Option Bytes). not (is_none o)) z))
-
-pub overflow_cast-out : goal.overflow_cast-out
-overflow_cast-out c =
-    record { fits = (pair_code_lem (get_or c.args.s.now (2 * c.loop-i.i) 0) (get_or c.args.s.now (2 * c.loop-i.i + 1) 0) c.hex_pair-b.result c.hex_pair-b.ensures c.if-b-eq256.false).1 }
-
-pub bounds-out-i : goal.bounds-out-i
-bounds-out-i c = omega arith
-
-pub overflow_add-i : goal.overflow_add-i
-overflow_add-i c = omega arith
-
-pub loop-i-smaller : goal.loop-i-smaller
-loop-i-smaller c = omega arith
 
 pub loop-i-preserved : goal.loop-i-preserved
 loop-i-preserved c = (
@@ -64,12 +30,6 @@ loop-i-preserved c = (
   kept c.args.out.now c.loop-i.out c.loop-i.i c.hex_pair-b.result c.loop-i.invariant.2,
   so_far_more c.args.s.now c.loop-i.out c.loop-i.i (omega arith) c.hex_pair-b.result (pair_code_lem (get_or c.args.s.now (2 * c.loop-i.i) 0) (get_or c.args.s.now (2 * c.loop-i.i + 1) 0) c.hex_pair-b.result c.hex_pair-b.ensures c.if-b-eq256.false).0 (omega arith) c.loop-i.invariant.3,
 )
-
-pub overflow_mul-result : goal.overflow_mul-result
-overflow_mul-result c = omega arith
-
-pub shape_of-out : goal.shape_of-out
-shape_of-out c = c.loop-i.invariant.1
 
 pub returns : goal.returns
 returns c =

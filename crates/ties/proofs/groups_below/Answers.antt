@@ -14,10 +14,6 @@ loop-next-smaller c =
     let more = grows-more c.loop-next.m c.loop-next.next c.loop-next.invariant.0 c.loop-next.invariant.1 c.loop-next.invariant.3.grows c.loop-next-test.true in
     omega (arith, more, count-below-le 64 (bit c.loop-next.next))
 
-pub loop-next-preserved : goal.loop-next-preserved
-loop-next-preserved c =
-    (c.loop-next.invariant.1, c.widened_both_ways-next.type_inv, c.loop-next.invariant.3.sound c.loop-next.invariant.2, c.widened_both_ways-next.ensures)
-
 pub returns : goal.returns
 returns c =
     marks c.args.ups.now c.args.slots.now c.args.e c.loop-next.m c.loop-next.next c.loop-next-test.false c.loop-next.invariant.2 c.loop-next.invariant.3

@@ -1,22 +1,13 @@
 -- `ties::leads_up` meets its contract: what is done is not e, and what lies one tie further up is done or left. Assumes nothing.
-use mathlib.Core.Path.{sym, ap, ◌∙◌}
+use mathlib.Core.Path.{ap, ◌∙◌}
 use Prim.Native.Nat.{ℕ}
 use lib.ListN.{get_or}
-use Rattle.ties.proofs.Climbing.{climb-start, climb-none, climb-found, climb-less, climb-turn}
+use Rattle.ties.proofs.Climbing.{climb-start, climb-none, climb-less, climb-turn}
 use Rattle.ties.proofs.leads_up.Goals as goal
 
 pub loop-left-init : goal.loop-left-init
 loop-left-init c =
     climb-start c.args.ups.now c.args.slots.now c.args.k c.args.e c.ties_up-left.result c.ties_up-left.ensures
-
-pub returns-then-h-e : goal.returns-then-h-e
-returns-then-h-e c =
-    let held = c.lowest-q.ensures.held c.loop-left-test.true in
-    climb-found c.args.ups.now c.args.slots.now c.args.k c.args.e c.loop-left.invariant c.lowest-q.result held.0 held.1
-    (sym c.holder_at-h.ensures ∙ c.if-h-e.true)
-
-pub with-done-requires : goal.with-done-requires
-with-done-requires c = (c.lowest-q.ensures.held c.loop-left-test.true).0
 
 pub loop-left-smaller : goal.loop-left-smaller
 loop-left-smaller c =

@@ -13,12 +13,6 @@ loop-left-init c =
     pass-start c.args.ups.now c.args.slots.now c.args.e c.args.m _
     (left-of c.args.ups.now c.args.slots.now c.args.e c.args.used c.args.m (bit c.still_left-left.result) c.requires c.still_left-left.ensures)
 
-pub with-next-requires : goal.with-next-requires
-with-next-requires c = (c.lowest-q.ensures.held c.loop-left-test.true).0
-
-pub without-left-requires : goal.without-left-requires
-without-left-requires c = (c.lowest-q.ensures.held c.loop-left-test.true).0
-
 pub loop-left-smaller : goal.loop-left-smaller
 loop-left-smaller c =
     let held = c.lowest-q.ensures.held c.loop-left-test.true in

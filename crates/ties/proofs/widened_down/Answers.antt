@@ -6,7 +6,7 @@ use native.Mathlib.Decide.{ℕ_discrete, dec_lt}
 use lib.Dec.{eqb, ltb}
 use borrow.Author.Tests.{eq-eqb, ne_eqb, lt-ltb, le-ltb, ltb-false}
 use Rattle.ties.proofs.Masks.{in-use-lt, numbered-lt}
-use Rattle.ties.proofs.Widening.{pass-start, pass-end, pass_on, pass-off}
+use Rattle.ties.proofs.Widening.{pass-start, pass_on, pass-off}
 use native.Mathlib.Omega.{arith}
 use Rattle.ties.proofs.widened_down.Goals as goal
 
@@ -26,12 +26,6 @@ loop-q-init c = (
       (λ q l off u. absurd (omega (arith, ltb-false q _ off, numbered-lt c.args.slots.now q (in-use-lt _ c.args.slots.now q u).0))),
 )
 
-pub with-next-requires : goal.with-next-requires
-with-next-requires c = omega arith
-
-pub loop-q-smaller-then-slot_is_under : goal.loop-q-smaller-then-slot_is_under
-loop-q-smaller-then-slot_is_under c = omega arith
-
 pub loop-q-preserved-then-slot_is_under : goal.loop-q-preserved-then-slot_is_under
 loop-q-preserved-then-slot_is_under c = (
   omega arith,
@@ -39,16 +33,9 @@ loop-q-preserved-then-slot_is_under c = (
       c.with-next.result c.with-next.ensures (sym c.slot_is_under.ensures ∙ c.if-slot_is_under.true),
 )
 
-pub loop-q-smaller : goal.loop-q-smaller
-loop-q-smaller c = omega arith
-
 pub loop-q-preserved : goal.loop-q-preserved
 loop-q-preserved c = (
   omega arith,
   pass-off c.args.ups.now c.args.slots.now c.args.e c.loop-q.invariant.1 (λ j. ltb j (c.loop-q.q - 1)) (c.loop-q.q - 1) (lower c.loop-q.q (omega arith))
       (sym c.slot_is_under.ensures ∙ c.if-slot_is_under.false),
 )
-
-pub returns : goal.returns
-returns c =
-    pass-end c.args.ups.now c.args.slots.now c.args.e c.loop-q.invariant.1 (λ j l. le-ltb j c.loop-q.q (omega arith))
