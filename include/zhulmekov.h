@@ -22,7 +22,7 @@
    zhul_length 1 KB: for any file, accepted or refused, and for the last three on any book and rules, also on bytes that no call left, which must not be
    lent.
 
-   Of the C library the calls need memset and memcpy, and nothing else; a firmware without that library gives its own. */
+   Of the C library the calls need memset, memcpy and memmove, and nothing else; a firmware without that library gives its own. */
 #ifndef ZHULMEKOV_H
 #define ZHULMEKOV_H
 
