@@ -24,7 +24,7 @@ def declared(text):
     found = []
     for line in text.split("\n"):
         line = line.strip()
-        if line.startswith("--"):
+        if line.startswith(("--", "let ")):
             continue
         line = re.sub(r"^(?:(?:pub|abbrev|unfoldable) )+", "", line)
         it = re.match(r"(?:record|data) (\S+)", line)
