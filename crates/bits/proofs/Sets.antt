@@ -8,8 +8,10 @@ use native.Mathlib.Omega.{arith}
 use lib.Bits.{bit_or}
 use lib.Dec.{eqb}
 use lib.ListN.{length, get_or, take, drop, set, drop_of_length-le}
-use lib.Seq.{get_or-take, get_or-drop, sets-eq, get_or-set_same, get_or-set_other}
-use borrow.Author.Tests.{eq-eqb, ne_eqb}
+use lib.Seq.{get_or-take, get_or-drop, sets-eq, get_or-set_same, get_or-set_other, ext_get_or}
+use lib.Pointwise.{pointwise}
+use Rattle.std.proofs.lemmas.Slice.Eq.{bytes_eq-Decides}
+use borrow.Author.Tests.{ne_eqb}
 use Rattle.bits.specs.Bits.{bit, member, holds, differ}
 use Rattle.bits.proofs.Bits.{same_test, bit-or, bit-none, bit-ext}
 use Rattle.bits.proofs.Counts.{any_at, any_none}
@@ -114,22 +116,12 @@ module _ (s t : List ℕ) where
   unfolding differ
   none_differ n e = any_at n (λ p. not (beq (member s p) (member t p))) (λ p h. same-beq (member s p) (member t p) (e p h))
 
-  -- a word that is not the same
-  pub differ-word : ((j : ℕ) → get_or s j 0 < 2 ^ 64) → ((j : ℕ) → get_or t j 0 < 2 ^ 64) → (j : ℕ) → j < 4 → (get_or s j 0 ≡ get_or t j 0 → ⊥) → true ≡ differ 256 s t
-  differ-word fs ft j l no_word = go (differ 256 s t) refl
+  -- sets of four words that are not the same list of words
+  pub lists-differ : length s ≡ 4 → length t ≡ 4 → ((j : ℕ) → get_or s j 0 < 2 ^ 64) → ((j : ℕ) → get_or t j 0 < 2 ^ 64) → not (pointwise eqb s t) ≡ differ 256 s t
+  lists-differ ls lt fs ft = go (pointwise eqb s t) (bytes_eq-Decides s t) (differ 256 s t) refl
     where
-      go : (b : Bool) → differ 256 s t ≡ b → true ≡ b
-      go true e = refl
-      go false e = absurd (no_word (same-sets 4 fs ft (differ-none 256 e) j l))
-
-  -- the last word decides where the others are the same
-  pub differ-last : ((j : ℕ) → get_or s j 0 < 2 ^ 64) → ((j : ℕ) → get_or t j 0 < 2 ^ 64) → get_or s 0 0 ≡ get_or t 0 0 → get_or s 1 0 ≡ get_or t 1 0 → get_or s 2 0 ≡ get_or t 2 0
-      → not (eqb (get_or s 3 0) (get_or t 3 0)) ≡ differ 256 s t
-  unfolding member
-  differ-last fs ft a b c = go (ℕ_discrete (get_or s 3 0) (get_or t 3 0))
-    where
-      go : Dec (get_or s 3 0 ≡ get_or t 3 0) → not (eqb (get_or s 3 0) (get_or t 3 0)) ≡ differ 256 s t
-      go (yes d) =
-          ap not (eq-eqb (get_or s 3 0) (get_or t 3 0) d)
-          ∙ sym (none_differ 256 (λ p h. ap (λ (w : ℕ). bit w (p % 64)) (four (λ (j : ℕ). get_or s j 0 ≡ get_or t j 0) a b c d (p / 64) (omega arith))))
-      go (no n) = ap not (ne_eqb (get_or s 3 0) (get_or t 3 0) n) ∙ differ-word fs ft 3 (omega arith) n
+      go : (b : Bool) → (b ≡ true → s ≡ t) × (s ≡ t → b ≡ true) → (d : Bool) → differ 256 s t ≡ d → not b ≡ d
+      go true e true f = absurd (true≢false (sym f ∙ none_differ 256 (λ p h. ap (λ (l : List ℕ). member l p) (e.0 refl))))
+      go true e false f = refl
+      go false e true f = refl
+      go false e false f = absurd (true≢false (sym (e.1 (ext_get_or 0 s t (ls ∙ sym lt) (λ j l. same-sets 4 fs ft (differ-none 256 f) j (omega arith))))))

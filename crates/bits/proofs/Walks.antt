@@ -9,7 +9,9 @@ use native.Mathlib.Nat.{eq-or-lt_of_le, zero-lt-suc, pow-suc, mul_assoc, mul-div
 use native.Mathlib.Omega.{arith}
 use lib.Count.{under, count_trailing_zeros, trailing_of_zero, trailing_le}
 use lib.Dec.{eqb, leb, leb-zero, leb-suc-zero, leb-suc-suc}
-use lib.ListN.{get_or, length}
+use lib.ListN.{get_or, length, take, drop, length-drop}
+use lib.Seq.{get_or-drop, take_all}
+use Rattle.std.specs.List.{AllWithin, HoldsAt}
 use lib.Pow.{shr-shr, shr_lt, shl_exact}
 use borrow.Author.Tests.{eq-eqb, ne_eqb, leb-true, le-leb}
 use Rattle.model.proofs.Options.{parts, both}
@@ -176,6 +178,26 @@ module _ (s : List ℕ) (i at : ℕ) (passed : (j : ℕ) → i ≤ j → j < 64 
 
   pub first-none : length s ≤ at → FirstFrom s i (64 * length s)
   first-none l = record { within = omega arith; lower = λ j a b. passed j a (omega arith); held = λ b. absurd (omega arith) }
+
+-- the words from word k on: the first that is not 0, or none
+pub tail-part : (k : ℕ) (s : List ℕ) → take (length s - k) (drop k s) ≡ drop k s
+tail-part k s = take_all (length s - k) (drop k s) (omega (arith, length-drop k s))
+
+module _ (s : List ℕ) (k : ℕ) where
+  zeros-passed : (n : ℕ) → AllWithin (λ x. x ≡ 0) (drop k s) 0 n → (j : ℕ) → 64 * k ≤ j → j < 64 * (k + n) → member s j ≡ false
+  unfolding member
+  zeros-passed n zeros j a b =
+      let d : k + (j / 64 - k) ≡ j / 64 = omega arith in
+      ap (λ (w : ℕ). bit w (j % 64)) (ap (λ (x : ℕ). get_or s x 0) (sym d) ∙ sym (get_or-drop k s (j / 64 - k) 0) ∙ zeros (j / 64 - k) 0 (omega arith) (omega arith)) ∙ bit-none (j % 64)
+
+  pub word-found : (i l : ℕ) → (i < length (drop k s)) × HoldsAt (λ x. x ≡ 0 → ⊥) (drop k s) i × AllWithin (λ x. x ≡ 0) (drop k s) 0 i → Lowest (get_or s (k + i) 0) l
+      → FirstFrom s (64 * k) (64 * (k + i) + l)
+  word-found i l (h, some, zeros) low =
+      let held = low.held (λ e. some 0 (get_or-drop k s i 0 ∙ e)) in
+      first_found s (64 * k) (k + i) (zeros-passed i zeros) l (omega (arith, length-drop k s)) held.0 held.1 (omega arith) (λ j m a. low.lower j m)
+
+  pub words-none : k ≤ length s → AllWithin (λ x. x ≡ 0) (drop k s) 0 (length (drop k s)) → FirstFrom s (64 * k) (64 * length s)
+  words-none h zeros = first-none s (64 * k) (length s) (λ j a b. zeros-passed (length (drop k s)) zeros j a (omega (arith, length-drop k s))) (omega arith)
 
 -- v has the bits from i on of the word of i
 module _ (s : List ℕ) (i v : ℕ) (part : (j : ℕ) → bit v j ≡ (bit (get_or s (i / 64) 0) j && leb (i % 64) j)) where

@@ -6,6 +6,8 @@ ghost use Rattle.model.specs.Notation.{if◌then◌otherwise◌};
 ghost use Rattle.bits.specs.Bits.{bit, member, Bits, Numbers, differ, count_below};
 ghost use Rattle.bits.specs.Lowest.{Lowest, FirstFrom};
 
+use std::array;
+
 // Whether bit i of w is set.
 pub fn has(w: u64, i: usize) -> bool
     requires { i < 64 }
@@ -35,17 +37,14 @@ pub fn put(w: u64, i: usize, on: bool) -> u64
     requires { i < 64 }
     ensures { Bits result (λ j. if eqb j i then on otherwise bit w j) }
 {
-    if on {
-        return with(w, i);
-    }
-    without(w, i)
+    if on { with(w, i) } else { without(w, i) }
 }
 
 // The lowest bit of w that is set, 64 where none is. A walk over the bits of a word takes the lowest of those that are left, and goes on without it.
 pub fn lowest(w: u64) -> usize
     ensures { Lowest w result }
 {
-    u64::trailing_zeros(w) as usize
+    w.trailing_zeros() as usize
 }
 
 // The bits of w from i on.
@@ -57,12 +56,12 @@ pub fn from(w: u64, i: usize) -> u64
 }
 
 // Whether a set holds p.
+#[tactic(auto, unfolding(crate::specs::Bits::member))]
 pub fn contains(set: &[u64], p: usize) -> bool
     requires { p < 64 * length set.now }
     ensures { result ≡ member set.now p }
 {
-    let word = set[p / 64];
-    has(word, p % 64)
+    has(set[p / 64], p % 64)
 }
 
 // Puts p into a set.
@@ -70,10 +69,7 @@ pub fn insert(set: &mut [u64], p: usize)
     requires { p < 64 * length set.old }
     ensures { (q : ℕ) → member set.new q ≡ (member set.old q || eqb q p) }
 {
-    let at = p / 64;
-    let word = set[at];
-    let next = with(word, p % 64);
-    set[at] = next;
+    set[p / 64] = with(set[p / 64], p % 64);
 }
 
 // Takes p out of a set.
@@ -81,24 +77,18 @@ pub fn remove(set: &mut [u64], p: usize)
     requires { p < 64 * length set.old }
     ensures { (q : ℕ) → member set.new q ≡ (member set.old q && not (eqb q p)) }
 {
-    let at = p / 64;
-    let word = set[at];
-    let next = without(word, p % 64);
-    set[at] = next;
+    set[p / 64] = without(set[p / 64], p % 64);
 }
 
 // The lowest number in the words of a set from word k on, that behind all its words where there is none.
 fn first_word(set: &[u64], k: usize) -> usize
-    requires { length set.now ≤ 65536 }
+    requires { (k ≤ length set.now) × (length set.now ≤ 65536) }
     ensures { FirstFrom set.now (64 * k) result }
 {
-    for at in k..set.len() {
-        let word = set[at];
-        if word != 0 {
-            return 64 * at + lowest(word);
-        }
+    match set[k..].iter().position(|word| *word != 0) {
+        Some(i) => 64 * (k + i) + lowest(set[k + i]),
+        None => 64 * set.len(),
     }
-    64 * set.len()
 }
 
 // The lowest number from i on that a set holds, that behind all its words where there is none.
@@ -122,7 +112,7 @@ pub fn joined(a: [u64; 4], b: &[u64]) -> [u64; 4]
     requires { length b.now ≡ 4 }
     ensures { Numbers 256 result (λ p. member a p || member b.now p) }
 {
-    [a[0] | b[0], a[1] | b[1], a[2] | b[2], a[3] | b[3]]
+    array::from_fn(|i| a[i] | b[i])
 }
 
 // Whether two sets of four words are not the same.
@@ -130,23 +120,14 @@ pub fn differs(a: &[u64], b: &[u64]) -> bool
     requires { (length a.now ≡ 4) × (length b.now ≡ 4) }
     ensures { result ≡ differ 256 a.now b.now }
 {
-    if a[0] != b[0] {
-        return true;
-    }
-    if a[1] != b[1] {
-        return true;
-    }
-    if a[2] != b[2] {
-        return true;
-    }
-    a[3] != b[3]
+    a != b
 }
 
 // How many bits of w are set.
 pub fn ones(w: u64) -> usize
     ensures { result ≡ count_below 64 (bit w) }
 {
-    u64::count_ones(w) as usize
+    w.count_ones() as usize
 }
 
 // How many numbers a set holds: the ones of its words. A set of so many words is far from any that is kept, and keeps the sum in range.
@@ -155,8 +136,8 @@ pub fn count(set: &[u64]) -> usize
     ensures { result ≡ count_below (64 * length set.now) (member set.now) }
 {
     let mut sum: usize = 0;
-    for i in 0..set.len() {
-        sum += ones(set[i]);
+    for word in set {
+        sum += ones(*word);
     }
     sum
 }

@@ -4,7 +4,9 @@ use mathlib.Core.Path.{◌≡◌, refl, sym, ap, ap₂, subst, ◌∙◌}
 use mathlib.Core.Logic.{⊎_elim}
 use mathlib.Core.Bool.{Bool, true, false, not, ◌&&◌}
 use mathlib.Core.List.{List, [], ◌∷◌}
-use mathlib.Core.Option.{Option, none, some}
+use mathlib.Core.Option as math
+use mathlib.Core.Option.{none, some}
+use Rattle.std.specs.Prelude.{Option, is_some}
 use native.Mathlib.Omega.{arith}
 use lib.Dec.{eqb, leb}
 use lib.ListN.{length, get_or, set, length-set}
@@ -23,6 +25,10 @@ use Rattle.model.proofs.Lists.{nth-lt, nth-append}
 use Rattle.model.proofs.Growing.{nth_last, place-append}
 use Rattle.model.proofs.Declared.{pair-declared}
 use Rattle.codes.specs.Codes.{source_code, type_code}
+use Rattle.codes.specs.declared.Source as codes
+use Rattle.codes.specs.declared.AtomType as type
+use Rattle.codes.specs.Enums.{source_number, source_for, type_number, type_for}
+use Rattle.codes.proofs.Enums.{source-numbered, type-numbered}
 use Rattle.text.specs.declared.Packed.{Packed}
 use Rattle.text.specs.Packing.{packed_of}
 use Rattle.bits.specs.Bits.{bit}
@@ -36,7 +42,7 @@ use Rattle.book.specs.Held.{CountsOf, OperationRows, SortRows, RuleRows, Holds, 
 use Rattle.book.specs.Declaring.{attribute_place, block_text, attribute_put, AttributeStep}
 use Rattle.book.proofs.Writes.{apart, word-beside, word-inside, section-long, section-word, word_at}
 use Rattle.book.proofs.Kept.{length_more, AttributesStay, rules-kept, sorts-kept, groups-kept}
-use Rattle.book.proofs.DeclarationTests.{test-sort, test-repeated, test-full, accepted, number-there, number-nowhere, place-few}
+use Rattle.book.proofs.DeclarationTests.{test-sort, test-repeated, test-full, accepted, number-there, number-nowhere}
 
 -- ---- what is written, by sections
 
@@ -108,14 +114,14 @@ module _ (D : Declarations) (a : Attribute) where
     unfolding is_pair_of
     same-pairs i p = go (nth D.pairs p) refl
       where
-        go : (o : Option Pair) → nth D.pairs p ≡ o → is_pair_of (with_attribute a D) i p ≡ is_pair_of D i p
+        go : (o : math.Option Pair) → nth D.pairs p ≡ o → is_pair_of (with_attribute a D) i p ≡ is_pair_of D i p
         go none e = rw e
         go (some q) e = let d = pair-declared well p q e in rw (e, d.number_is, stay q.source q.name d.number d.number_is)
 
     same-pair-rows : (p : ℕ) → pair_row D p ≡ pair_row (with_attribute a D) p
     same-pair-rows p = go (nth D.pairs p) refl
       where
-        go : (o : Option Pair) → nth D.pairs p ≡ o → pair_row D p ≡ pair_row (with_attribute a D) p
+        go : (o : math.Option Pair) → nth D.pairs p ≡ o → pair_row D p ≡ pair_row (with_attribute a D) p
         go none e = rw e
         go (some q) e = let d = pair-declared well p q e in rw (e, d.number_is, stay q.source q.name d.number d.number_is)
 
@@ -215,36 +221,33 @@ text-type AtomType.int = refl
 text-type AtomType.str = refl
 text-type AtomType.bool = refl
 
--- the four ways; k is the number that was found, m the count
-module _ (book : List ℕ) (source ty : ℕ) (packed : Packed) where
-  sorted : (s : Source) (t : AtomType) (b : Bool) → source ≡ source_code s → ty ≡ type_code t → b ≡ block_text source ty
-      → (from_block s && same_type t AtomType.str) ≡ b
-  sorted s t b e f g = ap₂ (λ (x y : Bool). x && y) (block-source s) (text-type t) ∙ sym (g ∙ rw (e, f))
+-- the four ways; r is what was found, m the count
+module _ (book : List ℕ) (source : codes.Source) (ty : type.AtomType) (packed : Packed) where
+  sorted : (s : Source) (t : AtomType) → source ≡ source_for s → ty ≡ type_for t
+      → (from_block s && same_type t AtomType.str) ≡ block_text (source_number source) (type_number ty)
+  sorted s t e f =
+      ap₂ (λ (x y : Bool). x && y) (block-source s) (text-type t)
+      ∙ sym (ap₂ block_text (ap source_number e ∙ source-numbered s) (ap type_number f ∙ type-numbered t))
 
-  pub attribute-sorted : (b : Bool) → b ≡ block_text source ty → b ≡ true → AttributeStep book source ty packed book refusal.wrong_sort
-  attribute-sorted b g on code s n t name from type words S standing held =
-      (test-sort S (attr s n t) refl refl refl (sorted s t b from type g ∙ on), λ z. absurd (omega arith))
+  pub attribute-sorted : block_text (source_number source) (type_number ty) ≡ true → AttributeStep book source ty packed book refusal.wrong_sort
+  attribute-sorted on code s n t name from type words S standing held =
+      (test-sort S (attr s n t) refl refl refl (sorted s t from type ∙ on), λ z. absurd (omega arith))
 
-  module _ (b : Bool) (g : b ≡ block_text source ty) (off : b ≡ false) (k : ℕ) (found : Numbered (section_words section.attributes book) source packed.low packed.high k) where
-    pub attribute-repeated : (k ≡ attribute_limit → ⊥) → AttributeStep book source ty packed book refusal.repeated
-    attribute-repeated other code s n t name from type words S standing held =
+  module _ (off : block_text (source_number source) (type_number ty) ≡ false) (r : Option ℕ)
+      (found : Numbered (section_words section.attributes book) source packed r) where
+    pub attribute-repeated : is_some r ≡ true → AttributeStep book source ty packed book refusal.repeated
+    attribute-repeated there code s n t name from type words S standing held =
         let e = found.number S.declared standing.declarations held.attributes s n name from words in (
-          test-repeated S (attr s n t) refl refl refl (sorted s t b from type g ∙ off) (number-there attribute_limit (attribute_number S.declared s n) k e other),
+          test-repeated S (attr s n t) refl refl refl (sorted s t from type ∙ off) (number-there (attribute_number S.declared s n) r e there),
           λ z. absurd (omega arith),
         )
 
-    module _ (free : k ≡ attribute_limit) (m : ℕ) (count : m ≡ get_or book 0 0) where
-      new : (s : Source) (n : Bytes) → is_name n ≡ true → source ≡ source_code s → packed_of n ≡ packed → (code : Bytes) (S : State)
+    module _ (free : is_some r ≡ false) (m : ℕ) (count : m ≡ get_or book 0 0) where
+      new : (s : Source) (n : Bytes) → is_name n ≡ true → source ≡ source_for s → packed_of n ≡ packed → (code : Bytes) (S : State)
           → Standing S → Holds book code S → not (is_none (attribute_number S.declared s n)) ≡ false
-      unfolding attribute_number
       new s n name from words code S standing held =
-          ap (λ (o : Option ℕ). not (is_none o))
-          (number-nowhere attribute_limit (attribute_number S.declared s n) k
-          (λ j f.
-          let x = place-few (λ (a : Attribute). same_source_and_name a.source a.name s n) S.declared.attributes j f in
-          let y = standing.declarations.attributes.few in
-          omega arith)
-          (found.number S.declared standing.declarations held.attributes s n name from words) free)
+          ap (λ (o : math.Option ℕ). not (is_none o))
+          (number-nowhere (attribute_number S.declared s n) r (found.number S.declared standing.declarations held.attributes s n name from words) free)
 
       counted : (code : Bytes) (S : State) → Holds book code S → m ≡ length S.declared.attributes
       counted code S held = count ∙ sym (section-word section.counts book 0 (omega arith)) ∙ held.counts.attributes
@@ -252,21 +255,21 @@ module _ (book : List ℕ) (source ty : ℕ) (packed : Packed) where
       pub attribute-full : attribute_limit ≤ m → AttributeStep book source ty packed book refusal.full
       attribute-full over code s n t name from type words S standing held =
           let at = counted code S held in (
-            test-full S (attr s n t) refl refl refl (sorted s t b from type g ∙ off) (new s n name from words code S standing held)
+            test-full S (attr s n t) refl refl refl (sorted s t from type ∙ off) (new s n name from words code S standing held)
                 (le-leb attribute_limit (length S.declared.attributes) (omega arith)),
             λ z. absurd (omega arith),
           )
 
-      pub attribute-step : m < attribute_limit → (next : List ℕ) → next ≡ attribute_put book m source ty packed → AttributeStep book source ty packed next 0
+      pub attribute-step : m < attribute_limit → (next : List ℕ) → next ≡ attribute_put book m (source_number source) (type_number ty) packed → AttributeStep book source ty packed next 0
       attribute-step few next e code s n t name from type words S standing held =
           let at = counted code S held in (
-            accepted S (attr s n t) refl refl refl (sorted s t b from type g ∙ off) (new s n name from words code S standing held)
+            accepted S (attr s n t) refl refl refl (sorted s t from type ∙ off) (new s n name from words code S standing held)
                 (lt-leb attribute_limit (length S.declared.attributes) (omega arith)),
             λ _.
                 subst (λ (l : List ℕ). Holds l code (after (attr s n t) S))
                 (sym
                 (e
-                ∙ ap₂ (λ (x y : ℕ). attribute_put book m x y packed) from type
+                ∙ ap₂ (λ (x y : ℕ). attribute_put book m x y packed) (ap source_number from ∙ source-numbered s) (ap type_number type ∙ type-numbered t)
                 ∙ ap (attribute_put book m (source_code s) (type_code t)) (sym words)))
                 (attribute-held book code S s n t m held standing.declarations at few),
           )

@@ -3,10 +3,9 @@ use Prim.Native.Nat.{ℕ, ◌+◌, ◌*◌, ◌/◌, ◌%◌, ◌≤◌, ◌<◌
 use mathlib.Core.Path.{◌≡◌, refl, ap, ◌∙◌}
 use mathlib.Core.List.{List, []}
 use mathlib.Core.Option.{none}
-use native.Mathlib.Decide.{ℕ_discrete, dec_lt}
+use native.Mathlib.Decide.{dec_lt}
 use native.Mathlib.Omega.{arith}
-use lib.ListN.{length, get_or, set, get_or-eq_default}
-use lib.Seq.{get_or-set_same, get_or-set_other}
+use lib.ListN.{length, get_or, get_or-eq_default}
 use Rattle.model.specs.Limits.{Edition}
 use Rattle.model.specs.Bytes.{Bytes, bytes}
 use Rattle.model.specs.Declarations.{Declarations, Sort, holder_numbers_of, groups, sort_of}
@@ -27,33 +26,17 @@ use Rattle.book.specs.Declaring.{HolderPut, Emptied}
 use Rattle.book.proofs.Writes.{section-long, section-word}
 use Rattle.book.proofs.Holders.{holder-held}
 
--- ---- words that are 0
-
-pub zero_more : (words : List ℕ) (i : ℕ) → i < length words → ((k : ℕ) → k < i → get_or words k 0 ≡ 0) → (k : ℕ) → k < i + 1 → get_or (set words i 0) k 0 ≡ 0
-zero_more words i h f k l = go (ℕ_discrete k i)
-  where
-    go : Dec (k ≡ i) → get_or (set words i 0) k 0 ≡ 0
-    go (yes z) = ap (λ (j : ℕ). get_or (set words i 0) j 0) z ∙ get_or-set_same words i 0 0 h
-    go (no z) = get_or-set_other words i k 0 0 z ∙ f k (omega arith)
-
-pub zero-all : (words : List ℕ) (i : ℕ) → length words ≤ i → ((k : ℕ) → k < i → get_or words k 0 ≡ 0) → (k : ℕ) → get_or words k 0 ≡ 0
-zero-all words i h f k = go (dec_lt k i)
-  where
-    go : Dec (k < i) → get_or words k 0 ≡ 0
-    go (yes l) = f k l
-    go (no l) = get_or-eq_default words 0 {n = k} (omega arith)
-
 -- ---- a book of zeros holds no declarations, not even holder 0
 
 abbrev nobody : Declarations
 nobody = record { edition = Edition.first; attributes = []; operations = []; pairs = []; holders = []; rules = [] }
 
-module _ (book : List ℕ) (long : length book ≡ book_words) (zeros : (i : ℕ) → get_or book i 0 ≡ 0) where
+module _ (book : List ℕ) (long : length book ≡ book_words) (zeros : (i : ℕ) → i < length book → get_or book i 0 ≡ 0) where
   zero-part : (s : Section) → s.start + s.size ≤ length book → (i : ℕ) → get_or (section_words s book) i 0 ≡ 0
   zero-part s fits i = go (dec_lt i s.size)
     where
       go : Dec (i < s.size) → get_or (section_words s book) i 0 ≡ 0
-      go (yes l) = section-word s book i l ∙ zeros (s.start + i)
+      go (yes l) = section-word s book i l ∙ zeros (s.start + i) (omega arith)
       go (no l) = get_or-eq_default (section_words s book) 0 {n = i} (omega (arith, section-long s book fits))
 
   zeros-held : (code : Bytes) → length code ≡ rule_bytes → Holds book code (record { declared = nobody; ties = no_ties })

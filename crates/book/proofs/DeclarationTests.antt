@@ -1,10 +1,11 @@
 -- The tests of a line that declares, by their conditions; and what a number that was found says of them. Assumes nothing.
 use Prim.Native.Nat.{ℕ, ◌<◌}
 use mathlib.Core.Path.{◌≡◌, refl, sym, ap, ◌∙◌}
-use mathlib.Core.Bool.{Bool, true, false, not}
+use mathlib.Core.Bool.{Bool, true, false, not, true≢false}
 use mathlib.Core.List.{List, [], ◌∷◌}
-use mathlib.Core.Option.{Option, none, some}
-use native.Mathlib.Omega.{arith}
+use mathlib.Core.Option as math
+use mathlib.Core.Option.{none, some}
+use Rattle.std.specs.Prelude.{Option, Some, is_some, Result, Ok, Err, IsErrAnd}
 use lib.ListN.{length}
 use Rattle.model.specs.Notation.{if◌then◌otherwise◌, ◌is◌, is_none, place}
 use Rattle.model.specs.Numbers as refusal
@@ -14,7 +15,8 @@ use Rattle.model.specs.Ties.{Tie}
 use Rattle.model.specs.State.{State, tie_of}
 use Rattle.model.specs.Refusals.{first, ◌if◌, over_limits, undeclared, wrong_sort, repeated, full, circular, tie_closes}
 use Rattle.model.proofs.Lists.{place-nth, nth-lt}
-use Rattle.rows.specs.Rows.{number_or}
+use Rattle.codes.specs.declared.Refusal.{Refusal}
+use Rattle.codes.specs.Enums.{told, number_in, refusal_number}
 use Rattle.book.specs.Steps.{later_tests}
 use Rattle.book.specs.Declaring.{Keeps}
 
@@ -33,7 +35,7 @@ module _ (S : State) (l : Line) (plain : over_limits l ≡ false) (free : tie_of
   unfolding circular
   tested =
       in_order_lem (undeclared S.declared l) (wrong_sort S.declared l) (repeated S l) (full S.declared l) (over_limits l) (circular S l) plain
-      (ap (λ (o : Option Tie). o is tie_closes (holder_numbers_of S.declared) S.ties) free)
+      (ap (λ (o : math.Option Tie). o is tie_closes (holder_numbers_of S.declared) S.ties) free)
 
   pub test-undeclared : undeclared S.declared l ≡ true → refusal.undeclared ≡ first (later_tests S l)
   test-undeclared e = sym (tested ∙ rw e)
@@ -54,17 +56,22 @@ module _ (S : State) (l : Line) (plain : over_limits l ≡ false) (free : tie_of
         accepted e = sym (tested ∙ rw (known, sorted, new, e))
 
 -- a number that is not n was found; n is none, where numbers are below n
-pub number-there : (n : ℕ) (o : Option ℕ) (r : ℕ) → r ≡ number_or n o → (r ≡ n → ⊥) → not (is_none o) ≡ true
-number-there n none r e other = absurd (other e)
-number-there n (some k) r e other = refl
+pub number-there : (o : math.Option ℕ) (r : Option ℕ) → r ≡ told o → is_some r ≡ true → not (is_none o) ≡ true
+number-there none r e there = absurd (true≢false (sym there ∙ ap is_some e))
+number-there (some k) r e there = refl
 
-pub number-nowhere : (n : ℕ) (o : Option ℕ) (r : ℕ) → ((k : ℕ) → o ≡ some k → k < n) → r ≡ number_or n o → r ≡ n → o ≡ none
-number-nowhere n none r few e z = refl
-number-nowhere n (some k) r few e z = absurd (omega (arith, few k refl, e, z))
+pub number-nowhere : (o : math.Option ℕ) (r : Option ℕ) → r ≡ told o → is_some r ≡ false → o ≡ none
+number-nowhere none r e nowhere = refl
+number-nowhere (some k) r e nowhere = absurd (true≢false (sym (ap is_some e) ∙ nowhere))
 
-pub number_is : (n : ℕ) (o : Option ℕ) (r : ℕ) → r ≡ number_or n o → (r ≡ n → ⊥) → o ≡ some r
-number_is n none r e other = absurd (other e)
-number_is n (some k) r e other = ap (λ (j : ℕ). some j) (sym e)
+pub number_is : (o : math.Option ℕ) (k : ℕ) → Some k ≡ told o → o ≡ some k
+number_is none k e = cc
+number_is (some j) k e = cc
+
+-- a refusal that `?` hands on
+pub handed-on : {A : Type 0} (r : Result A Refusal) (e full : Refusal) → IsErrAnd r (λ x. x ≡ e) → e ≡ full → number_in r ≡ refusal_number full
+handed-on (Ok a) e full same f = absurd same
+handed-on (Err x) e full same f = ap refusal_number (same ∙ f)
 
 pub place-few : {A : Type 0} (p : A → Bool) (xs : List A) (k : ℕ) → place p xs ≡ some k → k < length xs
 place-few p xs k e = nth-lt xs k (place-nth p xs k e).1

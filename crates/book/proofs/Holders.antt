@@ -32,12 +32,10 @@ use Rattle.book.specs.Sections.{Section, section_words, book_words, book_holders
 use Rattle.book.specs.Held.{CountsOf, OperationRows, SortRows, GroupSlots, RuleRows, Holds, pair_row, holder_row, sort_code}
 use Rattle.book.specs.Declaring.{with_section, holder_put, HolderPut, group_put}
 use Rattle.book.proofs.Writes.{apart, word-beside, word-inside, section-beside, section-inside, section-long, section-same-length, word_at}
+use Rattle.book.proofs.Finding.{row_of_name}
 use Rattle.book.proofs.Kept.{NamesKnown, rules-kept, attributes-kept}
 
 -- ---- what is written, by sections
-
-abbrev row_of_name : Packed → Row
-row_of_name p = (1, p.low, p.high, 0)
 
 module _ (book : List ℕ) (n sort : ℕ) (rows : List ℕ) (long : length book ≡ book_words) (few : n < book_holders) (rows_long : length rows ≡ (section.holders).size) where
   abbrev h1 : List ℕ

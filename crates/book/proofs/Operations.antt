@@ -4,7 +4,9 @@ use mathlib.Core.Path.{◌≡◌, refl, sym, ap, subst, ◌∙◌}
 use mathlib.Core.Logic.{⊎_elim}
 use mathlib.Core.Bool.{true, false, not}
 use mathlib.Core.List.{List, [], ◌∷◌, ◌++◌}
-use mathlib.Core.Option.{Option, some}
+use mathlib.Core.Option as math
+use mathlib.Core.Option.{some}
+use Rattle.std.specs.Prelude.{Option, is_some}
 use native.Mathlib.Omega.{arith}
 use lib.ListN.{length, get_or, set, length-set}
 use lib.Seq.{get_or-set_same, get_or-set_other}
@@ -31,7 +33,7 @@ use Rattle.book.specs.Finding.{OperationFound}
 use Rattle.book.specs.Declaring.{operation_place, operation_put, OperationStep}
 use Rattle.book.proofs.Writes.{apart, word-beside, word-inside, section-long, section-word, word_at}
 use Rattle.book.proofs.Kept.{length_more, NamesKnown, rules-kept, sorts-kept, groups-kept, attributes-kept}
-use Rattle.book.proofs.DeclarationTests.{test-repeated, test-full, accepted, number-there, number-nowhere, place-few}
+use Rattle.book.proofs.DeclarationTests.{test-repeated, test-full, accepted, number-there, number-nowhere}
 
 -- what is written, by sections
 module _ (book : List ℕ) (k : ℕ) (packed : Packed) (few : k < operation_limit) where
@@ -161,22 +163,19 @@ operation-held book code S n k held known at few =
           (rules-kept D E (λ s m j e. e) (λ i a e. e) (λ o j e. place-append (same o) D.operations (n ∷ []) e) refl known _ code held.rules);
     }
 
--- the three ways of the step; k is the number that was found, m the count
-module _ (book : List ℕ) (packed : Packed) (k : ℕ) (found : OperationFound (section_words section.operations book) packed.low packed.high k) where
-  pub operation-repeated : (k ≡ operation_limit → ⊥) → OperationStep book packed book refusal.repeated
-  operation-repeated other code n name words S standing held =
+-- the three ways of the step; r is what was found, m the count
+module _ (book : List ℕ) (packed : Packed) (r : Option ℕ) (found : OperationFound (section_words section.operations book) packed r) where
+  pub operation-repeated : is_some r ≡ true → OperationStep book packed book refusal.repeated
+  operation-repeated there code n name words S standing held =
       let e = found S.declared standing.declarations held.operations n name words in
-      (test-repeated S (op n) refl refl refl refl (number-there operation_limit (operation_number S.declared n) k e other), λ z. absurd (omega arith))
+      (test-repeated S (op n) refl refl refl refl (number-there (operation_number S.declared n) r e there), λ z. absurd (omega arith))
 
-  module _ (free : k ≡ operation_limit) (m : ℕ) (count : m ≡ get_or book 1 0) where
+  module _ (free : is_some r ≡ false) (m : ℕ) (count : m ≡ get_or book 1 0) where
     new : (n : Bytes) → is_name n ≡ true → packed_of n ≡ packed → (code : Bytes) (S : State) → Standing S → Holds book code S
         → not (is_none (operation_number S.declared n)) ≡ false
-    unfolding operation_number
     new n name words code S standing held =
-        ap (λ (o : Option ℕ). not (is_none o))
-        (number-nowhere operation_limit (operation_number S.declared n) k
-        (λ j f. let a = place-few (same n) S.declared.operations j f in let b = standing.declarations.operations.few in omega arith)
-        (found S.declared standing.declarations held.operations n name words) free)
+        ap (λ (o : math.Option ℕ). not (is_none o))
+        (number-nowhere (operation_number S.declared n) r (found S.declared standing.declarations held.operations n name words) free)
 
     counted : (code : Bytes) (S : State) → Holds book code S → m ≡ length S.declared.operations
     counted code S held = count ∙ sym (section-word section.counts book 1 (omega arith)) ∙ held.counts.operations

@@ -30,12 +30,10 @@ use Rattle.book.specs.Sections.{Section, section_words, book_words, book_holders
 use Rattle.book.specs.Held.{CountsOf, OperationRows, SortRows, RuleRows, Holds, pair_row, holder_row}
 use Rattle.book.specs.Declaring.{with_section, mask_place, pair_put, PairPut}
 use Rattle.book.proofs.Writes.{apart, word-beside, word-inside, section-beside, section-inside, section-long, section-same-length, section-word, word_at}
+use Rattle.book.proofs.Finding.{row_of_words}
 use Rattle.book.proofs.Kept.{nth-new, nth-old, length_more, NamesKnown, rules-kept, sorts-kept, groups-kept}
 
 -- ---- what is written, by sections
-
-abbrev row_of : ℕ → Words → Row
-row_of k words = (k + 1, words.first, words.second, words.third)
 
 module _ (book : List ℕ) (n k mask : ℕ) (rows : List ℕ) (long : length book ≡ book_words) (few : n < pair_limit) (low : k < attribute_limit) (rows_long : length rows ≡ (section.pairs).size) where
   abbrev marked : List ℕ
@@ -88,14 +86,14 @@ module _ (book : List ℕ) (n k mask : ℕ) (rows : List ℕ) (long : length boo
 
 -- what the code writes: the section is that of the book with the mask's word
 module _ (book : List ℕ) (n k : ℕ) (words : Words) (mask : ℕ) (long : length book ≡ book_words) (few : n < pair_limit) (low : k < attribute_limit)
-    (t : List ℕ) (adds : Added (section_words section.pairs (set book (mask_place k n) mask)) t n (row_of k words)) where
+    (t : List ℕ) (adds : Added (section_words section.pairs (set book (mask_place k n) mask)) t n (row_of_words k words)) where
   same-pairs : section_words section.pairs (set book (mask_place k n) mask) ≡ section_words section.pairs book
   same-pairs = word-beside section.pairs section.attributes book refl (mask_place k n) mask (omega arith) (omega arith)
 
   pub wrote-pair : Bits mask (λ j. bit (get_or book (mask_place k n) 0) j || eqb j (n % word_bits))
       → PairPut book n k words (set (with_section section.pairs (set book (mask_place k n) mask) t) 2 (n + 1))
   unfolding pair_put
-  wrote-pair bits = record { mask = mask; rows = t; marked = bits; row = subst (λ (l : List ℕ). Added l t n (row_of k words)) same-pairs adds; written = refl }
+  wrote-pair bits = record { mask = mask; rows = t; marked = bits; row = subst (λ (l : List ℕ). Added l t n (row_of_words k words)) same-pairs adds; written = refl }
 
   pub wrote-long : length (with_section section.pairs (set book (mask_place k n) mask) t) ≡ book_words
   wrote-long =
@@ -195,17 +193,17 @@ module _ (D : Declarations) (q : Pair) (k n : ℕ) (number : attribute_number D 
       other : (j : ℕ) → (j ≡ 8 * k + 4 + n / 64 → ⊥) → get_or (set rows (8 * k + 4 + n / 64) mask) j 0 ≡ get_or rows j 0
       other j z = get_or-set_other rows (8 * k + 4 + n / 64) j mask 0 z
 
-  rows_more : (s t : List ℕ) → Added s t n (row_of k (atom_words q.atom)) → Indexed s pair_limit (pair_row D) → Indexed t pair_limit (pair_row E)
+  rows_more : (s t : List ℕ) → Added s t n (row_of_words k (atom_words q.atom)) → Indexed s pair_limit (pair_row D) → Indexed t pair_limit (pair_row E)
   unfolding attribute_number
   rows_more s t adds ix =
       indexed-same (with_row (pair_row D) n w) (pair_row E) same
       (adds.index pair_limit (pair_row D) ix (λ z. omega arith) (ap (λ (o : Option Pair). o >>= row_in) (nothing_yet n (omega arith))))
     where
       w : Row
-      w = row_of k (atom_words q.atom)
+      w = row_of_words k (atom_words q.atom)
 
       row_in : Pair → Option Row
-      row_in x = attribute_number D x.source x.name >>= λ j. some (row_of j (atom_words x.atom))
+      row_in x = attribute_number D x.source x.name >>= λ j. some (row_of_words j (atom_words x.atom))
 
       same : (j : ℕ) → with_row (pair_row D) n w j ≡ pair_row E j
       same j = go (ℕ_discrete j n)
@@ -216,7 +214,7 @@ module _ (D : Declarations) (q : Pair) (k n : ℕ) (number : attribute_number D 
               ∙ rw (eq-eqb n n refl) refl
               ∙ sym
               (ap (λ (o : Option Pair). o >>= row_in) (ap (nth E.pairs) (z ∙ at) ∙ nth-new D.pairs q)
-              ∙ ap (λ (o : Option ℕ). o >>= λ i. some (row_of i (atom_words q.atom))) number)
+              ∙ ap (λ (o : Option ℕ). o >>= λ i. some (row_of_words i (atom_words q.atom))) number)
           go (no z) = ap (λ (b : Bool). if b then some w otherwise pair_row D j) (ne_eqb j n z) ∙ sym (ap (λ (o : Option Pair). o >>= row_in) (nth-old D.pairs q j (λ y. z (y ∙ sym at))))
 
   counts-more : (words : List ℕ) → 2 < length words → CountsOf words D → CountsOf (set words 2 (n + 1)) E

@@ -1,78 +1,90 @@
 // One thing more in the book for each line that declares.
-ghost use Rattle.std.specs.Prelude.{◌≡◌, ℕ, ◌<◌, length, get_or};
+ghost use Rattle.std.specs.Prelude.{◌≡◌, ◌≤◌, ◌<◌, MatchResult, leb, ltb, length};
+ghost use Rattle.model.specs.Attributes.{env};
+ghost use Rattle.model.specs.Declarations.{Sort};
 ghost use Rattle.model.specs.Limits.{attribute_limit, operation_limit, pair_limit, group_limit};
+ghost use Rattle.codes.specs.declared.Refusal.TheVariants as refusal;
+ghost use Rattle.codes.specs.Codes.{source_code};
+ghost use Rattle.codes.specs.Enums.{source_number, type_number, key_number, number_in};
 ghost use Rattle.book.specs.Sections.{book_words, book_holders};
+ghost use Rattle.book.specs.Held.{sort_code};
 ghost use Rattle.book.specs.Declaring.{block_text, attribute_put, operation_put, PairPut, HolderPut, group_put, AttributeStep, OperationStep, PairStep, HolderStep, Keeps, Emptied};
 
-use crate::find::{HOLDERS, OPERATIONS, PAIRS};
+use crate::find::{self, HOLDERS, OPERATIONS, PAIRS};
 use crate::{
     ATTRIBUTE_COUNT, ATTRIBUTES_AT, GROUP_COUNT, HOLDER_COUNT, HOLDERS_AT, OPERATION_COUNT,
     OPERATIONS_AT, PAIR_COUNT, PAIRS_AT, SLOT_OF_AT, SLOTS_AT, SORTS_AT, UPS_AT,
 };
-use codes::{ENV, FULL, KEY_USER, REPEATED, STR, UNDECLARED, WRONG_SORT};
+use codes::{AtomType, Key, Refusal, Source};
 use rows::ATTRIBUTES;
 use text::{Packed, Value, Words};
 
 // How many groups there can be.
 const GROUPS: usize = 64;
 
-// The sort of holder 0, and its name in a word.
+// The sort of holder 0.
 pub const ADMIN_SORT: u8 = 1;
 
-const ADMIN_NAME: u64 = 474215179361;
+// The number of the next of a kind of which there are `count`, if there can be one more.
+fn next_number(count: u64, limit: usize) -> Result<usize, Refusal>
+    ensures { MatchResult result (λ n. (n ≡ count) × (n < limit)) (λ r. (r ≡ refusal.Full) × (limit ≤ count)) }
+{
+    if count < limit as u64 {
+        Ok(count as usize)
+    } else {
+        Err(Refusal::Full)
+    }
+}
+
+// Whether a source is env or connect.
+fn is_of_block(source: Source) -> bool
+    ensures { result ≡ leb (source_code env) (source_number source) }
+{
+    matches!(source, Source::Env | Source::Connect)
+}
 
 // Whether an attribute would be a str of env or connect.
-fn is_block_text(source: u8, ty: u8) -> bool
-    ensures { result ≡ block_text source ty }
+fn is_block_text(source: Source, ty: AtomType) -> bool
+    ensures { result ≡ block_text (source_number source) (type_number ty) }
 {
-    if source < ENV {
-        return false;
-    }
-    ty == STR
+    is_of_block(source) && ty == AtomType::Str
 }
 
 // Writes attribute n, of which there are no pairs yet, and counts it.
-fn put_attribute(book: &mut [u64], n: usize, source: u8, ty: u8, name: Packed)
+#[tactic(auto, unfolding(crate::specs::Declaring::attribute_put))]
+fn put_attribute(book: &mut [u64], n: usize, source: Source, ty: AtomType, name: Packed)
     requires { (length book.old ≡ book_words) × (n < attribute_limit) }
-    ensures { book.new ≡ attribute_put book.old n source ty name }
+    ensures { book.new ≡ attribute_put book.old n (source_number source) (type_number ty) name }
 {
-    index::put_row(
-        book,
-        ATTRIBUTES_AT + 8 * n,
-        source as u64,
-        ty as u64,
-        name.low,
-        name.high,
-    );
+    let row = (u64::from(source), u64::from(ty), name.low, name.high);
+    index::put_row(book, ATTRIBUTES_AT + 8 * n, row);
     book[ATTRIBUTE_COUNT] = n as u64 + 1;
 }
 
-// The step of a line `attr`: 9, 10, 11 or 0.
-pub fn attribute(book: &mut [u64], source: u8, ty: u8, name: Packed) -> u8
+// The step of a line `attr`: refused where its sort is wrong, where it is repeated, and where the table is full.
+pub fn attribute(
+    book: &mut [u64],
+    source: Source,
+    ty: AtomType,
+    name: Packed,
+) -> Result<(), Refusal>
     requires { length book.old ≡ book_words }
-    ensures { Keeps result book.old book.new × AttributeStep book.old source ty name book.new result }
+    ensures { Keeps (number_in result) book.old book.new × AttributeStep book.old source ty name book.new (number_in result) }
 {
     if is_block_text(source, ty) {
-        return WRONG_SORT;
+        return Err(Refusal::WrongSort);
     }
-    let k = rows::attribute_number(
-        &book[ATTRIBUTES_AT..OPERATIONS_AT],
-        source,
-        name.low,
-        name.high,
-    );
-    if k != ATTRIBUTES {
-        return REPEATED;
+    let attributes = &book[ATTRIBUTES_AT..OPERATIONS_AT];
+    if rows::attribute_number(attributes, source, name).is_some() {
+        return Err(Refusal::Repeated);
     }
-    let n = codes::word_to_index(book[ATTRIBUTE_COUNT]);
-    if n >= ATTRIBUTES {
-        return FULL;
-    }
+    let n = next_number(book[ATTRIBUTE_COUNT], ATTRIBUTES)?;
     put_attribute(book, n, source, ty, name);
-    0
+    Ok(())
 }
 
 // Writes operation n, and counts it.
+#[tactic(auto, unfolding(crate::specs::Declaring::operation_put))]
 fn put_operation(book: &mut [u64], n: usize, name: Packed)
     requires { (length book.old ≡ book_words) × (n < operation_limit) }
     ensures { book.new ≡ operation_put book.old n name }
@@ -83,21 +95,17 @@ fn put_operation(book: &mut [u64], n: usize, name: Packed)
     book[OPERATION_COUNT] = n as u64 + 1;
 }
 
-// The step of a line `op`: 10, 11 or 0.
-pub fn operation(book: &mut [u64], name: Packed) -> u8
+// The step of a line `op`: refused where it is repeated, and where the table is full.
+pub fn operation(book: &mut [u64], name: Packed) -> Result<(), Refusal>
     requires { length book.old ≡ book_words }
-    ensures { Keeps result book.old book.new × OperationStep book.old name book.new result }
+    ensures { Keeps (number_in result) book.old book.new × OperationStep book.old name book.new (number_in result) }
 {
-    let k = crate::find::operation_number(&book[OPERATIONS_AT..PAIRS_AT], name.low, name.high);
-    if k != OPERATIONS {
-        return REPEATED;
+    if find::operation_number(&book[OPERATIONS_AT..PAIRS_AT], name).is_some() {
+        return Err(Refusal::Repeated);
     }
-    let n = codes::word_to_index(book[OPERATION_COUNT]);
-    if n >= OPERATIONS {
-        return FULL;
-    }
+    let n = next_number(book[OPERATION_COUNT], OPERATIONS)?;
     put_operation(book, n, name);
-    0
+    Ok(())
 }
 
 // Writes pair n, one of attribute k, with its bit in the attribute's mask, and counts it.
@@ -109,65 +117,42 @@ fn put_pair(book: &mut [u64], n: usize, k: usize, words: Words)
     let word = book[at];
     let mask = bits::with(word, n % 64);
     book[at] = mask;
-    index::add(
-        &mut book[PAIRS_AT..HOLDERS_AT],
-        n,
-        k as u64 + 1,
-        words.first,
-        words.second,
-        words.third,
-    );
+    let row = (k as u64 + 1, words.first, words.second, words.third);
+    index::add(&mut book[PAIRS_AT..HOLDERS_AT], n, row);
     book[PAIR_COUNT] = n as u64 + 1;
 }
 
-// The step of a line `atom`: 8, 9, 10, 11 or 0.
-pub fn pair(book: &mut [u64], source: u8, name: Packed, atom: Value) -> u8
+// The step of a line `atom`: refused where its attribute is undeclared, where its sort is wrong, where it is repeated, and where the table is full.
+pub fn pair(book: &mut [u64], source: Source, name: Packed, atom: Value) -> Result<(), Refusal>
     requires { length book.old ≡ book_words }
-    ensures { Keeps result book.old book.new × PairStep book.old source name atom book.new result }
+    ensures { Keeps (number_in result) book.old book.new × PairStep book.old source name atom book.new (number_in result) }
 {
-    let k = rows::attribute_number(
-        &book[ATTRIBUTES_AT..OPERATIONS_AT],
-        source,
-        name.low,
-        name.high,
-    );
-    if k >= ATTRIBUTES {
-        return UNDECLARED;
+    let attributes = &book[ATTRIBUTES_AT..OPERATIONS_AT];
+    let Some(k) = rows::attribute_number(attributes, source, name) else {
+        return Err(Refusal::Undeclared);
+    };
+    if is_of_block(source) || attributes[8 * k + 1] != u64::from(atom.ty) {
+        return Err(Refusal::WrongSort);
     }
-    if source >= ENV {
-        return WRONG_SORT;
+    if find::pair_number(&book[PAIRS_AT..HOLDERS_AT], k, atom.words).is_some() {
+        return Err(Refusal::Repeated);
     }
-    let ty = atom.ty;
-    if book[ATTRIBUTES_AT + (8 * k + 1)] != ty as u64 {
-        return WRONG_SORT;
-    }
-    let words = atom.words;
-    let p = crate::find::pair_number(&book[PAIRS_AT..HOLDERS_AT], k, words);
-    if p != PAIRS {
-        return REPEATED;
-    }
-    let n = codes::word_to_index(book[PAIR_COUNT]);
-    if n >= PAIRS {
-        return FULL;
-    }
-    put_pair(book, n, k, words);
-    0
+    let n = next_number(book[PAIR_COUNT], PAIRS)?;
+    put_pair(book, n, k, atom.words);
+    Ok(())
 }
 
 // Writes holder n, and counts it.
-fn put_holder(book: &mut [u64], n: usize, sort: u8, name: Packed)
+fn put_holder(book: &mut [u64], n: usize, sort: u64, name: Packed)
     requires { (length book.old ≡ book_words) × (n < book_holders) }
     ensures { HolderPut book.old n sort name book.new }
 {
     index::add(
         &mut book[HOLDERS_AT..SORTS_AT],
         n,
-        1,
-        name.low,
-        name.high,
-        0,
+        (1, name.low, name.high, 0),
     );
-    book[SORTS_AT + n] = sort as u64;
+    book[SORTS_AT + n] = sort;
     book[HOLDER_COUNT] = n as u64 + 1;
 }
 
@@ -181,39 +166,30 @@ fn put_group(book: &mut [u64], n: usize, g: usize)
     book[GROUP_COUNT] = g as u64 + 1;
 }
 
-// The step of a line that declares a holder, by its key: 10, 11 or 0. A group gets the next slot.
-pub fn holder(book: &mut [u64], key: u8, name: Packed) -> u8
-    requires { length book.old ≡ book_words }
-    ensures { Keeps result book.old book.new × HolderStep book.old key name book.new result }
+// Whether a key that declares a holder declares a group: those of groups come first.
+fn is_group(key: Key) -> bool
+    ensures { result ≡ ltb (key_number key) (sort_code Sort.user) }
 {
-    let k = crate::find::holder_number(&book[HOLDERS_AT..SORTS_AT], name.low, name.high);
-    if k != HOLDERS {
-        return REPEATED;
-    }
-    let n = codes::word_to_index(book[HOLDER_COUNT]);
-    if n >= HOLDERS {
-        return FULL;
-    }
-    if key >= KEY_USER {
-        put_holder(book, n, key, name);
-        return 0;
-    }
-    let g = codes::word_to_index(book[GROUP_COUNT]);
-    if g >= GROUPS {
-        return FULL;
-    }
-    put_holder(book, n, key, name);
-    put_group(book, n, g);
-    0
+    key < Key::User
 }
 
-// Words that are all 0.
-pub fn zero(words: &mut [u64])
-    ensures { (length words.new ≡ length words.old) × ((i : ℕ) → get_or words.new i 0 ≡ 0) }
+// The step of a line that declares a holder, by its key: refused where it is repeated, and where a table is full. A group gets the next slot.
+pub fn holder(book: &mut [u64], key: Key, name: Packed) -> Result<(), Refusal>
+    requires { length book.old ≡ book_words }
+    ensures { Keeps (number_in result) book.old book.new × HolderStep book.old key name book.new (number_in result) }
 {
-    for i in 0..words.len() {
-        words[i] = 0;
+    if find::holder_number(&book[HOLDERS_AT..SORTS_AT], name).is_some() {
+        return Err(Refusal::Repeated);
     }
+    let n = next_number(book[HOLDER_COUNT], HOLDERS)?;
+    if !is_group(key) {
+        put_holder(book, n, u64::from(key), name);
+        return Ok(());
+    }
+    let g = next_number(book[GROUP_COUNT], GROUPS)?;
+    put_holder(book, n, u64::from(key), name);
+    put_group(book, n, g);
+    Ok(())
 }
 
 // The book of the empty state: nothing but holder 0, whatever was there. The rules' bytes may stay: there are no rules.
@@ -221,10 +197,6 @@ pub fn clear(book: &mut [u64])
     requires { length book.old ≡ book_words }
     ensures { (length book.new ≡ length book.old) × Emptied book.new }
 {
-    zero(book);
-    let name = Packed {
-        low: ADMIN_NAME,
-        high: 0,
-    };
-    put_holder(book, 0, ADMIN_SORT, name);
+    book.fill(0);
+    put_holder(book, 0, u64::from(ADMIN_SORT), text::pack(b"admin"));
 }

@@ -1,5 +1,5 @@
 -- The numbers of sources, types, keys, truth values and tokens; 0 stands for none.
-use Rattle.std.specs.Prelude.{ℕ, suc, Bool, true, false}
+use Rattle.std.specs.Prelude.{ℕ, suc}
 use Rattle.std.proofs.Math.Option.{Option, none, some}
 use Rattle.model.specs.Attributes.{Source, AtomType}
 use Rattle.model.specs.Keys.{Key, rank}
@@ -22,10 +22,6 @@ abbrev pub type_code : AtomType → ℕ
 type_code AtomType.int = 1
 type_code AtomType.str = 2
 type_code AtomType.bool = 3
-
-abbrev pub bool_code : Bool → ℕ
-bool_code false = 1
-bool_code true = 2
 
 -- a key's place in their order, from 1
 abbrev pub key_code : Key → ℕ

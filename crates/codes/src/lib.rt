@@ -1,30 +1,93 @@
-// The numbers that stand for what the specification has as constructors: one table, which every crate cites. specs/Codes.antt gives each
-// constructor its number; 0 stands for none. A code is a byte, words keep it, and it is the place of something: the widths of a number are here too,
-// since no lower crate is known to all that read bytes and words.
+// The numbers that stand for what the specification has as constructors: one table, which every crate cites. What is of few kinds is an enum, whose
+// variants have these numbers where words or bytes keep them; specs/Enums.antt says which constructor each variant stands for. The kinds of tokens are
+// bytes of rule code, and stand here as bytes; specs/Codes.antt gives each constructor its number, and 0 stands for none.
 #![tactic(auto)]
 
-ghost use Rattle.std.specs.Prelude.{◌≡◌, ◌≤◌};
+ghost use Rattle.std.specs.Prelude.{◌≡◌};
+ghost use Rattle.codes.specs.Enums.{source_number, type_number, key_number, refusal_number};
 
 // Sources.
-pub const USER: u8 = 1;
+#[derive(Clone, Copy, PartialEq, Eq)]
+pub enum Source {
+    User = 1,
+    Object,
+    Admin,
+    Env,
+    Connect,
+}
 
-pub const OBJECT: u8 = 2;
+// Types of atoms.
+#[derive(Clone, Copy, PartialEq, Eq)]
+pub enum AtomType {
+    Int = 1,
+    Str,
+    Bool,
+}
 
-pub const ADMIN: u8 = 3;
+// Keys of lines, in their order.
+#[derive(Clone, Copy, PartialEq, Eq, PartialOrd, Ord)]
+pub enum Key {
+    Attr = 1,
+    Op,
+    Atom,
+    Ugroup,
+    Ogroup,
+    User,
+    Object,
+    Parent,
+    Member,
+    Value,
+    Rule,
+}
 
-pub const ENV: u8 = 4;
+// Refusals, in the words of document 01; specs of `model`, Numbers.antt, has them by the same names.
+#[derive(Clone, Copy, PartialEq, Eq)]
+pub enum Refusal {
+    // "table not 1,024 words, any call"
+    WrongTable = 1,
+    // "over 32,768 bytes"
+    TooLong = 2,
+    // "first line, with its byte 10, wrong or missing (line 1)"
+    WrongFirstLine = 3,
+    // "line too long, no byte 10 or bytes after it, no `=`, unknown key (a later `rights` too), edit sign missing"
+    Unframed = 4,
+    // "key before its predecessor's (file only)"
+    OutOfOrder = 5,
+    // "field count, SRC, TYPE, name, atom or policy malformed, the policy judged without the limits of 7; `{}` and sets of two types are 6"
+    Malformed = 6,
+    // "more than 16 terms, depth over 8 or a set over 8"
+    OverLimits = 7,
+    // "undeclared name or pair (for value: no such pair of the attribute source that the holder's sort fixes)"
+    Undeclared = 8,
+    // "parent or member of the wrong sort, env or connect str, atom of env or connect or of the wrong type"
+    WrongSort = 9,
+    // "already declared or standing"
+    Repeated = 10,
+    // "table of that key full (file only)"
+    Full = 11,
+    // "parent tie that closes a circle, itself included"
+    Circular = 12,
+    // "another known key; comes after 4, before the rest"
+    OtherKey = 13,
+    // "`-` of a tie not standing"
+    NotStanding = 14,
+    // "byte 0, 8, 9 or length wrong"
+    BadBlock = 15,
+    // "unknown or wrong-sort number, entry not env or connect, bool above 1"
+    WrongNumber = 16,
+    // "activated bit that is no user attribute held by that user"
+    NotHeld = 17,
+    // "the text is longer than the buffer or than 32,768 bytes"
+    DoesNotFit = 18,
+}
 
-pub const CONNECT: u8 = 5;
+// Kinds of tokens, and the end of them. An int and a str are tokens of their types' numbers. They are bytes: rule code is the host's memory, and what
+// is promised of a run over it holds of any bytes.
+pub const END: u8 = 0;
 
-// Types of atoms. An int and a str are tokens too, of these kinds.
 pub const INT: u8 = 1;
 
 pub const STR: u8 = 2;
-
-pub const BOOL: u8 = 3;
-
-// Kinds of tokens, and the end of them.
-pub const END: u8 = 0;
 
 pub const NAME: u8 = 4;
 
@@ -66,87 +129,6 @@ pub const GREATER: u8 = 22;
 
 pub const AT_LEAST: u8 = 23;
 
-// No token.
-pub const BAD: u8 = 24;
-
-// Keys of lines, by their rank.
-pub const KEY_ATTR: u8 = 1;
-
-pub const KEY_OP: u8 = 2;
-
-pub const KEY_ATOM: u8 = 3;
-
-pub const KEY_UGROUP: u8 = 4;
-
-pub const KEY_OGROUP: u8 = 5;
-
-pub const KEY_USER: u8 = 6;
-
-pub const KEY_OBJECT: u8 = 7;
-
-pub const KEY_PARENT: u8 = 8;
-
-pub const KEY_MEMBER: u8 = 9;
-
-pub const KEY_VALUE: u8 = 10;
-
-pub const KEY_RULE: u8 = 11;
-
-// Refusals, in the words of document 01; specs of `model`, Numbers.antt, has them by the same names. 0 is no refusal.
-// "table not 1,024 words, any call"
-pub const WRONG_TABLE: u8 = 1;
-
-// "over 32,768 bytes"
-pub const TOO_LONG: u8 = 2;
-
-// "first line, with its byte 10, wrong or missing (line 1)"
-pub const WRONG_FIRST_LINE: u8 = 3;
-
-// "line too long, no byte 10 or bytes after it, no `=`, unknown key (a later `rights` too), edit sign missing"
-pub const UNFRAMED: u8 = 4;
-
-// "key before its predecessor's (file only)"
-pub const OUT_OF_ORDER: u8 = 5;
-
-// "field count, SRC, TYPE, name, atom or policy malformed, the policy judged without the limits of 7; `{}` and sets of two types are 6"
-pub const MALFORMED: u8 = 6;
-
-// "more than 16 terms, depth over 8 or a set over 8"
-pub const OVER_LIMITS: u8 = 7;
-
-// "undeclared name or pair (for value: no such pair of the attribute source that the holder's sort fixes)"
-pub const UNDECLARED: u8 = 8;
-
-// "parent or member of the wrong sort, env or connect str, atom of env or connect or of the wrong type"
-pub const WRONG_SORT: u8 = 9;
-
-// "already declared or standing"
-pub const REPEATED: u8 = 10;
-
-// "table of that key full (file only)"
-pub const FULL: u8 = 11;
-
-// "parent tie that closes a circle, itself included"
-pub const CIRCULAR: u8 = 12;
-
-// "another known key; comes after 4, before the rest"
-pub const OTHER_KEY: u8 = 13;
-
-// "`-` of a tie not standing"
-pub const NOT_STANDING: u8 = 14;
-
-// "byte 0, 8, 9 or length wrong"
-pub const BAD_BLOCK: u8 = 15;
-
-// "unknown or wrong-sort number, entry not env or connect, bool above 1"
-pub const WRONG_NUMBER: u8 = 16;
-
-// "activated bit that is no user attribute held by that user"
-pub const NOT_HELD: u8 = 17;
-
-// "the text is longer than the buffer or than 32,768 bytes"
-pub const DOES_NOT_FIT: u8 = 18;
-
 // Answers to a request that is not refused, as hosts in C get them.
 pub const PERMIT: u8 = 0;
 
@@ -159,21 +141,34 @@ pub const ABSENT: u8 = 1;
 
 pub const UNLIKE: u8 = 2;
 
-// A byte as a word and as a place, a word as a place: the same number.
-pub fn byte_to_word(b: u8) -> u64
-    ensures { (result ≡ b) × (result ≤ 255) }
-{
-    b as u64
+impl From<Source> for u64 {
+    ghost from_gives = { λ s n. n ≡ source_number s };
+
+    fn from(source: Source) -> u64 {
+        source as u64
+    }
 }
 
-pub fn byte_to_index(b: u8) -> usize
-    ensures { (result ≡ b) × (result ≤ 255) }
-{
-    b as usize
+impl From<AtomType> for u64 {
+    ghost from_gives = { λ t n. n ≡ type_number t };
+
+    fn from(ty: AtomType) -> u64 {
+        ty as u64
+    }
 }
 
-pub fn word_to_index(w: u64) -> usize
-    ensures { result ≡ w }
-{
-    w as usize
+impl From<Key> for u64 {
+    ghost from_gives = { λ k n. n ≡ key_number k };
+
+    fn from(key: Key) -> u64 {
+        key as u64
+    }
+}
+
+impl From<Refusal> for u32 {
+    ghost from_gives = { λ r n. n ≡ refusal_number r };
+
+    fn from(refusal: Refusal) -> u32 {
+        refusal as u32
+    }
 }

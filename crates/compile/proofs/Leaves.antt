@@ -6,6 +6,7 @@ use mathlib.Core.Bool.{true, false}
 use mathlib.Core.List.{List, [], ◌∷◌}
 use mathlib.Core.Option.{Option, none, some, some-injective}
 use native.Mathlib.Omega.{arith}
+use Rattle.std.specs.Prelude.{Some, None}
 use native.Mathlib.Decide.{dec_lt}
 use lib.ListN.{length, get_or}
 use Rattle.model.specs.Bytes.{Bytes}
@@ -14,13 +15,14 @@ use Rattle.model.specs.Tokens.{Token, Mark, Operator}
 use Rattle.model.specs.Grammar as grammar
 use Rattle.model.specs.Grammar.{Policy, constant, lone, compare, attribute, read_operator, read_var, read_comparison}
 use Rattle.model.specs.Meaning.{Values, values_of}
-use Rattle.model.proofs.WordTables.{false-is-true, none-is-some}
+use Rattle.model.proofs.WordTables.{none-is-some}
+use Rattle.values.specs.declared.Operand.{Operand}
 use Rattle.values.specs.Operands.{lent, no_values, Stands}
 use Rattle.program.specs.Walks.{is_passed, read_bare, read_leaf}
 use Rattle.program.specs.TermRows as rows
 use Rattle.program.specs.Runs.{Reads}
 use Rattle.policy.specs.declared.Var.{Var}
-use Rattle.policy.specs.Readers.{Lending, lending, Asked, From, VarReads, VarAnswers, Vars, SecondVars}
+use Rattle.policy.specs.Readers.{Lending, lending, operand_of, Asked, From, VarReads, VarAnswers, Vars, SecondVars}
 use Rattle.policy.proofs.CodeFronts.{told, mark_on, operator-on, operator-off}
 use Rattle.policy.proofs.Heads.{behind_operator, behind_var}
 use Rattle.compile.specs.declared.Term.{Term}
@@ -70,42 +72,21 @@ module _ (us : List Token) where
 
 -- ---- the term at a place
 
-module _ (code : Bytes) (attributes : List ℕ) (at : ℕ) (few : length code ≤ 1024) (v : Var) (X : Vars code attributes at v) where
+module _ (code : Bytes) (attributes : List ℕ) where
   abbrev nothing : Lending
   nothing = lending attributes [] [] []
 
   -- a var that is not there was not read
-  no-var-read : v.ok ≡ false → (A : Asked) (us : List Token) → From code A at us → read_var us ≡ none
-  no-var-read z A us f = go (read_var us) (X.answers nothing refl A us f)
+  no-var-read : (at : ℕ) → Vars code at None → (A : Asked) (us : List Token) → From code A at us → read_var us ≡ none
+  no-var-read at X A us f = go (read_var us) (X.answers nothing A us f)
     where
-      go : (r : Option (grammar.Var × List Token)) → VarAnswers code nothing A v r → r ≡ none
+      go : (r : Option (grammar.Var × List Token)) → VarAnswers code nothing A None r → r ≡ none
       go none a = refl
-      go (some y) a = false-is-true (sym z ∙ a.0)
+      go (some y) a = absurd a
 
-  -- one that is there was
-  record VarAt (A : Asked) (us : List Token) : Type 0 where
-    var : grammar.Var
-    rest : List Token
-    is_read_lem : read_var us ≡ some (var, rest)
-    reads : VarReads code nothing A v var rest
-
-  var-read : v.ok ≡ true → (A : Asked) (us : List Token) → From code A at us → VarAt A us
-  var-read z A us f = go (read_var us) refl (X.answers nothing refl A us f)
-    where
-      go : (r : Option (grammar.Var × List Token)) → read_var us ≡ r → VarAnswers code nothing A v r → VarAt A us
-      go none e a = false-is-true (sym a ∙ z)
-      go (some y) e a = record { var = y.0; rest = y.1; is_read_lem = e; reads = a.1 }
-
-  -- and its operand stands for its values, whatever is lent
-  var-stands : (A : Asked) (us : List Token) → A.valued ≡ true → From code A at us → (y : grammar.Var × List Token) → read_var us ≡ some y
-      → (pairs session : List ℕ) (entries : Bytes) (read : Values) → Reads (lent code pairs session entries) attributes A.declared read
-      → Stands (lent code pairs session entries) v.operand (values_of read y.0)
-  var-stands A us valued f y e pairs session entries read g =
-      let L = lending attributes pairs session entries in
-      (subst (VarAnswers code L A v) e (X.answers L refl A us f)).1.stands valued read g
-
-  pub bare-term : (k : ℕ) → k ≡ get_or code at 0 → v.ok ≡ false → TermRead code attributes at (record { kind = k; left = no_values; right = no_values; next = at + 1 })
-  bare-term k h z A us x valued f e = go us f (no-var-read z A us f) (sym (leaf-bare us (no-var-read z A us f)) ∙ e)
+  pub bare-term : (at k : ℕ) → k ≡ get_or code at 0 → Vars code at None
+      → TermRead code attributes at (record { kind = k; left = no_values; right = no_values; next = at + 1 })
+  bare-term at k h X A us x valued f e = go us f (no-var-read at X A us f) (sym (leaf-bare us (no-var-read at X A us f)) ∙ e)
     where
       go : (us : List Token) → From code A at us → read_var us ≡ none → read_bare us ≡ some x
           → IsTerm code attributes A at (record { kind = k; left = no_values; right = no_values; next = at + 1 }) x
@@ -124,14 +105,38 @@ module _ (code : Bytes) (attributes : List ℕ) (at : ℕ) (few : length code �
       go (Token.operator o ∷ ts) f n e = none-is-some e
       go (Token.mark m ∷ ts) f n e = none-is-some e
 
-  module _ (there : v.ok ≡ true) (w : Var) (S : SecondVars code attributes false v.next w) where
-    -- no operator and var behind the var
-    not-compared : w.ok ≡ false → (A : Asked) (x : grammar.Var) (rest : List Token) → From code A v.next rest → behind_var x (read_operator rest) ≡ none
-    not-compared z A x rest f = go (dec_lt (get_or code v.next 0) 16) (dec_lt 23 (get_or code v.next 0))
+  module _ (at : ℕ) (v : Var) (X : Vars code at (Some v)) where
+    -- a var that is there was read
+    record VarAt (A : Asked) (us : List Token) : Type 0 where
+      var : grammar.Var
+      rest : List Token
+      is_read_lem : read_var us ≡ some (var, rest)
+      reads : VarReads code nothing A v var rest
+
+    var-read : (A : Asked) (us : List Token) → From code A at us → VarAt A us
+    var-read A us f = go (read_var us) refl (X.answers nothing A us f)
       where
-        second : (o : Operator) (r : Option (grammar.Var × List Token)) → VarAnswers code nothing A w r → behind_operator x o r ≡ none
+        go : (r : Option (grammar.Var × List Token)) → read_var us ≡ r → VarAnswers code nothing A (Some v) r → VarAt A us
+        go none e a = absurd a
+        go (some y) e a = record { var = y.0; rest = y.1; is_read_lem = e; reads = a }
+
+    -- and its operand stands for its values, whatever is lent
+    var-stands : (A : Asked) (us : List Token) → A.valued ≡ true → From code A at us → (y : grammar.Var × List Token) → read_var us ≡ some y
+        → (pairs session : List ℕ) (entries : Bytes) (read : Values) → Reads (lent code pairs session entries) attributes A.declared read
+        → Stands (lent code pairs session entries) (operand_of attributes v.meant) (values_of read y.0)
+    var-stands A us valued f y e pairs session entries read g =
+        let L = lending attributes pairs session entries in
+        (subst (VarAnswers code L A (Some v)) e (X.answers L A us f)).stands valued read g
+
+  module _ (at : ℕ) (few : length code ≤ 1024) (v : Var) (X : Vars code at (Some v)) where
+    -- no operator and var behind the var
+    not-compared : SecondVars code false v.next None → (A : Asked) (x : grammar.Var) (rest : List Token) → From code A v.next rest
+        → behind_var x (read_operator rest) ≡ none
+    not-compared S A x rest f = go (dec_lt (get_or code v.next 0) 16) (dec_lt 23 (get_or code v.next 0))
+      where
+        second : (o : Operator) (r : Option (grammar.Var × List Token)) → VarAnswers code nothing A None r → behind_operator x o r ≡ none
         second o none a = refl
-        second o (some y) a = false-is-true (sym z ∙ a.0)
+        second o (some y) a = absurd a
 
         off : (16 ≤ get_or code v.next 0 → get_or code v.next 0 ≤ 23 → ⊥) → behind_var x (read_operator rest) ≡ none
         off n = ap (behind_var x) (operator-off code A v.next rest f n)
@@ -141,50 +146,55 @@ module _ (code : Bytes) (attributes : List ℕ) (at : ℕ) (few : length code �
         go (no a) (yes b) = off (λ lo hi. omega arith)
         go (no a) (no b) =
             let (o, left, c, s, g) = operator-on code A v.next rest f (omega arith) in
-            let W = S.none-second z refl (omega arith) (omega arith) in
-            ap (λ (us : List Token). behind_var x (read_operator us)) s ∙ second o (read_var left) (W.answers nothing refl A left g)
+            let W = S refl (omega arith) (omega arith) in
+            ap (λ (us : List Token). behind_var x (read_operator us)) s ∙ second o (read_var left) (W.answers nothing A left g)
 
-    pub alone-term : w.ok ≡ false → TermRead code attributes at (record { kind = 4; left = v.operand; right = no_values; next = v.next })
-    alone-term z A us x valued f e =
-        let y = var-read there A us f in
-        go us f (sym (leaf-alone us y.var y.rest y.is_read_lem (not-compared z A y.var y.rest y.reads.behind)) ∙ e)
+    pub alone-term : SecondVars code false v.next None → TermRead code attributes at (record { kind = 4; left = operand_of attributes v.meant; right = no_values; next = v.next })
+    alone-term S A us x valued f e =
+        let y = var-read at v X A us f in
+        go us f (sym (leaf-alone us y.var y.rest y.is_read_lem (not-compared S A y.var y.rest y.reads.behind)) ∙ e)
       where
-        go : (us : List Token) → From code A at us → read_bare us ≡ some x → IsTerm code attributes A at (record { kind = 4; left = v.operand; right = no_values; next = v.next }) x
+        go : (us : List Token) → From code A at us → read_bare us ≡ some x → IsTerm code attributes A at (record { kind = 4; left = operand_of attributes v.meant; right = no_values; next = v.next }) x
         go [] f e = none-is-some e
         go (Token.name s m ∷ ts) f e =
-            let r = (X.answers nothing refl A (Token.name s m ∷ ts) f).1 in
-            subst (IsTerm code attributes A at (record { kind = 4; left = v.operand; right = no_values; next = v.next })) (some-injective (lone s m, ts) x e) (record {
+            let r = X.answers nothing A (Token.name s m ∷ ts) f in
+            subst (IsTerm code attributes A at (record { kind = 4; left = operand_of attributes v.meant; right = no_values; next = v.next })) (some-injective (lone s m, ts) x e) (record {
               behind = r.behind;
-              ahead = X.passes there;
-              left_near = (omega (arith, r.near.0), omega (arith, r.near.1));
+              ahead = X.past;
+              left_near = (omega (arith, (r.near attributes).0), omega (arith, (r.near attributes).1));
               right_near = (omega arith, omega arith);
-              value = λ pairs session entries read g. rows.lone refl (var-stands A (Token.name s m ∷ ts) valued f (attribute s m, ts) refl pairs session entries read g);
+              value = λ pairs session entries read g. rows.lone refl (var-stands at v X A (Token.name s m ∷ ts) valued f (attribute s m, ts) refl pairs session entries read g);
             })
         go (Token.int m ∷ ts) f e = none-is-some e
         go (Token.str s ∷ ts) f e = none-is-some e
-        go (Token.truth t ∷ ts) f e = false-is-true (sym (X.answers nothing refl A (Token.truth t ∷ ts) f) ∙ there)
+        go (Token.truth t ∷ ts) f e = absurd (X.answers nothing A (Token.truth t ∷ ts) f)
         go (Token.operator o ∷ ts) f e = none-is-some e
         go (Token.mark m ∷ ts) f e = none-is-some e
 
-pub compared-term : (code : Bytes) (attributes : List ℕ) (at : ℕ) → length code ≤ 1024 → (v : Var) → Vars code attributes at v → v.ok ≡ true
-    → (w : Var) → SecondVars code attributes false v.next w → w.ok ≡ true → (k : ℕ) → k ≡ get_or code v.next 0
-    → TermRead code attributes at (record { kind = k; left = v.operand; right = w.operand; next = w.next })
-compared-term code attributes at few v X there w S ok k h A us x valued f e =
-    let y = var-read code attributes at few v X there A us f in
-    let (_, lo, W) = S.is-second ok in
-    let (o, left, c, s, g) = operator-on code A v.next y.rest y.reads.behind lo in
-    let z = var-read code attributes (v.next + 1) few w W ok A left g in
-    let q = leaf-compared us y.var y.rest y.is_read_lem o left s z.var z.rest z.is_read_lem in
-    subst (IsTerm code attributes A at (record { kind = k; left = v.operand; right = w.operand; next = w.next }))
-    (some-injective (compare o y.var z.var, z.rest) x (sym q ∙ e)) (record {
-      behind = z.reads.behind;
-      ahead = omega (arith, X.further, W.passes ok);
-      left_near = (omega (arith, y.reads.near.0), omega (arith, y.reads.near.1));
-      right_near = (omega (arith, z.reads.near.0), omega (arith, z.reads.near.1));
-      value = λ pairs session entries read r.
-          rows.compare o (h ∙ c) (var-stands code attributes at few v X A us valued f (y.var, y.rest) y.is_read_lem pairs session entries read r)
-          (var-stands code attributes (v.next + 1) few w W A left valued g (z.var, z.rest) z.is_read_lem pairs session entries read r);
-    })
+    pub compared-term : (w : Var) → SecondVars code false v.next (Some w) → (k : ℕ) → k ≡ get_or code v.next 0
+        → TermRead code attributes at (record { kind = k; left = operand_of attributes v.meant; right = operand_of attributes w.meant; next = w.next })
+    compared-term w (_, lo, W) k h A us x valued f e =
+        let y = var-read at v X A us f in
+        let (o, left, c, s, g) = operator-on code A v.next y.rest y.reads.behind lo in
+        let z = var-read (v.next + 1) w W A left g in
+        let q = leaf-compared us y.var y.rest y.is_read_lem o left s z.var z.rest z.is_read_lem in
+        subst (IsTerm code attributes A at (record { kind = k; left = operand_of attributes v.meant; right = operand_of attributes w.meant; next = w.next }))
+        (some-injective (compare o y.var z.var, z.rest) x (sym q ∙ e)) (record {
+          behind = z.reads.behind;
+          ahead = omega (arith, X.past, W.past);
+          left_near = (omega (arith, (y.reads.near attributes).0), omega (arith, (y.reads.near attributes).1));
+          right_near = (omega (arith, (z.reads.near attributes).0), omega (arith, (z.reads.near attributes).1));
+          value = λ pairs session entries read r.
+              rows.compare o (h ∙ c) (var-stands at v X A us valued f (y.var, y.rest) y.is_read_lem pairs session entries read r)
+              (var-stands (v.next + 1) w W A left valued g (z.var, z.rest) z.is_read_lem pairs session entries read r);
+        })
+
+-- a term of operands that are equal
+pub with-operands : (code : Bytes) (attributes : List ℕ) (at kind next : ℕ) {l m r s : Operand} → l ≡ m → r ≡ s
+    → TermRead code attributes at (record { kind = kind; left = m; right = s; next = next })
+    → TermRead code attributes at (record { kind = kind; left = l; right = r; next = next })
+with-operands code attributes at kind next e f =
+    subst (λ (t : Term). TermRead code attributes at t) (λ i. record { kind = kind; left = sym e i; right = sym f i; next = next })
 
 -- ---- an AND behind a term
 

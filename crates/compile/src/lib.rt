@@ -1,12 +1,13 @@
 // A rule's code made into a program: for each term without parentheses a row, in which its operator and operands are looked up once and for all.
 #![tactic(auto)]
 
-ghost use Rattle.std.specs.Prelude.{◌≡◌, ◌+◌, ◌*◌, ◌≤◌, ◌<◌, max, length, get_or};
+ghost use Rattle.std.specs.Prelude.{◌≡◌, ◌*◌, ◌≤◌, ◌<◌, length, get_or};
 ghost use Rattle.std.proofs.lemmas.List.Edits.{sets};
-ghost use Rattle.values.specs.Operands.{no_values};
+ghost use Rattle.policy.specs.Readers.{operand_of};
 ghost use Rattle.compile.specs.Compiled.{TermRead, RowRead, low, high, row_of, TokenDone, Compiled};
 
 use codes::{AND, END, NAME};
+use policy::Meant;
 use values::Operand;
 
 // A term: its operator, the word of a truth value or the kind of a name that stands alone; its operands; and where the code goes on behind it.
@@ -18,16 +19,14 @@ pub struct Term {
     next: usize,
 }
 
-// A term with one operand or with none.
-fn without_right(kind: u8, left: Operand, next: usize) -> Term
-    ensures { result ≡ record { kind = kind; left = left; right = no_values; next = next } }
+// The operand of what a var stands for.
+fn operand(meant: Meant, attributes: &[u64]) -> Operand
+    requires { length attributes.now ≡ 256 }
+    ensures { result ≡ operand_of attributes.now meant }
 {
-    let right = values::no_values();
-    Term {
-        kind,
-        left,
-        right,
-        next,
+    match meant {
+        Meant::Constants(ty, start, end) => values::constant(ty, start, end),
+        Meant::Attribute(number) => values::attribute(attributes, number),
     }
 }
 
@@ -36,21 +35,27 @@ fn term_at(code: &[u8], attributes: &[u64], kind: u8, at: usize) -> Term
     requires { (length attributes.now ≡ 256) × (kind ≡ get_or code.now at 0) × (at < length code.now) × (length code.now ≤ 1024) }
     ensures { TermRead code.now attributes.now at result }
 {
-    let v = policy::var_at(code, attributes, kind, at);
-    let left = v.operand;
-    if !v.ok {
-        return without_right(kind, values::no_values(), at + 1);
-    }
-    let w = policy::second_var(code, attributes, false, v.next);
-    if !w.ok {
-        return without_right(NAME, left, v.next);
-    }
-    let right = w.operand;
-    Term {
-        kind: policy::kind_at(code, v.next),
-        left,
-        right,
-        next: w.next,
+    let Some(left) = policy::var_at(code, at) else {
+        return Term {
+            kind,
+            left: values::no_values(),
+            right: values::no_values(),
+            next: at + 1,
+        };
+    };
+    match policy::second_var(code, false, left.next) {
+        Some(right) => Term {
+            kind: policy::kind_at(code, left.next),
+            left: operand(left.meant, attributes),
+            right: operand(right.meant, attributes),
+            next: right.next,
+        },
+        None => Term {
+            kind: NAME,
+            left: operand(left.meant, attributes),
+            right: values::no_values(),
+            next: left.next,
+        },
     }
 }
 
@@ -63,13 +68,9 @@ fn row_at(code: &[u8], attributes: &[u64], kind: u8, at: usize) -> Term
     if policy::kind_at(code, t.next) != AND {
         return t;
     }
-    let left = t.left;
-    let right = t.right;
     Term {
-        kind: t.kind,
-        left,
-        right,
         next: t.next + 1,
+        ..t
     }
 }
 
@@ -113,18 +114,7 @@ fn put_row(rows: &mut [u8], row: usize, t: Term)
     output::put(rows, row, &bytes);
 }
 
-// The place behind a term, at least one further on.
-fn behind(at: usize, next: usize) -> usize
-    requires { at ≤ 1024 }
-    ensures { result ≡ max (at + 1) next }
-{
-    if next <= at {
-        return at + 1;
-    }
-    next
-}
-
-// One token passed, or the row of a term written; answers where the code goes on.
+// One token passed, or the row of a term written; answers where the code goes on, at least one further.
 fn token(code: &[u8], attributes: &[u64], rows: &mut [u8], kind: u8, at: usize, row: usize) -> usize
     requires { (length attributes.now ≡ 256) × (kind ≡ get_or code.now at 0) × (at < length code.now) × (length code.now ≤ 1024) × (row ≤ 65536) }
     ensures { TokenDone code.now attributes.now kind at row rows.old rows.new result }
@@ -134,7 +124,7 @@ fn token(code: &[u8], attributes: &[u64], rows: &mut [u8], kind: u8, at: usize, 
     }
     let t = row_at(code, attributes, kind, at);
     put_row(rows, row, t);
-    behind(at, t.next)
+    t.next.max(at + 1)
 }
 
 // The rows of a rule's terms, in their order, by one loop over its code. Whatever the code is, it ends and stays in bounds.
@@ -144,6 +134,7 @@ pub fn compile(code: &[u8], attributes: &[u64], rows: &mut [u8])
 {
     let mut at: usize = 0;
     let mut row: usize = 0;
+    // How far a turn goes is told by the token that stands there, so that no iterator over bytes fits.
     while at < code.len() {
         let kind = code[at];
         if kind == END {

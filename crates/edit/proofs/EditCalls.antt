@@ -5,13 +5,15 @@ use mathlib.Core.Bool.{Bool, not}
 use mathlib.Core.List.{List}
 use mathlib.Core.Option.{Option, some}
 use native.Mathlib.Omega.{arith}
+use Rattle.std.proofs.Common.{Result, Ok}
 use lib.ListN.{length}
 use borrow.Author.Tests.{eq-eqb, ne_eqb}
 use Rattle.model.specs.Notation.{if◌then◌otherwise◌}
 use Rattle.model.specs.Limits.{Edition, table_words}
 use Rattle.model.specs.Numbers as refusal
 use Rattle.model.specs.Bytes.{Bytes}
-use Rattle.model.specs.Ties.{Tie, edited_holder}
+use Rattle.model.specs.Ties as ties
+use Rattle.model.specs.Ties.{edited_holder}
 use Rattle.model.specs.Table.{table}
 use Rattle.model.specs.State.{State}
 use Rattle.model.specs.Refusals.{wrong_table, edit_refusal}
@@ -22,6 +24,9 @@ use Rattle.model.specs.Standing.{Standing}
 use Rattle.model.proofs.Outcomes.{outcome-by}
 use Rattle.book.specs.Held.{Holds}
 use Rattle.book.specs.Calls.{refused_edit, Gives, Together, Edits}
+use Rattle.codes.specs.declared.Refusal.{Refusal}
+use Rattle.tielines.specs.declared.Tie.{Tie}
+use Rattle.tielines.specs.TieReading.{tie_of}
 use Rattle.tielines.specs.TieSteps.{TieJudged}
 use Rattle.edit.specs.EditSteps.{LineTie, Applied, Bounded, Untouched, SetsElsewhere, EditCall}
 use Rattle.edit.proofs.EditedSets.{sets-elsewhere}
@@ -44,7 +49,7 @@ module _ (S : State) (words : List ℕ) (line : Bytes) where
   unfolding model.edit
   refuses z = ap (λ (b : Bool). if b then accepting S line otherwise refusing S line) (ne_eqb (edit_refusal S line) 0 z)
 
-  accepts : edit_refusal S line ≡ 0 → {plus : Bool} {t : Tie} → adds line ≡ plus → edited_tie S line ≡ some t
+  accepts : edit_refusal S line ≡ 0 → {plus : Bool} {t : ties.Tie} → adds line ≡ plus → edited_tie S line ≡ some t
       → model.edit S line ≡ record {
         number = 0;
         changed = changes S.declared S.ties (edited_ties plus (some t) S.ties);
@@ -54,16 +59,12 @@ module _ (S : State) (words : List ℕ) (line : Bytes) where
   unfolding model.edit
   accepts z a e =
       ap (λ (b : Bool). if b then accepting S line otherwise refusing S line) (eq-eqb (edit_refusal S line) 0 z)
-      ∙ ap₂ (λ (b : Bool) (o : Option Tie). record {
+      ∙ ap₂ (λ (b : Bool) (o : Option ties.Tie). record {
         number = 0;
         changed = changes S.declared S.ties (edited_ties b o S.ties);
         joins = joins_of S.declared o (edited_ties b o S.ties);
         state = record { declared = S.declared; ties = edited_ties b o S.ties };
       }) a e
-
--- the same answer in other words
-pub answer-as : {line : Bytes} {book words : List ℕ} {a b : Answer} {words' book' : List ℕ} → a ≡ b → EditCall line book words b words' book' → EditCall line book words a words' book'
-answer-as {line} {book} {words} {words' = words'} {book' = book'} e call = subst (λ (a : Answer). EditCall line book words a words' book') (sym e) call
 
 -- an edit that gives the ledger's outcome leaves the sets elsewhere
 elsewhere-by : (line : Bytes) {book words : List ℕ} {a : Answer} {words' book' : List ℕ} → Edits line book words a words' book'
@@ -117,9 +118,9 @@ module _ (line : Bytes) (book words : List ℕ) (number : ℕ) where
 -- "The answer is 0 and the number of holders whose stored set changed"
 pub accepted-call : (edit : Bytes) (book words words' book' : List ℕ) (count joins : ℕ)
     → length words ≡ table_words Edition.first → length words' ≡ length words → length book' ≡ length book
-    → (plus : Bool) (line : Bytes) → SignedLine edit plus line → (n : ℕ) (t : Tie) → LineTie book line n t → n ≡ 0 → (r : ℕ) → TieJudged book t plus r → r ≡ 0
-    → Applied plus t book book' words words' count joins → Bounded count joins → EditCall edit book words (edited 0 count joins) words' book'
-accepted-call edit book words words' book' count joins size long book-long' plus line signed n t told z r judged y applied bounded = record {
+    → (plus : Bool) (line : Bytes) → SignedLine edit plus line → {r : Result Tie Refusal} {t : Tie} → LineTie book line r → r ≡ Ok t → {n : ℕ} → TieJudged book (tie_of t) plus n → n ≡ 0
+    → Applied plus (tie_of t) book book' words words' count joins → Bounded count joins → EditCall edit book words (edited 0 count joins) words' book'
+accepted-call edit book words words' book' count joins size long book-long' plus line signed {t = t} told z judged y applied bounded = record {
   edits = given;
   elsewhere = elsewhere-by edit given;
   wrong-table = λ wrong. absurd (wrong size);
@@ -133,10 +134,10 @@ accepted-call edit book words words' book' count joins size long book-long' plus
     given S code together =
         let right = size ∙ ap table_words (sym together.holds.edition) in
         let read = told S code together.standing together.holds in
-        let fits = read.fits z in
+        let fits = read.fits t z in
         let passed = sym y ∙ judged S code together.standing together.holds fits in
-        let zero' = tie-refusal S edit plus line signed n t read z ∙ sym passed in
-        let is-accepted = accepts S words edit zero' (adds-is S edit plus line signed) (edited-tie S edit plus line signed n t read z) in
+        let zero' = tie-refusal S edit plus line signed read z ∙ sym passed in
+        let is-accepted = accepts S words edit zero' (adds-is S edit plus line signed) (edited-tie S edit plus line signed read z) in
         let done = applied S code together.standing together.holds (kept_table S words edit right together.kept) fits passed in
         subst (λ (o : Outcome). Gives o (edited 0 count joins) words' book' code) (sym (on-table S words edit right is-accepted))
         (record { answered = ap₂ (edited 0) (sym done.counted) (sym done.joined); table = sym done.table_is; holds = done.holds })

@@ -5,10 +5,8 @@ use mathlib.Core.Bool.{Bool, true, false, ◌&&◌, ◌||◌, not}
 use mathlib.Core.List.{List}
 use mathlib.Core.Option.{some}
 use native.Mathlib.Omega.{arith}
-use lib.Dec.{eqb}
 use lib.ListN.{length, get_or, take}
 use lib.Seq.{length-take-le}
-use Rattle.model.specs.Notation.{if◌then◌otherwise◌}
 use Rattle.model.specs.Limits.{Edition, holder_numbers, table_words}
 use Rattle.model.specs.Bytes.{Bytes}
 use Rattle.model.specs.Declarations.{Declarations, is_holder}
@@ -27,24 +25,13 @@ use Rattle.sets.proofs.Tables.{sets-table, table-sets}
 use Rattle.book.specs.Sections as section
 use Rattle.book.specs.Sections.{section_words}
 use Rattle.book.specs.Held.{Holds}
-use Rattle.tielines.specs.TieReading.{tie_by}
 use Rattle.tielines.specs.TieSteps.{sign_tests, TieChanged}
 use Rattle.tielines.proofs.TieRefusals.{stood}
 use Rattle.book.proofs.Sections.{part-size}
 use Rattle.edit.specs.EditSteps.{holders_in, groups_in, TableKept, Applied}
 use Rattle.edit.proofs.LentTies.{first-sets, all-sets, first-ties, counted-room, counted-past, counted-slots, counted-tells}
 
--- the edited holder is the lower one
-pub edited-lower : (key h u : ℕ) → edited_holder (tie_by key h u) ≡ h
-unfolding tie_by
-edited-lower key h u = go (eqb key 10) (eqb key 8)
-  where
-    go : (a b : Bool) → edited_holder (if a then Tie.value h u otherwise if b then Tie.parent h u otherwise Tie.member h u) ≡ h
-    go true b = refl
-    go false true = refl
-    go false false = refl
-
--- and a holder, where the tie fits
+-- the edited holder is a holder, where the tie fits
 edited-there : (D : Declarations) (t : Tie) → TieFits D t → is_holder D (edited_holder t) ≡ true
 edited-there D (Tie.parent c g) fits = holder-below D c (sort-number D c fits.lower-is)
 edited-there D (Tie.member p g) fits = holder-below D p (sort-number D p fits.lower-is)

@@ -4,16 +4,15 @@ use Prim.Native.Nat.{ℕ, ◌+◌, ◌-◌, ◌*◌, ◌/◌, ◌%◌, ◌≤◌
 use mathlib.Core.Path.{◌≡◌, refl, sym, ap, ap₂, subst, ◌∙◌}
 use mathlib.Core.Logic.{⊎_elim}
 use mathlib.Core.Bool.{Bool, true, false, not, ◌&&◌, true≢false}
-use mathlib.Core.List.{List}
+use mathlib.Core.List.{List, ◌++◌}
 use mathlib.Core.Option.{Option, some, none, some-injective}
 use native.Mathlib.Decide.{dec_lt}
 use native.Mathlib.Omega.{arith}
 use lib.Dec.{eqb}
-use lib.ListN.{length, get_or, take, drop, length-take, get_or-eq_default}
-use lib.Seq.{get_or-take, get_or-drop, length-take-le, take-take, take_at}
-use borrow.Rule.Slice.PartMut.{mid_of, put_mid, drop_put}
+use lib.ListN.{length, get_or, take, drop, length-take, length-drop, get_or-eq_default}
+use lib.Seq.{get_or-take, get_or-drop, get_or-append_right, length-take-le, take-take, take_at}
 use borrow.Author.Tests.{eq-eqb, ne_eqb, lt-ltb, le-ltb, ltb-true}
-use Rattle.model.specs.Limits.{Edition, holder_numbers}
+use Rattle.model.specs.Limits.{Edition, holder_numbers, table_words}
 use Rattle.model.specs.Bytes.{Bytes}
 use Rattle.model.specs.Declarations.{Declarations, Sort, sort_of, is_group, is_holder, groups, holder_numbers_of}
 use Rattle.model.specs.Ties.{Ties}
@@ -28,11 +27,12 @@ use Rattle.bits.proofs.Counts.{any-ext}
 use Rattle.ties.specs.TieArrays.{in_use, grouped, tied_up, TellsGroups, KeepsTies, Distinct, Room}
 use Rattle.ties.proofs.Masks.{in-use-lt, in-use-by, numbered-lt}
 use Rattle.sets.specs.Filled.{KeepsSets}
+use Rattle.sets.specs.Settled.{Shaped}
 use Rattle.sets.specs.Refreshed.{Refreshed}
 use Rattle.sets.proofs.LentSets.{holds_kept}
 use Rattle.sets.proofs.Tables.{no-holder}
 use Rattle.book.specs.Sections as section
-use Rattle.book.specs.Sections.{Section, section_words, book_holders}
+use Rattle.book.specs.Sections.{Section, section_words, book_words, book_holders}
 use Rattle.book.specs.Held.{Holds}
 use Rattle.book.proofs.Sections.{part-size}
 use Rattle.edit.specs.EditSteps.{holders_in, groups_in, TableKept}
@@ -203,6 +203,20 @@ module _ {book : List ℕ} {code : Bytes} {S : State} (standing : Standing S) (h
 
 -- ---- what is lent
 
+-- how many words of the sections and of the table are lent
+pub lent : (book words : List ℕ) (n g : ℕ) → length book ≡ book_words → length words ≡ table_words Edition.first → n ≡ holders_in book → g ≡ groups_in book
+    → Shaped (take ((section.ups).start + n - (section.ups).start) (drop (section.ups).start book))
+    (take ((section.own).start + 4 * n - (section.own).start) (drop (section.own).start book))
+    (take ((section.slots).start + g - (section.slots).start) (drop (section.slots).start book)) (take (4 * n) words)
+    × (length (take ((section.ups).start + n - (section.ups).start) (drop (section.ups).start book)) ≤ book_holders)
+lent book words n g size long is-n is-g =
+    let part : (a m : ℕ) → a + m ≤ book_words → length (take (a + m - a) (drop a book)) ≡ m =
+    λ a m room. omega (arith, length-take (a + m - a) (drop a book), length-drop a book) in
+    let ups = part (section.ups).start n (omega arith) in
+    let own = part (section.own).start (4 * n) (omega arith) in
+    let slots = part (section.slots).start g (omega arith) in
+    (record { own-long = omega (arith, ups, own); slots-long = omega (arith, slots); table-long = omega (arith, ups, length-take (4 * n) words) }, omega (arith, ups))
+
 -- the first n words of a section
 lent_is : (s : Section) (n m : ℕ) (book : List ℕ) → n ≡ m → m ≤ s.size → take (s.start + n - s.start) (drop s.start book) ≡ take m (section_words s book)
 lent_is s n m book e few =
@@ -220,36 +234,31 @@ refreshed-as {ups' = ups'} {own} {own'} {slots} {slots'} {slot_of} {t} {t'} {u} 
     (subst (λ (l : List ℕ). Refreshed l own slots slot_of e t u r j) a x))))
 
 module _ (book words part : List ℕ) (e n g r j : ℕ) (is-n : n ≡ holders_in book) (is-g : g ≡ groups_in book) (few : 4 * n ≤ length words)
-    (same : length part ≡ length (mid_of 0 (4 * n - 0) words))
+    (same : length part ≡ length (take (4 * n) words))
     (b : Refreshed (take ((section.ups).start + n - (section.ups).start) (drop (section.ups).start book))
     (take ((section.own).start + 4 * n - (section.own).start) (drop (section.own).start book))
-    (take ((section.slots).start + g - (section.slots).start) (drop (section.slots).start book)) (section_words section.slot_of book) e (mid_of 0 (4 * n - 0) words) part r j) where
+    (take ((section.slots).start + g - (section.slots).start) (drop (section.slots).start book)) (section_words section.slot_of book) e (take (4 * n) words) part r j) where
   part-long : length part ≡ 4 * n
-  part-long = same ∙ length-take-le (4 * n - 0) words (omega arith) ∙ (let z : 4 * n - 0 ≡ 4 * n = omega arith in z)
+  part-long = same ∙ length-take-le (4 * n) words few
 
-  front : take (4 * n) (put_mid 0 (4 * n - 0) words part) ≡ part
-  front = take_at part (drop (4 * n - 0) words) (4 * n) part-long
+  front : take (4 * n) (part ++ drop (4 * n) words) ≡ part
+  front = take_at part (drop (4 * n) words) (4 * n) part-long
 
-  behind : (j : ℕ) → 4 * n ≤ j → get_or (put_mid 0 (4 * n - 0) words part) j 0 ≡ get_or words j 0
+  behind : (j : ℕ) → 4 * n ≤ j → get_or (part ++ drop (4 * n) words) j 0 ≡ get_or words j 0
   behind j l =
-      let z : 4 * n + (j - 4 * n) ≡ j = omega arith in
-      ap (λ (i : ℕ). get_or (put_mid 0 (4 * n - 0) words part) i 0) (sym z)
-      ∙ sym (get_or-drop (4 * n) (put_mid 0 (4 * n - 0) words part) (j - 4 * n) 0)
-      ∙ ap (λ (t : List ℕ). get_or t (j - 4 * n) 0) (drop_put 0 (4 * n) words part (omega arith) few (omega (arith, part-long)))
-      ∙ get_or-drop (4 * n) words (j - 4 * n) 0
-      ∙ ap (λ (i : ℕ). get_or words i 0) z
+      let z : 4 * n + (j - length part) ≡ j = omega (arith, part-long) in
+      get_or-append_right part (drop (4 * n) words) j 0 (omega (arith, part-long)) ∙ get_or-drop (4 * n) words (j - length part) 0 ∙ ap (λ (i : ℕ). get_or words i 0) z
 
-  pub table_kept : TableKept book e words (put_mid 0 (4 * n - 0) words part) r j
+  pub table_kept : TableKept book e words (part ++ drop (4 * n) words) r j
   table_kept =
       let four : 4 * n ≡ 4 * holders_in book = omega arith in
-      let whole : 4 * n - 0 ≡ 4 * holders_in book = omega arith in
       record {
         refreshed = refreshed-as
             (lent_is section.ups n (holders_in book) book is-n (omega arith))
             (lent_is section.own (4 * n) (4 * holders_in book) book four (omega arith))
             (lent_is section.slots g (groups_in book) book is-g (omega arith))
-            (ap (λ (x : ℕ). take x words) whole)
-            (sym front ∙ ap (λ (x : ℕ). take x (put_mid 0 (4 * n - 0) words part)) four)
+            (ap (λ (x : ℕ). take x words) four)
+            (sym front ∙ ap (λ (x : ℕ). take x (part ++ drop (4 * n) words)) four)
             b;
         behind = λ i l. behind i (omega arith);
       }

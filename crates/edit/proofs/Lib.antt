@@ -1,4 +1,5 @@
 -- Laws about edits.
+pub mod Exits
 pub mod EditLines
 pub mod LentTies
 pub mod EditTables

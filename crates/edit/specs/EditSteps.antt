@@ -1,6 +1,6 @@
 -- The steps of an edit: the tie of its line, and what the tie more or less makes of book and table.
 -- Assumes nothing: these are definitions.
-use Rattle.std.specs.Prelude.{ℕ, ◌*◌, ◌≤◌, ◌<◌, min, ◌≡◌, Bool, List, [], ◌∷◌, length, get_or, take}
+use Rattle.std.specs.Prelude.{ℕ, Result, Ok, Err, ◌*◌, ◌≤◌, ◌<◌, min, ◌≡◌, Bool, List, [], ◌∷◌, length, get_or, take}
 use Rattle.std.proofs.Math.Option.{some}
 use Rattle.model.specs.Notation.{◌is◌}
 use Rattle.model.specs.Limits.{Edition, table_words, holder_numbers, group_limit, join_limit}
@@ -21,6 +21,9 @@ use Rattle.book.specs.Held.{Holds}
 use Rattle.tielines.specs.TieReading.{BookTie}
 use Rattle.tielines.specs.TieSteps.{sign_tests}
 use Rattle.book.specs.Calls.{answer_number, refused_edit, Together, Edits}
+use Rattle.codes.specs.declared.Refusal.{Refusal}
+use Rattle.codes.specs.Enums.{refusal_number}
+use Rattle.tielines.specs.declared.Tie as tielines
 use Rattle.edit.specs.declared.Edited.{Edited}
 
 -- the line behind the sign: 4, 13, 6, 8 and 9
@@ -33,8 +36,8 @@ behind_sign_tests line S =
     ∷ refusal.wrong_sort if (read_line line is wrong_sort S.declared)
     ∷ []
 
-abbrev pub LineTie : List ℕ → Bytes → ℕ → Tie → Type 0
-LineTie book line number t = BookTie book (behind_sign_tests line) (read_line line) number t
+abbrev pub LineTie : List ℕ → Bytes → Result tielines.Tie Refusal → Type 0
+LineTie book line r = BookTie book (behind_sign_tests line) (read_line line) r
 
 -- how many holders and groups an edit goes through: as many as the book counts, and no more than there is room for, whatever its words are
 abbrev pub holders_in : List ℕ → ℕ
@@ -86,8 +89,9 @@ SetsElsewhere S line words words' =
     → set_in words' k ≡ set_in words k
 
 -- what the code answers, as the ledger has it
-abbrev pub edited_of : Edited → Answer
-edited_of r = edited r.number r.count r.joins
+abbrev pub edited_of : Result Edited Refusal → Answer
+edited_of (Ok e) = edited 0 e.count e.joins
+edited_of (Err r) = refused_edit (refusal_number r)
 
 -- the call. The last five hold of every book and table
 pub record EditCall (line : Bytes) (book words : List ℕ) (a : Answer) (words' book' : List ℕ) : Type 0 where

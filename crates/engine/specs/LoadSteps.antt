@@ -1,6 +1,5 @@
 -- The table after a load. Assumes nothing: these are definitions.
-use Rattle.std.specs.Prelude.{ℕ, ◌≡◌, List, length, get_or}
-use Rattle.model.specs.Limits.{Edition, table_words}
+use Rattle.std.specs.Prelude.{ℕ, List}
 use Rattle.sets.specs.Filled.{Filled}
 use Rattle.book.specs.Sections as section
 use Rattle.book.specs.Sections.{section_words}
@@ -8,8 +7,3 @@ use Rattle.book.specs.Sections.{section_words}
 -- the table is that of the ties that the book's sections keep
 abbrev pub TableFilled : List ℕ → List ℕ → Type 0
 TableFilled book words = Filled (section_words section.ups book) (section_words section.own book) (section_words section.slots book) words
-
--- "table all 0", where it has its length; another keeps its words
-pub record Cleared (words words' : List ℕ) : Type 0 where
-  pub zeros : length words ≡ table_words Edition.first → (i : ℕ) → get_or words' i 0 ≡ 0
-  pub kept : (length words ≡ table_words Edition.first → ⊥) → words' ≡ words

@@ -1,5 +1,4 @@
-pub mod FieldReaders
 pub mod CutParts
-pub mod Frames
 pub mod Forms
+pub mod Frames
 pub mod ToldParts

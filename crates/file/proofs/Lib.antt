@@ -1,5 +1,5 @@
--- Laws about rules, lines and files read into a book.
-pub mod RuleLines
 pub mod LineReading
+pub mod KeyOrder
 pub mod FileLines
+pub mod RuleLines
 pub mod Files

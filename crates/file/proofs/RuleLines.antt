@@ -1,47 +1,46 @@
 -- A rule more: what its line is refused for, and that the book with it holds the state with it. Assumes nothing.
-use Prim.Native.Nat.{ℕ, ◌+◌, ◌-◌, ◌*◌, ◌≤◌, ◌<◌}
-use mathlib.Core.Path.{◌≡◌, refl, sym, ap, ap₂, subst, ◌∙◌}
+use Rattle.std.proofs.Common.{◌≡◌, refl, sym, ap, subst, ◌∙◌, ℕ, ◌+◌, ◌-◌, ◌*◌, ◌≤◌, ◌<◌, Bool, true, false, ◌&&◌, ◌||◌, not, List, [], ◌∷◌, ◌++◌, Option, Some, None, append_assoc, leb, length, get_or, take, drop, arith}
+use mathlib.Core.Path.{ap₂}
 use mathlib.Core.Logic.{⊎_elim}
-use mathlib.Core.Bool.{Bool, true, false, ◌&&◌, ◌||◌, not, true≢false}
-use mathlib.Core.List.{List, [], ◌∷◌, ◌++◌, append_assoc}
-use mathlib.Core.Option.{Option, none, some, some-injective}
-use native.Mathlib.Omega.{arith}
-use lib.Dec.{eqb, leb}
-use lib.ListN.{length, get_or, take, drop, set, length-set}
+use lib.ListN.{set, length-set}
+use Rattle.std.proofs.Math.Option as math
+use Rattle.std.proofs.Math.Option.{none, some, some-injective}
 use lib.Seq.{get_or-set_same, get_or-set_other, sets, sets-eq, length-sets, drop-drop}
-use borrow.Author.Tests.{leb-false, lt-leb, le-leb, eq-eqb, ne_eqb}
+use borrow.Author.Tests.{lt-leb, le-leb, ne_eqb}
 use borrow.Rule.Slice.PartMut.{put_mid}
 use Rattle.model.specs.Notation.{◌>>=◌, ◌is◌, is_none, any_of, all_of, each, nth}
-use Rattle.model.specs.Limits.{operation_limit, rule_limit}
+use Rattle.model.specs.Limits.{rule_limit}
 use Rattle.model.specs.Numbers as refusal
-use Rattle.model.specs.Bytes.{Bytes, same}
+use Rattle.model.specs.Bytes.{Bytes}
 use Rattle.model.specs.Names.{is_name}
 use Rattle.model.specs.Attributes.{Source}
 use Rattle.model.specs.Tokens.{Token, name, int, str, truth, operator, mark, is_token, tokens_of}
 use Rattle.model.specs.Grammar.{Policy, read_policy, too_large}
-use Rattle.model.specs.Keys.{Key}
+use Rattle.model.specs.Keys as keys
 use Rattle.model.specs.Lines.{Line, rule, read_rule}
 use Rattle.model.specs.Declarations.{Declarations, Rule, attribute_number, operation_number, holder_numbers_of, groups}
 use Rattle.model.specs.State.{State, after, with_rule}
 use Rattle.model.specs.Refusals.{◌if◌, first, unknown_name, circular}
 use Rattle.model.specs.Load.{stepped}
-use Rattle.model.specs.Standing.{WellDeclared, Standing}
+use Rattle.model.specs.Standing.{Standing}
 use Rattle.model.proofs.Options.{parts, bind-some}
 use Rattle.model.proofs.Lists.{nth-lt}
 use Rattle.model.proofs.Lines.{fields-said}
 use Rattle.model.proofs.Tests.{none-holds}
 use Rattle.model.proofs.Declared.{rule-of-line}
 use Rattle.model.proofs.Growing.{nth_last}
-use Rattle.rows.specs.Rows.{AttributeRows, is_pair_of, number_or}
+use Rattle.rows.specs.Rows.{AttributeRows, is_pair_of}
 use Rattle.tokens.specs.RuleCode.{encode_token, Coded}
 use Rattle.index.specs.Index.{Indexed}
+use Rattle.codes.specs.declared.Refusal.{Refusal}
+use Rattle.codes.specs.Enums.{refusal_number, told}
 use Rattle.policy.specs.Judgements.{Judges, policy_number}
 use Rattle.program.specs.Runs.{Programmed}
 use Rattle.program.proofs.Programs.{by-any-rows, more-attributes}
 use Rattle.compile.specs.Compiled.{Compiled}
 use Rattle.fields.specs.declared.RuleFields.{RuleFields}
-use Rattle.fields.specs.Forms.{no_rule, rule_numbers, rule_of, RuleTold}
-use Rattle.fields.specs.Told.{numbers_or}
+use Rattle.fields.specs.Forms.{rule_of, RuleTold}
+use Rattle.fields.proofs.ToldParts.{read_as}
 use Rattle.text.specs.Packing.{packed_of}
 use Rattle.text.proofs.LoopPlaces.{tail-part}
 use Rattle.book.specs.Sections as section
@@ -53,7 +52,8 @@ use Rattle.file.specs.LineSteps.{fields_refusal, FieldsRead, RuleJudged, RuleCom
 use Rattle.book.proofs.Sections.{mid-inside, mid-before, mid-behind}
 use Rattle.book.proofs.Writes.{apart, word-beside, word-inside, section-long, section-word, word_at}
 use Rattle.book.proofs.Kept.{length_more, sorts-kept, groups-kept, attributes-kept}
-use Rattle.book.proofs.DeclarationTests.{number_is, place-few}
+use Rattle.tielines.proofs.TieRefusals.{refused_for}
+use Rattle.tielines.proofs.TieNaming.{told-some, told-none}
 
 -- ---- the bytes of a rule
 
@@ -101,73 +101,42 @@ compiled-into attributes k code rows long few size c code' e =
 -- ---- what a rule is refused for
 
 -- the tests of the policy alone, of the operation and of the number of rules are those of the line, in their order
-in_order_lem : (large unknown missing over circle : Bool) (policy operation rules : ℕ) → policy ≡ first (refusal.over_limits if large ∷ refusal.undeclared if unknown ∷ []) → leb operation_limit operation ≡ missing
-    → leb rule_limit rules ≡ over → circle ≡ false
-    → first (rule_tests policy operation rules) ≡ first (refusal.over_limits if large ∷ refusal.undeclared if (missing || unknown) ∷ refusal.wrong_sort if false ∷ refusal.repeated if false ∷ refusal.full if over ∷ refusal.circular if circle ∷ [])
-in_order_lem true unknown missing over circle policy operation rules e f g h = rw e
-in_order_lem false true true over circle policy operation rules e f g h = rw (e, f)
-in_order_lem false true false over circle policy operation rules e f g h = rw (e, f)
-in_order_lem false false true over circle policy operation rules e f g h = rw (e, f)
-in_order_lem false false false true circle policy operation rules e f g h = rw (e, f, g)
-in_order_lem false false false false circle policy operation rules e f g h = rw (e, f, g, h)
+in_order_lem : (large unknown absent over circle : Bool) (policy : ℕ) (missing : Bool) (rules : ℕ) → policy ≡ first (refusal.over_limits if large ∷ refusal.undeclared if unknown ∷ [])
+    → missing ≡ absent → leb rule_limit rules ≡ over → circle ≡ false
+    → first (rule_tests policy missing rules) ≡ first (refusal.over_limits if large ∷ refusal.undeclared if (absent || unknown) ∷ refusal.wrong_sort if false ∷ refusal.repeated if false ∷ refusal.full if over ∷ refusal.circular if circle ∷ [])
+in_order_lem true unknown absent over circle policy missing rules e f g h = rw e
+in_order_lem false true true over circle policy missing rules e f g h = rw e
+in_order_lem false true false over circle policy missing rules e f g h = rw e
+in_order_lem false false true over circle policy missing rules e f g h = rw (e, f)
+in_order_lem false false false true circle policy missing rules e f g h = rw (e, f, g)
+in_order_lem false false false false circle policy missing rules e f g h = rw (e, f, g, h)
 
-missing : (D : Declarations) → WellDeclared D → (o : Bytes) (n : ℕ) → n ≡ number_or operation_limit (operation_number D o) → leb operation_limit n ≡ is_none (operation_number D o)
-unfolding operation_number
-missing D well o n e = go (operation_number D o) refl
-  where
-    go : (m : Option ℕ) → operation_number D o ≡ m → leb operation_limit n ≡ is_none m
-    go none f = le-leb operation_limit n (omega (arith, e ∙ ap (number_or operation_limit) f))
-    go (some k) f =
-        let l = place-few (same o) D.operations k f in
-        lt-leb operation_limit n (omega (arith, e ∙ ap (number_or operation_limit) f, well.operations.few))
-
-module _ (S : State) (standing : Standing S) (o p : Bytes) (policy operation rules : ℕ) (judge : policy ≡ policy_number S.declared p) (counted : rules ≡ length S.declared.rules)
-    (found : (ts : List Token) → rule_of o p ≡ some (rule o ts) → operation ≡ number_or operation_limit (operation_number S.declared o)) where
-  pub rule-refusal : first (rule_tests policy operation rules) ≡ fields_refusal S (rule_of o p)
+module _ (S : State) (standing : Standing S) (o p : Bytes) (policy : ℕ) (missing : Bool) (rules : ℕ) (judge : policy ≡ policy_number S.declared p) (counted : rules ≡ length S.declared.rules)
+    (found : (ts : List Token) → rule_of o p ≡ some (rule o ts) → missing ≡ is_none (operation_number S.declared o)) where
+  pub rule-refusal : first (rule_tests policy missing rules) ≡ fields_refusal S (rule_of o p)
   unfolding policy_number circular
   rule-refusal = go (tokens_of p) refl
     where
       D : Declarations
       D = S.declared
 
-      read : (ts : List Token) → tokens_of p ≡ some ts → (q : Option Policy) → read_policy ts ≡ q → first (rule_tests policy operation rules) ≡ fields_refusal S (rule_of o p)
+      read : (ts : List Token) → tokens_of p ≡ some ts → (q : math.Option Policy) → read_policy ts ≡ q → first (rule_tests policy missing rules) ≡ fields_refusal S (rule_of o p)
       read ts e none f =
           let six : policy ≡ refusal.malformed = judge ∙ rw (e, f) in
           let not-read : rule_of o p ≡ none = rw (e, f) in
           rw (six, not-read)
       read ts e (some q) f =
           let is_read_lem : rule_of o p ≡ some (rule o ts) = rw (e, f) in
-          in_order_lem (read_policy ts is too_large) (any_of (unknown_name D) ts) (is_none (operation_number D o)) (leb rule_limit (length D.rules)) false policy operation rules
-          (judge ∙ rw (e, f)) (missing D standing.declarations o operation (found ts is_read_lem)) (ap (leb rule_limit) counted) refl
+          in_order_lem (read_policy ts is too_large) (any_of (unknown_name D) ts) (is_none (operation_number D o)) (leb rule_limit (length D.rules)) false policy missing rules
+          (judge ∙ rw (e, f)) (found ts is_read_lem) (ap (leb rule_limit) counted) refl
           ∙ ap (fields_refusal S) (sym is_read_lem)
 
-      go : (t : Option (List Token)) → tokens_of p ≡ t → first (rule_tests policy operation rules) ≡ fields_refusal S (rule_of o p)
+      go : (t : math.Option (List Token)) → tokens_of p ≡ t → first (rule_tests policy missing rules) ≡ fields_refusal S (rule_of o p)
       go none e =
           let six : policy ≡ refusal.malformed = judge ∙ rw e in
           let not-read : rule_of o p ≡ none = rw e in
           rw (six, not-read)
       go (some ts) e = read ts e (read_policy ts) refl
-
--- a rule that is not refused: there can be one more
-pub rule-room : (policy operation rules : ℕ) → first (rule_tests policy operation rules) ≡ 0 → rules < rule_limit
-rule-room policy operation rules e = go (eqb policy refusal.malformed) (eqb policy refusal.over_limits) (leb operation_limit operation || eqb policy refusal.undeclared) (leb rule_limit rules) refl e
-  where
-    go : (a b c d : Bool) → leb rule_limit rules ≡ d → first (refusal.malformed if a ∷ refusal.over_limits if b ∷ refusal.undeclared if c ∷ refusal.full if d ∷ []) ≡ 0 → rules < rule_limit
-    go true b c d f z = absurd (omega arith)
-    go false true c d f z = absurd (omega arith)
-    go false false true d f z = absurd (omega arith)
-    go false false false true f z = absurd (omega arith)
-    go false false false false f z = leb-false rule_limit rules f
-
--- and its operation is declared
-pub rule-operation : (policy operation rules : ℕ) → first (rule_tests policy operation rules) ≡ 0 → operation < operation_limit
-rule-operation policy operation rules e = go (eqb policy refusal.malformed) (eqb policy refusal.over_limits) (leb operation_limit operation) (eqb policy refusal.undeclared) refl e
-  where
-    go : (a b c d : Bool) → leb operation_limit operation ≡ c → first (refusal.malformed if a ∷ refusal.over_limits if b ∷ refusal.undeclared if (c || d) ∷ refusal.full if leb rule_limit rules ∷ []) ≡ 0 → operation < operation_limit
-    go true b c d f z = absurd (omega arith)
-    go false true c d f z = absurd (omega arith)
-    go false false true d f z = absurd (omega arith)
-    go false false false d f z = leb-false operation_limit operation f
 
 -- ---- the book with a rule more
 
@@ -296,46 +265,10 @@ rule-held book code code' S o ts k operation held size at few known kept rows-ke
 
 -- ---- the ways of the step
 
--- the number of a rule's tests
-module _ (policy operation rules : ℕ) where
-  pub refused-policy : policy ≡ refusal.malformed → refusal.malformed ≡ first (rule_tests policy operation rules)
-  refused-policy e = rw e
-
-  pub refused-large : policy ≡ refusal.over_limits → refusal.over_limits ≡ first (rule_tests policy operation rules)
-  refused-large e = rw e
-
-  module _ (formed : policy ≡ refusal.malformed → ⊥) (within : policy ≡ refusal.over_limits → ⊥) where
-    pub refused-operation : operation_limit ≤ operation → refusal.undeclared ≡ first (rule_tests policy operation rules)
-    refused-operation h = rw (ne_eqb policy refusal.malformed formed, ne_eqb policy refusal.over_limits within, le-leb operation_limit operation h)
-
-    module _ (known : operation < operation_limit) where
-      pub refused-name : policy ≡ refusal.undeclared → refusal.undeclared ≡ first (rule_tests policy operation rules)
-      refused-name e = rw (ne_eqb policy refusal.malformed formed, ne_eqb policy refusal.over_limits within, lt-leb operation_limit operation known, eq-eqb policy refusal.undeclared e)
-
-      module _ (named : policy ≡ refusal.undeclared → ⊥) where
-        pub refused_full : rule_limit ≤ rules → refusal.full ≡ first (rule_tests policy operation rules)
-        refused_full h = rw (ne_eqb policy refusal.malformed formed, ne_eqb policy refusal.over_limits within, lt-leb operation_limit operation known, ne_eqb policy refusal.undeclared named, le-leb rule_limit rules h)
-
-        pub not-refused : rules < rule_limit → 0 ≡ first (rule_tests policy operation rules)
-        not-refused h = rw (ne_eqb policy refusal.malformed formed, ne_eqb policy refusal.over_limits within, lt-leb operation_limit operation known, ne_eqb policy refusal.undeclared named, lt-leb rule_limit rules h)
-
--- what the numbers of a rule's fields say
-pub rule-unread : (f : Bytes) (r : RuleFields) → RuleTold f r → r.ok ≡ false → read_rule f ≡ none
-rule-unread f r told off = go told.fields.parts told.fields.read told.fields.told
-  where
-    go : (o : Option (Bytes × ℕ)) → read_rule f ≡ (o >>= λ (o, start). rule_of o (drop start f)) → r ≡ numbers_or no_rule rule_numbers o → read_rule f ≡ none
-    go none e g = e
-    go (some x) e g = absurd (true≢false (sym (ap (λ (z : RuleFields). z.ok) g) ∙ off))
-
-pub rule-read : (f : Bytes) (r : RuleFields) → RuleTold f r → r.ok ≡ true
-    → (o : Bytes) × (read_rule f ≡ rule_of o (drop r.start f)) × (packed_of o ≡ r.operation)
-rule-read f r told on = go told.fields.parts told.fields.read told.fields.told
-  where
-    go : (o : Option (Bytes × ℕ)) → read_rule f ≡ (o >>= λ (o, start). rule_of o (drop start f)) → r ≡ numbers_or no_rule rule_numbers o
-        → (o : Bytes) × (read_rule f ≡ rule_of o (drop r.start f)) × (packed_of o ≡ r.operation)
-    go none e g = absurd (true≢false (sym on ∙ ap (λ (z : RuleFields). z.ok) g))
-    go (some (o, start)) e g =
-        (o, e ∙ ap (λ (z : RuleFields). rule_of o (drop z.start f)) (sym g), ap (λ (z : RuleFields). z.operation) (sym g))
+rule-read : (f : Bytes) (v : RuleFields) → RuleTold f (Some v) → (o : Bytes) × (read_rule f ≡ rule_of o (drop v.start f)) × (packed_of o ≡ v.operation)
+rule-read f v told =
+    let ((o, start), e, g) = read_as told.fields in
+    (o, e ∙ ap (λ (z : RuleFields). rule_of o (drop z.start f)) (sym g), ap (λ (z : RuleFields). z.operation) (sym g))
 
 -- the tokens of a rule that is read
 rule-tokens : (o p : Bytes) (l : Line) → rule_of o p ≡ some l → (ts : List Token) × (tokens_of p ≡ some ts) × (l ≡ rule o ts)
@@ -344,59 +277,86 @@ rule-tokens o p l e =
     let (q, c, d) = bind-some (read_policy ts) (λ q. some (rule o ts)) b in
     (ts, a, sym (some-injective _ _ d))
 
-accepted-read : (S : State) (x : Option Line) → fields_refusal S x ≡ 0 → (l : Line) × (x ≡ some l)
+accepted-read : (S : State) (x : math.Option Line) → fields_refusal S x ≡ 0 → (l : Line) × (x ≡ some l)
 accepted-read S none e = absurd (omega arith)
 accepted-read S (some l) e = (l, refl)
 
-module _ (f : Bytes) (r : RuleFields) (told : RuleTold f r) (ok : r.ok ≡ true) (book : List ℕ) (code code' : Bytes) (k policy operation : ℕ) (count : k ≡ get_or book 5 0)
-    (judge-part : RuleJudged (take (length f - r.start) (drop r.start f)) (section_words section.attributes book) k code code' policy)
-    (found : OperationFound (section_words section.operations book) r.operation.low r.operation.high operation) where
-  judge : RuleJudged (drop r.start f) (section_words section.attributes book) k code code' policy
-  judge = subst (λ (s : Bytes). RuleJudged s (section_words section.attributes book) k code code' policy) (tail-part r.start f) judge-part
+module _ (f : Bytes) (v : RuleFields) (read-as : RuleTold f (Some v)) (book : List ℕ) (code code' : Bytes) (k policy : ℕ) (count : k ≡ get_or book 5 0)
+    (judge-part : RuleJudged (take (length f - v.start) (drop v.start f)) (section_words section.attributes book) k code code' policy) where
+  judge : RuleJudged (drop v.start f) (section_words section.attributes book) k code code' policy
+  judge = subst (λ (s : Bytes). RuleJudged s (section_words section.attributes book) k code code' policy) (tail-part v.start f) judge-part
 
   counted : (S : State) → Holds book code S → k ≡ length S.declared.rules
   counted S held = count ∙ sym (section-word section.counts book 5 (omega arith)) ∙ held.counts.rules
 
-  named : (S : State) → Standing S → Holds book code S → (o : Bytes) (ts : List Token) → packed_of o ≡ r.operation → read_rule f ≡ some (rule o ts)
-      → operation ≡ number_or operation_limit (operation_number S.declared o)
-  named S standing held o ts words e =
-      let formed = (fields-said Key.rule f (rule o ts) e).0 in
-      let (front, _) = parts (is_name o && all_of is_token ts) (not (is_none (read_policy ts))) formed in
-      found S.declared standing.declarations held.operations o (parts (is_name o) (all_of is_token ts) front).0 words
+  -- the name of the operation
+  abbrev name_of : Bytes
+  name_of = (rule-read f v read-as).0
 
-  number-is-first : (S : State) → Standing S → Holds book code S → first (rule_tests policy operation k) ≡ fields_refusal S (read_rule f)
-  number-is-first S standing held =
-      let (o, e, words) = rule-read f r told ok in
-      rule-refusal S standing o (drop r.start f) policy operation k (judge.number S.declared standing.declarations held.attributes) (counted S held)
-      (λ ts g. named S standing held o ts words (e ∙ g))
+  named : (S : State) → Standing S → Holds book code S → (ts : List Token) → read_rule f ≡ some (rule name_of ts) → {r : Option ℕ}
+      → OperationFound (section_words section.operations book) v.operation r → r ≡ told (operation_number S.declared name_of)
+  named S standing held ts e found =
+      let formed = (fields-said keys.Key.rule f (rule name_of ts) e).0 in
+      let (front, _) = parts (is_name name_of && all_of is_token ts) (not (is_none (read_policy ts))) formed in
+      found S.declared standing.declarations held.operations name_of (parts (is_name name_of) (all_of is_token ts) front).0 (rule-read f v read-as).2
+
+  number-is-first : (S : State) → Standing S → Holds book code S → (missing : Bool)
+      → ((ts : List Token) → read_rule f ≡ some (rule name_of ts) → missing ≡ is_none (operation_number S.declared name_of))
+      → first (rule_tests policy missing k) ≡ fields_refusal S (read_rule f)
+  number-is-first S standing held missing found =
+      let e = (rule-read f v read-as).1 in
+      rule-refusal S standing name_of (drop v.start f) policy missing k (judge.number S.declared standing.declarations held.attributes) (counted S held) (λ ts g. found ts (e ∙ g))
       ∙ ap (fields_refusal S) (sym e)
 
-  pub rule-refused : (n : ℕ) → n ≡ first (rule_tests policy operation k) → (n ≡ 0 → ⊥) → FieldsRead book code (read_rule f) book code' n
-  rule-refused n e other S standing held = (e ∙ number-is-first S standing held, λ z. absurd (other z))
+  pub rule-misjudged : (e : Refusal) → policy ≡ refusal_number e → {n : ℕ} → n ≡ refusal_number e → FieldsRead book code (read_rule f) book code' n
+  rule-misjudged e z w S standing held =
+      let other : policy ≡ 0 → ⊥ = λ y. refused_for e (sym z ∙ y) in
+      let absent = is_none (operation_number S.declared name_of) in
+      let tests : policy ≡ first (rule_tests policy absent k) = rw (ne_eqb policy 0 other) in
+      (w ∙ sym z ∙ tests ∙ number-is-first S standing held absent (λ ts g. refl), λ y. absurd (refused_for e (sym w ∙ y)))
 
-  pub rule-accepted : first (rule_tests policy operation k) ≡ 0 → length code' ≡ rule_bytes → (code'' : Bytes) → RuleCompiled (section_words section.attributes book) k code' code''
-      → (book' : List ℕ) → book' ≡ rule_put book k operation → FieldsRead book code (read_rule f) book' code'' 0
-  rule-accepted e size code'' compiled book' written S standing held =
-      let D = S.declared in
-      let number : 0 ≡ fields_refusal S (read_rule f) = sym e ∙ number-is-first S standing held in
-      let (o, g, words) = rule-read f r told ok in
-      let (l, x) = accepted-read S (read_rule f) (sym number) in
-      let (ts, spelled, is-rule) = rule-tokens o (drop r.start f) l (sym g ∙ x) in
-      let read : read_rule f ≡ some (rule o ts) = x ∙ ap (λ (m : Line). some m) is-rule in
-      let few = rule-room policy operation k e in
-      let known = rule-operation policy operation k e in
-      let tests = none-holds (later_tests S (rule o ts)) refl (sym (number ∙ ap (fields_refusal S) read)) in
-      let stands = rule-of-line D o ts (fields-said Key.rule f (rule o ts) read).0 tests.0 tests.1.0 in
-      let coded = judge.here few D standing.declarations held.attributes ts spelled in
-      let programmed = by-any-rows D (section_words section.attributes book) held.attributes.row (code_of_rule code' k) (rows_of_rule code'' k) ts
-      (compiled.here D ts stands.policy coded stands.written stands.names-declared stands.reads stands.within (omega (arith, compiled.rows_long))) in
-      let same = compiled.codes-stay k few in (
-        number,
-        λ z.
-            subst (λ (y : Option Line). Holds book' code'' (stepped S y)) (sym read)
-            (subst (λ (w : List ℕ). Holds w code'' (after (rule o ts) S)) (sym written)
-            (rule-held book code code'' S o ts k operation held (compiled.long ∙ size) (counted S held) few
-            (number_is operation_limit (operation_number D o) operation (named S standing held o ts words read) (λ w. omega arith))
-            (λ i l. compiled.codes-stay i (omega arith) ∙ judge.before i l) (λ i l. compiled.before i l ∙ judge.rows_stay i (omega arith))
-            (subst (λ (c : Bytes). Coded D c 0 ts) (sym same) coded) (subst (λ (c : Bytes). Programmed D c (rows_of_rule code'' k) ts) (sym same) programmed))),
-      )
+  module _ (right : policy ≡ 0) where
+    pub rule-unknown : OperationFound (section_words section.operations book) v.operation None → {n : ℕ} → n ≡ refusal.undeclared → FieldsRead book code (read_rule f) book code' n
+    rule-unknown found w S standing held =
+        let tests : refusal.undeclared ≡ first (rule_tests policy true k) = rw right in (
+          w ∙ tests ∙ number-is-first S standing held true (λ ts g. sym (ap is_none (told-none (operation_number S.declared name_of) (named S standing held ts g found)))),
+          λ y. absurd (omega arith),
+        )
+
+    module _ {operation : ℕ} (found : OperationFound (section_words section.operations book) v.operation (Some operation)) where
+      known : (S : State) → Standing S → Holds book code S → (ts : List Token) → read_rule f ≡ some (rule name_of ts) → operation_number S.declared name_of ≡ some operation
+      known S standing held ts e = told-some (operation_number S.declared name_of) (named S standing held ts e found)
+
+      there : (S : State) → Standing S → Holds book code S → first (rule_tests policy false k) ≡ fields_refusal S (read_rule f)
+      there S standing held = number-is-first S standing held false (λ ts g. sym (ap is_none (known S standing held ts g)))
+
+      pub rule-full : rule_limit ≤ k → FieldsRead book code (read_rule f) book code' refusal.full
+      rule-full far S standing held =
+          let tests : refusal.full ≡ first (rule_tests policy false k) = rw (right, le-leb rule_limit k far) in
+          (tests ∙ there S standing held, λ y. absurd (omega arith))
+
+      pub rule-accepted : k < rule_limit → length code' ≡ rule_bytes → (code'' : Bytes) → RuleCompiled (section_words section.attributes book) k code' code''
+          → (book' : List ℕ) → book' ≡ rule_put book k operation → FieldsRead book code (read_rule f) book' code'' 0
+      rule-accepted few size code'' compiled book' written S standing held =
+          let D = S.declared in
+          let tests : 0 ≡ first (rule_tests policy false k) = rw (right, lt-leb rule_limit k few) in
+          let number : 0 ≡ fields_refusal S (read_rule f) = tests ∙ there S standing held in
+          let g = (rule-read f v read-as).1 in
+          let (l, x) = accepted-read S (read_rule f) (sym number) in
+          let (ts, spelled, is-rule) = rule-tokens name_of (drop v.start f) l (sym g ∙ x) in
+          let read : read_rule f ≡ some (rule name_of ts) = x ∙ ap (λ (m : Line). some m) is-rule in
+          let passed = none-holds (later_tests S (rule name_of ts)) refl (sym (number ∙ ap (fields_refusal S) read)) in
+          let stands = rule-of-line D name_of ts (fields-said keys.Key.rule f (rule name_of ts) read).0 passed.0 passed.1.0 in
+          let coded = judge.here few D standing.declarations held.attributes ts spelled in
+          let programmed = by-any-rows D (section_words section.attributes book) held.attributes.row (code_of_rule code' k) (rows_of_rule code'' k) ts
+          (compiled.here D ts stands.policy coded stands.written stands.names-declared stands.reads stands.within (omega (arith, compiled.rows_long))) in
+          let same = compiled.codes-stay k few in (
+            number,
+            λ z.
+                subst (λ (y : math.Option Line). Holds book' code'' (stepped S y)) (sym read)
+                (subst (λ (w : List ℕ). Holds w code'' (after (rule name_of ts) S)) (sym written)
+                (rule-held book code code'' S name_of ts k operation held (compiled.long ∙ size) (counted S held) few
+                (known S standing held ts read)
+                (λ i l. compiled.codes-stay i (omega arith) ∙ judge.before i l) (λ i l. compiled.before i l ∙ judge.rows_stay i (omega arith))
+                (subst (λ (c : Bytes). Coded D c 0 ts) (sym same) coded) (subst (λ (c : Bytes). Programmed D c (rows_of_rule code'' k) ts) (sym same) programmed))),
+          )

@@ -8,7 +8,7 @@ ghost use Rattle.model.specs.Load.{load};
 ghost use Rattle.book.specs.Sections.{book_words, rule_bytes};
 ghost use Rattle.file.specs.LineSteps.{FirstLine, OthersRead, LoadedAs};
 
-use codes::{TOO_LONG, WRONG_FIRST_LINE};
+use codes::{Key, Refusal};
 
 pub mod line;
 pub mod rule;
@@ -18,10 +18,10 @@ const FILE_BYTES: usize = 32768;
 // How many bytes the first line has.
 const FIRST: usize = 9;
 
-// What a file is refused for, 0 for nothing, and the number of its refused line or of its lines.
+// What a file is refused for, and the number of its refused line.
 #[derive(Clone, Copy)]
-pub struct Loaded {
-    pub number: u8,
+pub struct Refused {
+    pub refusal: Refusal,
     pub line: u32,
 }
 
@@ -29,74 +29,63 @@ pub struct Loaded {
 fn begins(file: &[u8]) -> bool
     ensures { result ≡ not (wrong_first_line file.now) }
 {
-    if file.len() < FIRST {
-        return false;
-    }
-    text::same(&file[..FIRST], b"rights=1\n")
+    file.starts_with(b"rights=1\n")
 }
 
-// A line: the place of its byte 10, or of its end where it has none, and its length with that byte.
-#[derive(Clone, Copy)]
-struct Span {
-    end: usize,
-    length: usize,
-}
-
-// The first line.
-fn first_line(s: &[u8]) -> Span
-    ensures { FirstLine s.now result.end result.length }
+// The first line, with the place of its byte 10, where it has one, and what stands behind it.
+#[inline]
+fn first_line(s: &[u8]) -> (&[u8], Option<usize>, &[u8])
+    ensures { FirstLine s.now result.0.now result.1 result.2.now }
 {
-    let end = text::index_of(s, b'\n');
-    if end < s.len() {
-        return Span {
-            end,
-            length: end + 1,
-        };
+    match text::index_of(s, b'\n') {
+        Some(e) => (&s[..e + 1], Some(e), &s[e + 1..]),
+        None => (s, None, &[]),
     }
-    Span { end, length: end }
 }
 
 // The lines behind the first, until one is refused.
-fn others(book: &mut [u64], code: &mut [u8], rest: &[u8]) -> Loaded
+fn others(book: &mut [u64], code: &mut [u8], rest: &[u8]) -> Result<u32, Refused>
     requires { (length book.old ≡ book_words) × (length code.old ≡ rule_bytes) × (length rest.now ≤ file_bytes) }
-    ensures { OthersRead book.old code.old rest.now book.new code.new result.number result.line }
+    ensures { OthersRead book.old code.old rest.now book.new code.new result }
 {
-    let mut at: usize = 0;
-    let mut n: u32 = 1;
-    let mut previous: u8 = 0;
-    while at < rest.len() {
-        let first = first_line(&rest[at..]);
-        let next = at + first.length;
-        let answer = crate::line::read(book, code, &rest[at..next], first.end, previous);
-        n += 1;
-        if answer.number != 0 {
-            return Loaded {
-                number: answer.number,
-                line: n,
-            };
+    let mut left = rest;
+    let mut lines: u32 = 1;
+    // No key stands before the first of all.
+    let mut previous = Key::Attr;
+    // An iterator over lines would not say where byte 10 stands, and the frame would look for it again.
+    while !left.is_empty() {
+        let (line, end, behind) = first_line(left);
+        lines += 1;
+        match crate::line::read(book, code, line, end, previous) {
+            Ok(key) => previous = key,
+            Err(refusal) => {
+                return Err(Refused {
+                    refusal,
+                    line: lines,
+                });
+            }
         }
-        previous = answer.key;
-        at = next;
+        left = behind;
     }
-    Loaded { number: 0, line: n }
+    Ok(lines)
 }
 
-// The book of a file. After a refusal there may be anything in it.
-pub fn read(book: &mut [u64], code: &mut [u8], file: &[u8]) -> Loaded
+// The book of a file, and how many lines the file has. After a refusal there may be anything in the book.
+pub fn read(book: &mut [u64], code: &mut [u8], file: &[u8]) -> Result<u32, Refused>
     requires { (length book.old ≡ book_words) × (length code.old ≡ rule_bytes) }
-    ensures { LoadedAs (load file.now) book.new code.new result.number result.line }
+    ensures { LoadedAs (load file.now) book.new code.new result }
 {
     if file.len() > FILE_BYTES {
-        return Loaded {
-            number: TOO_LONG,
+        return Err(Refused {
+            refusal: Refusal::TooLong,
             line: 0,
-        };
+        });
     }
     if !begins(file) {
-        return Loaded {
-            number: WRONG_FIRST_LINE,
+        return Err(Refused {
+            refusal: Refusal::WrongFirstLine,
             line: 1,
-        };
+        });
     }
     book::declare::clear(book);
     others(book, code, &file[FIRST..])

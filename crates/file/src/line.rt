@@ -1,146 +1,92 @@
 // One line of a file: its frame, its key behind the one before, and the step of its key.
-ghost use Rattle.std.specs.Prelude.{◌≡◌, ◌≤◌, ◌<◌, length};
+ghost use Rattle.std.specs.Prelude.{◌≡◌, ◌≤◌, length};
 ghost use Rattle.model.specs.Limits.{line_bytes};
 ghost use Rattle.model.specs.Bytes.{newline};
-ghost use Rattle.model.specs.Keys.{Key};
 ghost use Rattle.model.specs.Lines.{read_attr, read_op, read_pair};
-ghost use Rattle.codes.specs.Codes.{key_code};
+ghost use Rattle.codes.specs.Enums.{number_in};
 ghost use Rattle.text.specs.Parts.{FirstAt};
 ghost use Rattle.book.specs.Sections.{book_words, rule_bytes};
-ghost use Rattle.file.specs.LineSteps.{KeyRead, TieRead, HolderRead, KeyFields, FieldsOf, LineRead};
+ghost use Rattle.file.specs.LineSteps.{KeyRead, TieRead, HolderRead, FieldsOf, LineRead};
 
-use codes::{KEY_ATOM, KEY_ATTR, KEY_OP, KEY_PARENT, KEY_RULE, MALFORMED, OUT_OF_ORDER, UNFRAMED};
-use text::Value;
-
-// What a line is refused for, 0 for nothing, and the code of its key.
-#[derive(Clone, Copy)]
-pub struct LineAnswer {
-    pub number: u8,
-    pub key: u8,
-}
+use codes::{Key, Refusal};
 
 // CHILD,PARENT, PARTY,GROUP and HOLDER,NAME,ATOM: the tie in the book, where it is refused for nothing.
-fn tie(book: &mut [u64], key: u8, f: &[u8]) -> u8
+fn tie(book: &mut [u64], key: Key, f: &[u8]) -> Result<(), Refusal>
     requires { length book.old ≡ book_words }
-    ensures { TieRead book.old key f.now book.new result }
+    ensures { TieRead book.old key f.now book.new (number_in result) }
 {
-    let t = tielines::of_fields(book, key, f);
-    if t.number != 0 {
-        return t.number;
-    }
-    let number = tielines::refusal(book, t, true);
-    if number != 0 {
-        return number;
-    }
+    let t = tielines::of_fields(book, key, f)?;
+    tielines::judge(book, t, true)?;
     tielines::change(book, t, true);
-    0
+    Ok(())
 }
 
 // SRC,NAME,TYPE
-fn attribute(book: &mut [u64], f: &[u8]) -> u8
+fn attribute(book: &mut [u64], f: &[u8]) -> Result<(), Refusal>
     requires { length book.old ≡ book_words }
-    ensures { KeyRead book.old (read_attr f.now) book.new result }
+    ensures { KeyRead book.old (read_attr f.now) book.new (number_in result) }
 {
-    let parts = fields::attr_fields(f);
-    if !parts.ok {
-        return MALFORMED;
-    }
-    let name = parts.name;
-    book::declare::attribute(book, parts.source, parts.ty, name)
+    let a = fields::attr_fields(f).ok_or(Refusal::Malformed)?;
+    book::declare::attribute(book, a.source, a.ty, a.name)
 }
 
 // The name of an operation
-fn operation(book: &mut [u64], f: &[u8]) -> u8
+fn operation(book: &mut [u64], f: &[u8]) -> Result<(), Refusal>
     requires { length book.old ≡ book_words }
-    ensures { KeyRead book.old (read_op f.now) book.new result }
+    ensures { KeyRead book.old (read_op f.now) book.new (number_in result) }
 {
-    let parts = fields::name_field(f);
-    if !parts.ok {
-        return MALFORMED;
-    }
-    let name = parts.name;
+    let name = fields::name_field(f).ok_or(Refusal::Malformed)?;
     book::declare::operation(book, name)
 }
 
 // SRC.NAME,ATOM
-fn pair(book: &mut [u64], f: &[u8]) -> u8
+fn pair(book: &mut [u64], f: &[u8]) -> Result<(), Refusal>
     requires { length book.old ≡ book_words }
-    ensures { KeyRead book.old (read_pair f.now) book.new result }
+    ensures { KeyRead book.old (read_pair f.now) book.new (number_in result) }
 {
-    let parts = fields::pair_fields(f);
-    if !parts.ok {
-        return MALFORMED;
-    }
-    let name = parts.name;
-    let atom = parts.atom;
-    book::declare::pair(book, parts.source, name, atom)
+    let p = fields::pair_fields(f).ok_or(Refusal::Malformed)?;
+    book::declare::pair(book, p.source, p.name, p.atom)
 }
 
 // The name of a holder
-fn holder(book: &mut [u64], key: u8, f: &[u8]) -> u8
+fn holder(book: &mut [u64], key: Key, f: &[u8]) -> Result<(), Refusal>
     requires { length book.old ≡ book_words }
-    ensures { HolderRead book.old key f.now book.new result }
+    ensures { HolderRead book.old key f.now book.new (number_in result) }
 {
-    let parts = fields::name_field(f);
-    if !parts.ok {
-        return MALFORMED;
-    }
-    let name = parts.name;
+    let name = fields::name_field(f).ok_or(Refusal::Malformed)?;
     book::declare::holder(book, key, name)
 }
 
-// The fields of a key that declares, but of rules.
-fn declared(book: &mut [u64], key: u8, f: &[u8]) -> u8
-    requires { length book.old ≡ book_words }
-    ensures { key < key_code Key.parent → KeyFields book.old key f.now book.new result }
-{
-    if key == KEY_ATTR {
-        return attribute(book, f);
-    }
-    if key == KEY_OP {
-        return operation(book, f);
-    }
-    if key == KEY_ATOM {
-        return pair(book, f);
-    }
-    holder(book, key, f)
-}
-
 // The fields of a key.
-fn step(book: &mut [u64], code: &mut [u8], key: u8, f: &[u8]) -> u8
+fn step(book: &mut [u64], code: &mut [u8], key: Key, f: &[u8]) -> Result<(), Refusal>
     requires { (length book.old ≡ book_words) × (length code.old ≡ rule_bytes) × (length f.now ≤ line_bytes) }
-    ensures { FieldsOf book.old code.old key f.now book.new code.new result }
+    ensures { FieldsOf book.old code.old key f.now book.new code.new (number_in result) }
 {
-    if key < KEY_PARENT {
-        return declared(book, key, f);
+    match key {
+        Key::Attr => attribute(book, f),
+        Key::Op => operation(book, f),
+        Key::Atom => pair(book, f),
+        Key::Ugroup | Key::Ogroup | Key::User | Key::Object => holder(book, key, f),
+        Key::Parent | Key::Member | Key::Value => tie(book, key, f),
+        Key::Rule => crate::rule::rule(book, code, f),
     }
-    if key == KEY_RULE {
-        return crate::rule::rule(book, code, f);
-    }
-    tie(book, key, f)
 }
 
-// A line of a file, given with its byte 10, which stands first at `end`, behind one whose key has the code `previous`: 0 for none.
-pub fn read(book: &mut [u64], code: &mut [u8], line: &[u8], end: usize, previous: u8) -> LineAnswer
+// A line of a file, given with its byte 10, which stands first at `end`, or nowhere: its key, which may not stand before the `previous` one.
+pub fn read(
+    book: &mut [u64],
+    code: &mut [u8],
+    line: &[u8],
+    end: Option<usize>,
+    previous: Key,
+) -> Result<Key, Refusal>
     requires { (length book.old ≡ book_words) × (length code.old ≡ rule_bytes) × FirstAt newline line.now end }
-    ensures { LineRead book.old code.old line.now previous book.new code.new result.number result.key }
+    ensures { LineRead book.old code.old line.now previous book.new code.new result }
 {
-    let framed = fields::frame_at(line, end);
-    let key = framed.key;
-    if key == 0 {
-        return LineAnswer {
-            number: UNFRAMED,
-            key: 0,
-        };
+    let framed = fields::frame_at(line, end).ok_or(Refusal::Unframed)?;
+    if framed.key < previous {
+        return Err(Refusal::OutOfOrder);
     }
-    if key < previous {
-        return LineAnswer {
-            number: OUT_OF_ORDER,
-            key,
-        };
-    }
-    let start = framed.start;
-    let stop = framed.end;
-    let number = step(book, code, key, &line[start..stop]);
-    LineAnswer { number, key }
+    step(book, code, framed.key, &line[framed.start..framed.end])?;
+    Ok(framed.key)
 }

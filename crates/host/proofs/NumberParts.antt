@@ -7,7 +7,6 @@ use Rattle.model.specs.Bytes.{Bytes}
 use Rattle.model.specs.Ledger.{Outcome, loaded, edited}
 use Rattle.book.specs.Calls.{Gives}
 use Rattle.edit.specs.EditSteps.{EditCall}
-use Rattle.writer.specs.WriteCalls.{WriteCall}
 use Rattle.host.specs.AnswerNumbers.{high, load_answer, count_numbers, edit_answer, Packs}
 
 unpacked : (P : ℕ → ℕ → Type 0) {number carried r : ℕ} → Packs number carried r → P number carried → P (r % high) (r / high)
@@ -25,7 +24,3 @@ edit-unpacked {line} {book} {words} {words'} {book'} {number} {count} {joins} pa
     unpacked (λ n c. EditCall line book words (edited n (c % count_numbers) (c / count_numbers)) words' book') packs
     (subst (λ (c : ℕ). EditCall line book words (edited number c ((count + count_numbers * joins) / count_numbers)) words' book') (sym low)
     (subst (λ (j : ℕ). EditCall line book words (edited number count j) words' book') (sym above) g))
-
-pub write-unpacked : {book : List ℕ} {rules before after : Bytes} {number long r : ℕ} → Packs number long r → WriteCall book rules before number long after
-    → WriteCall book rules before (r % high) (r / high) after
-write-unpacked {book} {rules} {before} {after} packs g = unpacked (λ n l. WriteCall book rules before n l after) packs g

@@ -3,8 +3,7 @@
 
 ghost use Rattle.std.specs.Prelude.{◌≡◌, ◌/◌, ◌%◌, ◌≤◌, length};
 ghost use Rattle.model.specs.Host.{host_call, host_table};
-ghost use Rattle.model.specs.Causes.{cause_number};
-ghost use Rattle.request.specs.Decisions.{cause_of, decision_of, number_and_values_of};
+ghost use Rattle.request.specs.Decisions.{decision_of, number_and_values_of};
 ghost use Rattle.book.specs.Calls.{Loads};
 ghost use Rattle.edit.specs.EditSteps.{EditCall};
 ghost use Rattle.writer.specs.WriteCalls.{WriteCall, LengthCall};
@@ -14,15 +13,15 @@ use book::{BOOK_WORDS, RULE_BYTES};
 use codes::{ABSENT, DENY, PERMIT, UNDEFINED, UNLIKE};
 use request::{Cause, Decision};
 
-// "0 permit, 64 deny, 65 undefined, else the refusal."
+// "0 permit, 64 deny, 65 undefined, else the refusal." A function and no `From`, as neither `Decision` nor `u32` is of this crate; so the two below.
 fn number_of(d: Decision) -> u32
     ensures { result ≡ (number_and_values_of d).0 }
 {
     match d {
-        Decision::Permit(_) => PERMIT as u32,
-        Decision::Deny => DENY as u32,
-        Decision::Undefined(_) => UNDEFINED as u32,
-        Decision::Refused(n) => n as u32,
+        Decision::Permit(_) => u32::from(PERMIT),
+        Decision::Deny => u32::from(DENY),
+        Decision::Undefined(_) => u32::from(UNDEFINED),
+        Decision::Refused(refusal) => u32::from(refusal),
     }
 }
 
@@ -31,19 +30,8 @@ fn rule_of(d: Decision) -> u32
     ensures { (result ≡ rule_in (decision_of d)) × (result ≤ 255) }
 {
     match d {
-        Decision::Permit(k) => k as u32,
-        Decision::Deny => 0,
-        Decision::Undefined(_) => 0,
-        Decision::Refused(_) => 0,
-    }
-}
-
-fn cause_number(c: Cause) -> u32
-    ensures { (result ≡ cause_number (cause_of c)) × (result ≤ 2) }
-{
-    match c {
-        Cause::Absent => ABSENT as u32,
-        Cause::Unlike => UNLIKE as u32,
+        Decision::Permit(rule) => u32::from(rule),
+        _ => 0,
     }
 }
 
@@ -52,10 +40,9 @@ fn cause_of(d: Decision) -> u32
     ensures { (result ≡ cause_in (decision_of d)) × (result ≤ 2) }
 {
     match d {
-        Decision::Permit(_) => 0,
-        Decision::Deny => 0,
-        Decision::Undefined(c) => cause_number(c),
-        Decision::Refused(_) => 0,
+        Decision::Undefined(Cause::Absent) => u32::from(ABSENT),
+        Decision::Undefined(Cause::Unlike) => u32::from(UNLIKE),
+        _ => 0,
     }
 }
 
@@ -63,7 +50,7 @@ fn cause_of(d: Decision) -> u32
 fn pack(number: u32, carried: u32) -> u64
     ensures { Packs number carried result }
 {
-    number as u64 + 4294967296 * carried as u64
+    u64::from(number) + 4294967296 * u64::from(carried)
 }
 
 // "One call for hosts in C takes file, block and table, loads, then decides: 0 permit, 64 deny, 65 undefined, else the refusal. Table as after
@@ -74,11 +61,10 @@ pub extern "C" fn zhul_pass(file: &[u8], block: &[u8], table: &mut [u64]) -> u32
 {
     let mut book = [0u64; BOOK_WORDS];
     let mut rules = [0u8; RULE_BYTES];
-    let loaded = engine::load(file, &mut book, &mut rules, table);
-    if loaded.number != 0 {
-        return loaded.number as u32;
+    match engine::load(file, &mut book, &mut rules, table) {
+        Ok(_) => number_of(request::decide(block, &book, &rules, table)),
+        Err(refused) => u32::from(refused.refusal),
     }
-    number_of(request::decide(block, &book, &rules, table))
 }
 
 // Loads a file into the host's own book: the number, and the line in the high bits.
@@ -91,8 +77,10 @@ pub extern "C" fn zhul_load(
 ) -> u64
     ensures { Loads file.now table.old (load_answer result) table.new book.new rules.new }
 {
-    let loaded = engine::load(file, book, rules, table);
-    pack(loaded.number as u32, loaded.line)
+    match engine::load(file, book, rules, table) {
+        Ok(lines) => pack(0, lines),
+        Err(refused) => pack(u32::from(refused.refusal), refused.line),
+    }
 }
 
 // An edit of the host's own book: the number, and in the high bits the count, twelve of them, and the joins.
@@ -100,8 +88,10 @@ pub extern "C" fn zhul_load(
 pub extern "C" fn zhul_edit(line: &[u8], book: &mut [u64; BOOK_WORDS], table: &mut [u64]) -> u64
     ensures { EditCall line.now book.old table.old (edit_answer result) table.new book.new }
 {
-    let edited = edit::edit(line, book, table);
-    pack(edited.number as u32, edited.count + 4096 * edited.joins)
+    match edit::edit(line, book, table) {
+        Ok(edited) => pack(0, edited.count + 4096 * edited.joins),
+        Err(refusal) => pack(u32::from(refusal), 0),
+    }
 }
 
 // Decides a request on the host's own book: the number, and in the high bits the rule of a permit, eight of them, and the cause of what is undefined.
@@ -127,8 +117,10 @@ pub extern "C" fn zhul_write(
 ) -> u64
     ensures { WriteCall book.now rules.now buffer.old (result % high) (result / high) buffer.new }
 {
-    let written = writer::write(book, rules, buffer);
-    pack(written.number as u32, written.length as u32)
+    match writer::write(book, rules, buffer) {
+        Ok(length) => pack(0, length as u32),
+        Err(refusal) => pack(u32::from(refusal), 0),
+    }
 }
 
 // Tells the length that the file as it stands now has: no number beside it, as nothing is refused.

@@ -1,8 +1,8 @@
 -- The walk along a chain: what is known at its start, behind each row, and at its end. Assumes nothing.
-use Prim.Native.Nat.{ℕ, suc, ◌+◌, ◌-◌, ◌*◌, ◌≤◌, ◌<◌}
+use Prim.Native.Nat.{ℕ, zero, suc, ◌+◌, ◌*◌, ◌≤◌, ◌<◌}
 use mathlib.Core.Path.{◌≡◌, refl, sym, ap, subst, ◌∙◌}
 use mathlib.Core.Logic.{◌⊎◌, inl, inr}
-use mathlib.Core.Bool.{Bool, true, false, ◌&&◌}
+use mathlib.Core.Bool.{Bool, true, false}
 use mathlib.Core.List.{List}
 use mathlib.Core.Option.{some}
 use native.Mathlib.Decide.{dec_lt}
@@ -10,7 +10,8 @@ use native.Mathlib.Omega.{arith}
 use native.Mathlib.Nat.{eq-or-lt_of_le}
 use lib.Dec.{eqb}
 use lib.ListN.{length, get_or}
-use borrow.Author.Tests.{eqb-true, eq-eqb, le-leb}
+use borrow.Author.Tests.{eqb-true, eq-eqb, le-leb, lt-ltb}
+use Rattle.std.specs.Prelude.{Option, Some, None}
 use Rattle.model.proofs.WordTables.{false-is-true, none-is-some}
 use Rattle.model.proofs.Options.{parts}
 use Rattle.index.specs.Index.{chains, rows_in, next_place, row_place, Row, hash_of, is_at, link_of, Rows, InChain, Greatest, RowWritten, Indexed, RowFound}
@@ -19,9 +20,15 @@ pub hash-below : (w : Row) → hash_of w < chains
 unfolding hash_of
 hash-below w = omega arith
 
+-- the numbers of rows that a link leads to, and those before them: the word of the link
+abbrev pub reach : Option ℕ → ℕ
+reach None = 0
+reach (Some k) = suc k
+
 -- a word that leads below `top` is taken as it is
-pub link-within : (v top : ℕ) → v ≤ top → link_of v top ≡ v
-link-within v top h = rw (le-leb v top h)
+pub link-within : (v top : ℕ) → v ≤ top → reach (link_of v top) ≡ v
+link-within zero top h = refl
+link-within (suc v) top h = rw (lt-ltb 0 (suc v) (omega arith), le-leb (suc v) top h) (omega arith)
 
 -- a section's length tells how many rows it has
 pub rows_of : {s : List ℕ} {n : ℕ} {rows : Rows} → Indexed s n rows → rows_in (length s) ≡ n
@@ -60,25 +67,26 @@ there-below {n = n} ix k w e = go (dec_lt k n)
 pub chain-as : (rows rows' : Rows) {h k : ℕ} → rows' k ≡ rows k → InChain rows h k → InChain rows' h k
 chain-as rows rows' same (w, e, f) = (w, same ∙ e, f)
 
--- v leads to a row of w's chain, or is the end; no row from there up has w's words
-pub record Walk (rows : Rows) (w : Row) (v : ℕ) : Type 0 where
-  pub inside : (k : ℕ) → v ≡ suc k → InChain rows (hash_of w) k
-  pub passed : (k : ℕ) → v ≤ k → rows k ≡ some w → ⊥
+-- a link leads to a row of w's chain, or nowhere; no row with a number from `reach` up has w's words
+pub record Walk (rows : Rows) (w : Row) (reach : ℕ) : Type 0 where
+  pub inside : (k : ℕ) → reach ≡ suc k → InChain rows (hash_of w) k
+  pub passed : (k : ℕ) → reach ≤ k → rows k ≡ some w → ⊥
 
 -- a chain's word below `top` goes on with the walk, if no row from `top` up has w's words
 next-walk : (rows : Rows) (w : Row) (top v : ℕ) → Greatest rows (hash_of w) top v → ((k : ℕ) → top ≤ k → rows k ≡ some w → ⊥)
-    → Walk rows w (link_of v top)
-next-walk rows w top v g none-up = rw (link-within v top g.within) (record { inside = g.inside; passed = λ k h e. go k h e (dec_lt k top) })
+    → Walk rows w (reach (link_of v top))
+next-walk rows w top v g none-up =
+    subst (Walk rows w) (sym (link-within v top g.within)) (record { inside = g.inside; passed = λ k h e. go k h e (dec_lt k top) })
   where
     go : (k : ℕ) → v ≤ k → rows k ≡ some w → Dec (k < top) → ⊥
     go k h e (yes l) = g.above k h l (w, e, refl)
     go k h e (no l) = none-up k (omega arith) e
 
 module _ {s : List ℕ} {n : ℕ} {rows : Rows} (ix : Indexed s n rows) (w : Row) where
-  pub walk_start : Walk rows w (link_of (get_or s (hash_of w) 0) n)
+  pub walk_start : Walk rows w (reach (link_of (get_or s (hash_of w) 0) n))
   walk_start = next-walk rows w n _ (ix.firsts (hash_of w) (hash-below w)) (λ k h e. none-is-some (sym (ix.few k h) ∙ e))
 
-  pub walk-on : (k : ℕ) → Walk rows w (suc k) → is_at s (row_place n k) w ≡ false → Walk rows w (link_of (get_or s (next_place k) 0) k)
+  pub walk-on : (k : ℕ) → Walk rows w (suc k) → is_at s (row_place n k) w ≡ false → Walk rows w (reach (link_of (get_or s (next_place k) 0) k))
   walk-on k walk other =
       let (v, e, same) = walk.inside k refl in
       next-walk rows w k _ (rw same at (ix.nexts k v e)) λ j h f. go j f (eq-or-lt_of_le h)
@@ -87,45 +95,28 @@ module _ {s : List ℕ} {n : ℕ} {rows : Rows} (ix : Indexed s n rows) (w : Row
       go j f (inl e) = false-is-true (sym other ∙ at_row s n k (ix.written k w (ap rows e ∙ f)))
       go j f (inr h) = walk.passed j (omega arith) f
 
-  pub walk-found : (k : ℕ) → Walk rows w (suc k) → is_at s (row_place n k) w ≡ true → RowFound rows n w k
+  pub walk-found : (k : ℕ) → Walk rows w (suc k) → is_at s (row_place n k) w ≡ true → rows k ≡ some w
   walk-found k walk same =
       let (v, e, _) = walk.inside k refl in
-      let h = there-below ix k v e in
-      record {
-        within = omega arith;
-        here = λ _. e ∙ ap (λ (x : Row). some x) (row_at s n k (ix.written k v e) w same);
-        nowhere = λ z. absurd (omega arith);
-      }
+      e ∙ ap (λ (x : Row). some x) (row_at s n k (ix.written k v e) w same)
 
-  pub walk_end : Walk rows w 0 → RowFound rows n w n
-  walk_end walk = record { within = omega arith; here = λ h. absurd (omega arith); nowhere = λ _ k e. walk.passed k (omega arith) e }
-
--- the same of whatever rows s is the index of, in the terms of the code: m is the number of rows, v - 1 the number of a row
-abbrev pub Walks : List ℕ → Row → ℕ → Type 0
-Walks s w v = (n : ℕ) (rows : Rows) → Indexed s n rows → Walk rows w v
+-- the same of whatever rows s is the index of, in the terms of the code: m is the number of rows
+abbrev pub Walks : List ℕ → Row → Option ℕ → Type 0
+Walks s w at = (n : ℕ) (rows : Rows) → Indexed s n rows → Walk rows w (reach at)
 
 module _ (s : List ℕ) (w : Row) (m : ℕ) (size : m ≡ rows_in (length s)) where
-  pub walks-start : (h v : ℕ) → h ≡ hash_of w → v ≡ link_of (get_or s h 0) m → Walks s w v
-  walks-start h v e f n rows ix = rw (f, e, size, rows_of ix) (walk_start ix w)
+  pub walks-start : (h : ℕ) (at : Option ℕ) → h ≡ hash_of w → at ≡ link_of (get_or s h 0) m → Walks s w at
+  walks-start h at e f n rows ix = rw (f, e, size, rows_of ix) (walk_start ix w)
 
-  module _ (v : ℕ) (more : 0 < v) (walks : Walks s w v) where
-    row_before : (n : ℕ) (rows : Rows) → Indexed s n rows → Walk rows w (suc (v - 1))
-    row_before n rows ix = let e : v ≡ suc (v - 1) = omega arith in subst (λ (x : ℕ). Walk rows w x) e (walks n rows ix)
+  module _ (k : ℕ) (walks : Walks s w (Some k)) (t : Bool) (tested : t ≡ is_at s (chains + m + 4 * k) w) where
+    place_of : {n : ℕ} {rows : Rows} → Indexed s n rows → is_at s (row_place n k) w ≡ t
+    place_of ix = ap (λ (x : ℕ). is_at s (row_place x k) w) (sym (size ∙ rows_of ix)) ∙ sym tested
 
-    place_of : {n : ℕ} {rows : Rows} → Indexed s n rows → (t : Bool) → t ≡ is_at s (chains + m + 4 * (v - 1)) w → is_at s (row_place n (v - 1)) w ≡ t
-    place_of ix t e = ap (λ (x : ℕ). is_at s (row_place x (v - 1)) w) (sym (size ∙ rows_of ix)) ∙ sym e
+    pub walks-on : (next : Option ℕ) → t ≡ false → next ≡ link_of (get_or s (chains + k) 0) k → Walks s w next
+    walks-on next off f n rows ix = rw f (walk-on ix w k (walks n rows ix) (place_of ix ∙ off))
 
-    pub walks-on : (next : ℕ) (t : Bool) → t ≡ is_at s (chains + m + 4 * (v - 1)) w → t ≡ false → next ≡ link_of (get_or s (chains + (v - 1)) 0) (v - 1)
-        → Walks s w next
-    walks-on next t e off f n rows ix = rw f (walk-on ix w (v - 1) (row_before n rows ix) (place_of ix t e ∙ off))
+    pub walks-found : t ≡ true → (n : ℕ) (rows : Rows) → Indexed s n rows → RowFound rows w (Some k)
+    walks-found on n rows ix = walk-found ix w k (walks n rows ix) (place_of ix ∙ on)
 
-    pub walks-found : (t : Bool) → t ≡ is_at s (chains + m + 4 * (v - 1)) w → t ≡ true
-        → (n : ℕ) (rows : Rows) → Indexed s n rows → RowFound rows n w (v - 1)
-    walks-found t e on n rows ix = walk-found ix w (v - 1) (row_before n rows ix) (place_of ix t e ∙ on)
-
-  pub walks-end : (v : ℕ) → v ≡ 0 → Walks s w v → (n : ℕ) (rows : Rows) → Indexed s n rows → RowFound rows n w m
-  walks-end v e walks n rows ix = rw (size, rows_of ix) (walk_end ix w (rw e at (walks n rows ix)))
-
--- a conjunction whose other parts hold
-pub last-part : {x y z t : Bool} → x ≡ true → y ≡ true → z ≡ true → t ≡ (x && y && z && t)
-last-part e f g = rw (e, f, g)
+pub walks-end : (s : List ℕ) (w : Row) → Walks s w None → (n : ℕ) (rows : Rows) → Indexed s n rows → RowFound rows w None
+walks-end s w walks n rows ix k e = (walks n rows ix).passed k (omega arith) e

@@ -1,16 +1,17 @@
 -- The index of a list: what is found is the place in the list, and one more at the end is one row more. Assumes nothing.
-use Prim.Native.Nat.{ℕ, ◌≤◌, ◌<◌}
+use Prim.Native.Nat.{ℕ, ◌≤◌}
 use mathlib.Core.Path.{◌≡◌, refl, sym, ap, ◌∙◌}
 use mathlib.Core.Logic.{◌⊎◌, inl, inr, ◌↔◌}
 use mathlib.Core.Bool.{Bool, true, false}
 use mathlib.Core.List.{List, [], ◌∷◌, ◌++◌}
-use mathlib.Core.Option.{Option, none, some, some-injective}
+use mathlib.Core.Option as math
+use mathlib.Core.Option.{none, some, some-injective}
+use Rattle.std.specs.Prelude.{Option, Some, None, MatchOption}
 use native.Mathlib.Omega.{arith}
-use native.Mathlib.Nat.{eq-or-lt_of_le}
-use lib.Dec.{eqb, ltb}
+use lib.Dec.{eqb}
 use lib.ListN.{length}
-use borrow.Author.Tests.{lt-ltb, le-ltb, eqb-true, eqb-false}
-use Rattle.model.specs.Notation.{◌>>=◌, nth, place, only_if}
+use borrow.Author.Tests.{eqb-true, eqb-false}
+use Rattle.model.specs.Notation.{◌>>=◌, nth, place}
 use Rattle.model.proofs.WordTables.{false-is-true, none-is-some}
 use Rattle.model.proofs.Options.{bind-some, no_result}
 use Rattle.model.proofs.Lists.{nth-lt, nth-append, place-nth}
@@ -39,7 +40,7 @@ module _ (rows rows' : Rows) (same : (k : ℕ) → rows k ≡ rows' k) where
 
 module _ {A : Type 0} (row : A → Row) (xs : List A) where
   row-there : (k : ℕ) (x : A) → nth xs k ≡ some x → rows_of row xs k ≡ some (row x)
-  row-there k x e = ap (λ (o : Option A). o >>= λ y. some (row y)) e
+  row-there k x e = ap (λ (o : math.Option A). o >>= λ y. some (row y)) e
 
   -- the number that is found is the place of the one element that passes, if those that pass are those with the words w
   module _ (p : A → Bool) (w : Row) (tells : (k : ℕ) (x : A) → nth xs k ≡ some x → (p x ≡ true) ↔ (row x ≡ w))
@@ -47,7 +48,7 @@ module _ {A : Type 0} (row : A → Row) (xs : List A) where
     place_here : (r : ℕ) → rows_of row xs r ≡ some w → place p xs ≡ some r
     place_here r e = go (place p xs) refl
       where
-        go : (o : Option ℕ) → place p xs ≡ o → place p xs ≡ some r
+        go : (o : math.Option ℕ) → place p xs ≡ o → place p xs ≡ some r
         go none f =
             let (x, g, h) = bind-some (nth xs r) (λ y. some (row y)) e in
             false-is-true (sym (place-nowhere p xs f r x g) ∙ (tells r x g).1 (some-injective _ _ h))
@@ -61,12 +62,9 @@ module _ {A : Type 0} (row : A → Row) (xs : List A) where
         let (y, k, q) = place-nth p xs j f in
         nowhere j (row-there j y k ∙ ap (λ (v : Row). some v) ((tells j y k).0 q))
 
-    pub place_found : {n r : ℕ} → RowFound (rows_of row xs) n w r → place p xs ≡ only_if (ltb r n) r
-    place_found {n} {r} found = go (eq-or-lt_of_le found.within)
-      where
-        go : (r ≡ n) ⊎ (r < n) → place p xs ≡ only_if (ltb r n) r
-        go (inl e) = place_none (found.nowhere e) ∙ rw (le-ltb r n (omega arith))
-        go (inr h) = place_here r (found.here h) ∙ rw (lt-ltb r n h)
+    pub place_found : (r : Option ℕ) → RowFound (rows_of row xs) w r → MatchOption r (place p xs ≡ none) (λ k. place p xs ≡ some k)
+    place_found None nowhere = place_none nowhere
+    place_found (Some k) found = place_here k found
 
   -- the list with one more at its end
   last-there : (x : A) → nth (xs ++ x ∷ []) (length xs) ≡ some x
@@ -79,7 +77,7 @@ module _ {A : Type 0} (row : A → Row) (xs : List A) where
   one_more : (x : A) (k : ℕ) → with_row (rows_of row xs) (length xs) (row x) k ≡ rows_of row (xs ++ x ∷ []) k
   one_more x k = go (eqb k (length xs)) refl
     where
-      others : (k ≡ length xs → ⊥) → (o : Option A) → nth (xs ++ x ∷ []) k ≡ o → nth xs k ≡ o
+      others : (k ≡ length xs → ⊥) → (o : math.Option A) → nth (xs ++ x ∷ []) k ≡ o → nth xs k ≡ o
       others h none e = no_result (nth xs k) λ y f. none-is-some (sym e ∙ nth-append xs (x ∷ []) k f)
       others h (some y) e = old (nth_last xs x k e)
         where
@@ -88,9 +86,9 @@ module _ {A : Type 0} (row : A → Row) (xs : List A) where
           old (inr f) = absurd (h f.0)
 
       go : (t : Bool) → eqb k (length xs) ≡ t
-          → (elim t as (λ _. Option Row) [ true ↦ some (row x) | false ↦ rows_of row xs k ]) ≡ rows_of row (xs ++ x ∷ []) k
-      go true e = sym (ap (rows_of row (xs ++ x ∷ [])) (eqb-true k (length xs) e) ∙ ap (λ (o : Option A). o >>= λ y. some (row y)) (last-there x))
-      go false e = ap (λ (o : Option A). o >>= λ y. some (row y)) (others (eqb-false k (length xs) e) (nth (xs ++ x ∷ []) k) refl)
+          → (elim t as (λ _. math.Option Row) [ true ↦ some (row x) | false ↦ rows_of row xs k ]) ≡ rows_of row (xs ++ x ∷ []) k
+      go true e = sym (ap (rows_of row (xs ++ x ∷ [])) (eqb-true k (length xs) e) ∙ ap (λ (o : math.Option A). o >>= λ y. some (row y)) (last-there x))
+      go false e = ap (λ (o : math.Option A). o >>= λ y. some (row y)) (others (eqb-false k (length xs) e) (nth (xs ++ x ∷ []) k) refl)
 
   pub listed_more : (x : A) {s : List ℕ} {n : ℕ} → Indexed s n (with_row (rows_of row xs) (length xs) (row x)) → Indexed s n (rows_of row (xs ++ x ∷ []))
   listed_more x = indexed-same (with_row (rows_of row xs) (length xs) (row x)) (rows_of row (xs ++ x ∷ [])) (one_more x)

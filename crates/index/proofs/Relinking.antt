@@ -1,5 +1,5 @@
 -- A row put in or taken out: one link of its chain is written, and every other link stays what it was. Assumes nothing.
-use Prim.Native.Nat.{ℕ, suc, ◌+◌, ◌-◌, ◌*◌, ◌≤◌, ◌<◌}
+use Prim.Native.Nat.{ℕ, suc, ◌+◌, ◌*◌, ◌≤◌, ◌<◌}
 use mathlib.Core.Path.{◌≡◌, refl, sym, ap, subst, ◌∙◌}
 use mathlib.Core.Logic.{◌⊎◌, inl, inr, ⊎_elim}
 use mathlib.Core.List.{List}
@@ -9,9 +9,10 @@ use native.Mathlib.Omega.{arith}
 use lib.ListN.{length, get_or, set, length-set}
 use lib.Seq.{get_or-set_same, get_or-set_other}
 use borrow.Author.Tests.{eq-eqb, ne_eqb}
+use Rattle.std.specs.Prelude.{Option, Some}
 use Rattle.model.proofs.WordTables.{none-is-some}
 use Rattle.index.specs.Index.{chains, rows_in, next_place, row_place, Row, hash_of, Rows, InChain, Greatest, RowWritten, Indexed, link_of, with_row, without_row, put_row, LinkOver, LinkFound, Added, Removed}
-use Rattle.index.proofs.ChainWalks.{hash-below, there-below, rows_of, chain-as, link-within, same_row as same-row'}
+use Rattle.index.proofs.ChainWalks.{hash-below, there-below, rows_of, chain-as, reach, link-within, same_row as same-row'}
 
 -- the words of a row that was written, and those that stay: s1 to s4 is the list after each of the four words
 module _ (s : List ℕ) (at : ℕ) (w : Row) where
@@ -202,38 +203,38 @@ pub record Passing (s : List ℕ) (n : ℕ) (rows : Rows) (h k place v : ℕ) : 
   pub stands : ((place ≡ h) × (top ≡ n)) ⊎ ((place ≡ next_place top) × InChain rows h top)
 
 -- of whatever rows s is the index of
-abbrev pub Passes : List ℕ → ℕ → ℕ → ℕ → ℕ → Type 0
-Passes s h k place v = (n : ℕ) (rows : Rows) → Indexed s n rows → k < n → Passing s n rows h k place v
+abbrev pub Passes : List ℕ → ℕ → ℕ → ℕ → Option ℕ → Type 0
+Passes s h k place at = (n : ℕ) (rows : Rows) → Indexed s n rows → k < n → Passing s n rows h k place (reach at)
 
 module _ (s : List ℕ) (h k : ℕ) where
-  pub passes-start : (m v : ℕ) → h < chains → m ≡ rows_in (length s) → v ≡ link_of (get_or s h 0) m → Passes s h k h v
-  passes-start m v few size e n rows ix l =
+  pub passes-start : (m : ℕ) (at : Option ℕ) → h < chains → m ≡ rows_in (length s) → at ≡ link_of (get_or s h 0) m → Passes s h k h at
+  passes-start m at few size e n rows ix l =
       let top = ix.firsts h few in
       let z : m ≡ n = size ∙ rows_of ix in
       record {
         top = n;
         over = l;
         leads = top;
-        word = e ∙ link-within (get_or s h 0) m (omega (arith, top.within));
+        word = ap reach e ∙ link-within (get_or s h 0) m (omega (arith, top.within));
         stands = inl (refl, refl);
       }
 
-  pub passes_on : (place v next : ℕ) → k + 1 < v → Passes s h k place v → next ≡ link_of (get_or s (chains + (v - 1)) 0) (v - 1) → Passes s h k (chains + (v - 1)) next
-  passes_on place v next more passes e n rows ix l =
+  pub passes_on : (place j : ℕ) (next : Option ℕ) → k < j → Passes s h k place (Some j) → next ≡ link_of (get_or s (chains + j) 0) j
+      → Passes s h k (chains + j) next
+  passes_on place j next more passes e n rows ix l =
       let p = passes n rows ix l in
-      let z : get_or s place 0 ≡ suc (v - 1) = omega (arith, p.word) in
-      let (w, f, c) = p.leads.inside (v - 1) z in
-      let g = subst (λ (x : ℕ). Greatest rows x (v - 1) (get_or s (next_place (v - 1)) 0)) c (ix.nexts (v - 1) w f) in
+      let (w, f, c) = p.leads.inside j (sym p.word) in
+      let g = subst (λ (x : ℕ). Greatest rows x j (get_or s (next_place j) 0)) c (ix.nexts j w f) in
       record {
-        top = v - 1;
+        top = j;
         over = omega arith;
         leads = g;
-        word = e ∙ link-within (get_or s (chains + (v - 1)) 0) (v - 1) g.within;
+        word = ap reach e ∙ link-within (get_or s (chains + j) 0) j g.within;
         stands = inr (refl, (w, f, c));
       }
 
-  pub passes-end : (place v : ℕ) → v ≤ k + 1 → place < chains + rows_in (length s) → Passes s h k place v → LinkFound s h k place
-  passes-end place v low within passes = record {
+  pub passes-end : (place : ℕ) (at : Option ℕ) → reach at ≤ suc k → place < chains + rows_in (length s) → Passes s h k place at → LinkFound s h k place
+  passes-end place at low within passes = record {
     within = within;
     exact = λ n rows ix l.
         let p = passes n rows ix l in

@@ -1,7 +1,8 @@
 -- What the words of a section stand for: rows of four words, found by their words along chains. Rows are numbered from 0. A section of
 -- n rows has 256 words of firsts, n words of nexts, and 4n words of rows.
-use Rattle.std.specs.Prelude.{ℕ, suc, ◌+◌, ◌-◌, ◌*◌, ◌/◌, ◌%◌, ◌≤◌, ◌<◌, ◌≡◌, ◌⊎◌, Bool, ◌&&◌, List, eqb, leb, length, get_or, set}
-use Rattle.std.proofs.Math.Option.{Option, none, some}
+use Rattle.std.specs.Prelude.{ℕ, suc, ◌+◌, ◌-◌, ◌*◌, ◌/◌, ◌%◌, ◌≤◌, ◌<◌, ◌≡◌, ◌⊎◌, Bool, ◌&&◌, List, Option, Some, None, IfSome, eqb, ltb, leb, length, get_or, set}
+use Rattle.std.proofs.Math.Option as math
+use Rattle.std.proofs.Math.Option.{none, some}
 use Rattle.model.specs.Notation.{if◌then◌otherwise◌, ◌>>=◌, nth}
 
 -- how many chains a section has
@@ -32,13 +33,13 @@ unfoldable pub is_at : List ℕ → ℕ → Row → Bool
 is_at s place w =
     eqb (get_or s place 0) w.0 && eqb (get_or s (place + 1) 0) w.1 && eqb (get_or s (place + 2) 0) w.2 && eqb (get_or s (place + 3) 0) w.3
 
--- a word of a chain that leads below `top`; 0, the chain's end, for any other
-abbrev pub link_of : ℕ → ℕ → ℕ
-link_of v top = if leb v top then v otherwise 0
+-- the number of the row that a word of a chain leads to, if it is below `top`
+abbrev pub link_of : ℕ → ℕ → Option ℕ
+link_of v top = if ltb 0 v && leb v top then Some (v - 1) otherwise None
 
 -- which rows are there: none where nobody is
 abbrev pub Rows : Type 0
-Rows = ℕ → Option Row
+Rows = ℕ → math.Option Row
 
 -- row k is there, and in the chain h
 abbrev pub InChain : Rows → ℕ → ℕ → Type 0
@@ -67,16 +68,15 @@ pub record Indexed (s : List ℕ) (n : ℕ) (rows : Rows) : Type 0 where
   pub firsts : (h : ℕ) → h < chains → Greatest rows h n (get_or s h 0)
   pub nexts : (k : ℕ) (w : Row) → rows k ≡ some w → Greatest rows (hash_of w) k (get_or s (next_place k) 0)
 
--- r is the number of a row with the words w, or n where no row has them
-pub record RowFound (rows : Rows) (n : ℕ) (w : Row) (r : ℕ) : Type 0 where
-  pub within : r ≤ n
-  pub here : r < n → rows r ≡ some w
-  pub nowhere : r ≡ n → (k : ℕ) → rows k ≡ some w → ⊥
+-- the number of a row with the words w; none where no row has them
+abbrev pub RowFound : Rows → Row → Option ℕ → Type 0
+RowFound rows w None = (k : ℕ) → rows k ≡ some w → ⊥
+RowFound rows w (Some k) = rows k ≡ some w
 
 -- what `find` answers on any words, and on an index
-pub record FindsRow (s : List ℕ) (w : Row) (r : ℕ) : Type 0 where
-  pub within : r ≤ rows_in (length s)
-  pub exact : (n : ℕ) (rows : Rows) → Indexed s n rows → RowFound rows n w r
+pub record FindsRow (s : List ℕ) (w : Row) (r : Option ℕ) : Type 0 where
+  pub within : IfSome r (λ k. k < rows_in (length s))
+  pub exact : (n : ℕ) (rows : Rows) → Indexed s n rows → RowFound rows w r
 
 -- the rows of a list, numbered by their places in it
 abbrev pub rows_of : {A : Type 0} → (A → Row) → List A → Rows

@@ -3,16 +3,20 @@
 // A section has the 256 words of `first`, then `next`, then the rows; its length tells how many rows it has.
 #![tactic(auto)]
 
-ghost use Rattle.std.specs.Prelude.{◌≡◌, ◌+◌, ◌<◌, ◌≤◌, length};
+ghost use Rattle.std.specs.Prelude.{◌≡◌, ◌+◌, ◌<◌, ◌≤◌, IfSome, length};
 ghost use Rattle.index.specs.Index.{chains, rows_in, hash_of, is_at, link_of, FindsRow, put_row, LinkFound, Added, Removed};
+
+// The four words of a row.
+pub type Row = (u64, u64, u64, u64);
 
 const CHAINS: usize = 256;
 
 // The chain of a row. Remainders spread names that differ in a digit, and small numbers; nothing wraps.
-fn hash(a: u64, b: u64, c: u64, d: u64) -> usize
-    ensures { (result ≡ hash_of (a, b, c, d)) × (result < chains) }
+#[tactic(auto, unfolding(crate::specs::Index::hash_of))]
+fn hash(row: Row) -> usize
+    ensures { (result ≡ hash_of row) × (result < chains) }
 {
-    let sum = 31 * (a % 256) + b % 233 + 5 * (c % 241) + 7 * (d % 239);
+    let sum = 31 * (row.0 % 256) + row.1 % 233 + 5 * (row.2 % 241) + 7 * (row.3 % 239);
     sum as usize % CHAINS
 }
 
@@ -24,58 +28,56 @@ fn rows_in(words: usize) -> usize
     (words - CHAINS) / 5
 }
 
-// A word of a chain; 0, the chain's end, for one that leads nowhere below `top`.
-fn link(word: u64, top: usize) -> usize
-    ensures { (result ≡ link_of word top) × (result ≤ top) }
+// The row that a word of a chain leads to; none for the chain's end, and for a word that leads to no row below `top`.
+fn link(word: u64, top: usize) -> Option<usize>
+    ensures { (result ≡ link_of word top) × IfSome result (λ k. k < top) }
 {
-    if word <= top as u64 { word as usize } else { 0 }
+    if 0 < word && word <= top as u64 {
+        Some(word as usize - 1)
+    } else {
+        None
+    }
 }
 
 // Whether the four words from a place on are these.
-fn is_at(section: &[u64], place: usize, a: u64, b: u64, c: u64, d: u64) -> bool
+#[tactic(auto, unfolding(crate::specs::Index::is_at))]
+fn is_at(section: &[u64], place: usize, row: Row) -> bool
     requires { place + 3 < length section.now }
-    ensures { result ≡ is_at section.now place (a, b, c, d) }
+    ensures { result ≡ is_at section.now place row }
 {
-    if section[place] != a {
-        return false;
-    }
-    if section[place + 1] != b {
-        return false;
-    }
-    if section[place + 2] != c {
-        return false;
-    }
-    section[place + 3] == d
+    section[place] == row.0
+        && section[place + 1] == row.1
+        && section[place + 2] == row.2
+        && section[place + 3] == row.3
 }
 
-// The number of the row with these words; the number of rows where there is none. On any words it ends: the numbers of the walk fall.
-pub fn find(section: &[u64], a: u64, b: u64, c: u64, d: u64) -> usize
+// The number of the row with these words. On any words it ends: the numbers of the walk fall.
+pub fn find(section: &[u64], row: Row) -> Option<usize>
     requires { chains ≤ length section.now }
-    ensures { FindsRow section.now (a, b, c, d) result }
+    ensures { FindsRow section.now row result }
 {
     let n = rows_in(section.len());
     let rows = CHAINS + n;
-    let chain = hash(a, b, c, d);
-    let mut v = link(section[chain], n);
-    while 0 < v {
-        let k = v - 1;
-        if is_at(section, rows + 4 * k, a, b, c, d) {
-            return k;
+    let mut at = link(section[hash(row)], n);
+    while let Some(k) = at {
+        if is_at(section, rows + 4 * k, row) {
+            return Some(k);
         }
-        v = link(section[CHAINS + k], k);
+        at = link(section[CHAINS + k], k);
     }
-    n
+    None
 }
 
 // Writes the four words from a place on.
-pub fn put_row(section: &mut [u64], place: usize, a: u64, b: u64, c: u64, d: u64)
+#[tactic(auto, unfolding(crate::specs::Index::put_row))]
+pub fn put_row(section: &mut [u64], place: usize, row: Row)
     requires { place + 3 < length section.old }
-    ensures { section.new ≡ put_row section.old place (a, b, c, d) }
+    ensures { section.new ≡ put_row section.old place row }
 {
-    section[place] = a;
-    section[place + 1] = b;
-    section[place + 2] = c;
-    section[place + 3] = d;
+    section[place] = row.0;
+    section[place + 1] = row.1;
+    section[place + 2] = row.2;
+    section[place + 3] = row.3;
 }
 
 // The place of the link that leads to row `number` of a chain, or past it: the chain's first, or the next of the least row of the chain above it.
@@ -84,27 +86,28 @@ fn link_place(section: &[u64], chain: usize, number: usize) -> usize
     ensures { LinkFound section.now chain number result }
 {
     let mut place = chain;
-    let mut v = link(section[chain], rows_in(section.len()));
-    while number + 1 < v {
-        let k = v - 1;
+    let mut at = link(section[chain], rows_in(section.len()));
+    while let Some(k) = at {
+        if k <= number {
+            return place;
+        }
         place = CHAINS + k;
-        v = link(section[CHAINS + k], k);
+        at = link(section[place], k);
     }
     place
 }
 
 // Puts a row, whose number no row has.
-pub fn add(section: &mut [u64], number: usize, a: u64, b: u64, c: u64, d: u64)
+pub fn add(section: &mut [u64], number: usize, row: Row)
     requires { (chains ≤ length section.old) × (number < rows_in (length section.old)) }
-    ensures { Added section.old section.new number (a, b, c, d) }
+    ensures { Added section.old section.new number row }
 {
     let n = rows_in(section.len());
-    let chain = hash(a, b, c, d);
-    let place = link_place(section, chain, number);
+    let place = link_place(section, hash(row), number);
     let before = section[place];
     section[CHAINS + number] = before;
     section[place] = number as u64 + 1;
-    put_row(section, CHAINS + n + 4 * number, a, b, c, d);
+    put_row(section, CHAINS + n + 4 * number, row);
 }
 
 // Takes a row out.
@@ -113,15 +116,15 @@ pub fn remove(section: &mut [u64], number: usize)
     ensures { Removed section.old section.new number }
 {
     let n = rows_in(section.len());
-    let row = CHAINS + n + 4 * number;
-    let chain = hash(
-        section[row],
-        section[row + 1],
-        section[row + 2],
-        section[row + 3],
+    let at = CHAINS + n + 4 * number;
+    let row = (
+        section[at],
+        section[at + 1],
+        section[at + 2],
+        section[at + 3],
     );
-    let place = link_place(section, chain, number);
+    let place = link_place(section, hash(row), number);
     let behind = section[CHAINS + number];
     section[place] = behind;
-    put_row(section, row, 0, 0, 0, 0);
+    put_row(section, at, (0, 0, 0, 0));
 }

@@ -14,10 +14,8 @@ use Rattle.request.specs.Decisions.{decision_of}
 use Rattle.engine.specs.Runs.{Memory, Does}
 use Rattle.engine.proofs.Runs.{does-gives, together-after}
 use Rattle.engine.proofs.Promises.{line-edited, request-decided}
-use Rattle.office.specs.Command.{CommandTold}
-use Rattle.office.specs.declared.command.Command.{Command}
 use Rattle.printing.specs.Printing.{PrintedAt}
-use Rattle.office.specs.Answers.{memory, lent_words, MemoryOf, Prints, EditAnswered, RequestAnswered, CommandAnswered}
+use Rattle.office.specs.Answers.{lent_words, MemoryOf, Prints, EditAnswered, RequestAnswered, CommandAnswered}
 
 -- an outcome given: its answer is printed
 pub outcome-prints : (S : State) (c : Call) (words : List ℕ) (after : Memory) (a : Answer) (rest : List (Option Call)) → Standing S
@@ -44,10 +42,11 @@ bad-prints S l rest stands = record { state = S; stands = stands; prints = refl 
 
 -- by what is known of the line
 pub call-answered : (line : Bytes) (c : Call) (before after : Memory) (a : Answer) {out : Bytes} {at : ℕ} {out' : Bytes} {r : ℕ} → call_of line ≡ some c
-    → Does c before a after → length before.words ≡ lent_words → PrintedAt out at (printed a) out' r → CommandAnswered line before after out at out' r
-call-answered line c before after a e does long p = record {
+    → Does c before a after → length before.words ≡ lent_words → PrintedAt out at (printed a) out' r → after.code ≡ before.code → CommandAnswered line before after out at out' r
+call-answered line c before after a e does long p s = record {
   text = printed a;
   answer = p;
+  same = s;
   goes_on = λ S rest stands.
       subst (λ (o : Option Call). Prints S (o ∷ rest) (printed a) rest after) (sym e) (call-prints S c before after a rest does stands long);
 }
@@ -57,19 +56,16 @@ pub bad-answered : (line : Bytes) (l : Memory) {out : Bytes} {at : ℕ} {out' : 
 bad-answered line l e p = record {
   text = bytes "bad=\n";
   answer = p;
+  same = refl;
   goes_on = λ S rest stands. subst (λ (o : Option Call). Prints S (o ∷ rest) (bytes "bad=\n") rest l) (sym e) (bad-prints S l rest stands);
 }
 
-pub edit-answered : (line : Bytes) (book words book' words' : List ℕ) (code out : Bytes) (at : ℕ) (out' : Bytes) (r : ℕ) → call_of line ≡ some (Call.edit line)
-    → EditAnswered line book words book' words' out at out' r → CommandAnswered line (memory book code words) (memory book' code words') out at out' r
-edit-answered line book words book' words' code out at out' r e p =
-    call-answered line (Call.edit line) (memory book code words) (memory book' code words') p.answer e
-    (line-edited (memory book code words) (memory book' code words') p.call refl) p.table-long p.prints
+pub edit-answered : (line : Bytes) (before after : Memory) (out : Bytes) (at : ℕ) (out' : Bytes) (r : ℕ) → call_of line ≡ some (Call.edit line)
+    → EditAnswered line before after out at out' r → CommandAnswered line before after out at out' r
+edit-answered line before after out at out' r e p =
+    call-answered line (Call.edit line) before after p.answer e (line-edited before after p.call p.same) p.table-long p.prints p.same
 
 pub request-answered : (line block : Bytes) (l : Memory) (out : Bytes) (at : ℕ) (out' : Bytes) (r : ℕ) → call_of line ≡ some (Call.request block)
     → RequestAnswered block l out at out' r → CommandAnswered line l l out at out' r
 request-answered line block l out at out' r e p =
-    call-answered line (Call.request block) l l (decided (decision_of p.decision)) e (request-decided l p.call) p.table-long p.prints
-
-pub told-as : (line block : Bytes) {k kind : Command} → CommandTold line block k → k ≡ kind → CommandTold line block kind
-told-as line block t e = subst (λ (k : Command). CommandTold line block k) e t
+    call-answered line (Call.request block) l l (decided (decision_of p.decision)) e (request-decided l p.call) p.table-long p.prints refl

@@ -1,23 +1,24 @@
 -- The lines of an input one after the other, the file before `end=` and the commands behind it. Assumes nothing.
-use Prim.Native.Nat.{ℕ, ◌+◌, ◌≤◌, ◌<◌}
+use Prim.Native.Nat.{ℕ, ◌+◌, ◌-◌, ◌≤◌, ◌<◌}
 use mathlib.Core.Path.{◌≡◌, refl, sym, ap, ap₂, ◌∙◌}
-use mathlib.Core.Bool.{Bool, true, false}
+use mathlib.Core.Bool.{Bool, true, false, ◌&&◌}
 use mathlib.Core.List.{List, [], ◌∷◌, ◌++◌, append-nil, append_assoc}
 use mathlib.Core.Option.{Option, none, some}
 use native.Mathlib.Omega.{arith}
 use borrow.Author.Tests.{not-true}
 use lib.ListN.{length, take, drop, length-drop, length-append}
-use lib.Seq.{take-add, drop-drop, take_all, length-take-le, take_at, append_snoc}
+use lib.Seq.{take-add, drop-drop, take_all, length-take-le, take_at, append_snoc, take-append_seam, drop-append_seam}
 use lib.Dec.{eqb}
+use lib.Pointwise.{pointwise}
 use Rattle.model.specs.Notation.{if◌then◌otherwise◌, ◌>>=◌}
 use Rattle.model.specs.Bytes.{Bytes, bytes, newline, same, cut, begun, lines_of, content}
 use Rattle.model.specs.Gate.{bare, is_end, file_of, commands_of}
-use Rattle.model.proofs.WordTables.{false-is-true, none-is-some, same-eq}
-use Rattle.model.proofs.Lists.{all-parts, same_truth}
+use Rattle.model.proofs.WordTables.{none-is-some}
+use Rattle.model.proofs.Lists.{all-parts}
 use Rattle.model.proofs.Cuts.{isnt, lacks, cut_parts, content-exact}
-use Rattle.text.specs.Parts.{FirstAt}
-use Rattle.text.proofs.LoopPlaces.{done}
-use Rattle.office.specs.Input.{LineLength, Split}
+use Rattle.text.proofs.LoopPlaces.{done, next}
+use Rattle.office.specs.declared.input.Input.{Input}
+use Rattle.office.specs.Input.{LineLength, FirstLine, Split}
 
 -- bytes without byte 10 and a byte 10 are a line; so are bytes without one at the end
 lines-joined : (l r : Bytes) → lacks newline l ≡ true → lines_of (l ++ newline ∷ r) ≡ (l ++ newline ∷ []) ∷ lines_of r
@@ -49,9 +50,9 @@ lone-some [] h = absurd (omega arith)
 lone-some (x ∷ s) h = refl
 
 -- the first line by the place of the first byte 10
-pub line-ends : (s : Bytes) (i : ℕ) → FirstAt 10 s i → i < length s → LineLength s (i + 1)
-line-ends s i first h =
-    let (m, j) = cut_parts newline s (first.found h) in
+pub line-ends : (s : Bytes) (i : ℕ) → i < length s → cut newline s ≡ some (take i s, drop (i + 1) s) → LineLength s (i + 1)
+line-ends s i h found =
+    let (m, j) = cut_parts newline s found in
     let l : length (take i s ++ newline ∷ []) ≡ i + 1 = simp (length-append, length-take-le i s (omega arith)) in
     let t : take (i + 1) s ≡ take i s ++ newline ∷ [] =
     ap (take (i + 1)) (j ∙ sym (append_snoc (take i s) newline (drop (i + 1) s))) ∙ take_at (take i s ++ newline ∷ []) (drop (i + 1) s) (i + 1) l in
@@ -61,85 +62,89 @@ line-ends s i first h =
       lines = λ _. ap lines_of j ∙ lines-joined (take i s) (drop (i + 1) s) m ∙ ap (λ (l : Bytes). l ∷ lines_of (drop (i + 1) s)) (sym t);
     }
 
-pub line-runs-out : (s : Bytes) (i : ℕ) → FirstAt 10 s i → length s ≤ i → LineLength s i
-line-runs-out s i first h =
+pub line-runs-out : (s : Bytes) → cut newline s ≡ none → LineLength s (length s)
+line-runs-out s absent =
     record {
-      within = first.within;
-      some = λ k. omega arith;
+      within = omega arith;
+      some = λ k. k;
       lines = λ k.
-          lines-last s (first.absent h) ∙ lone-some s k
-          ∙ ap₂ (λ (l r : Bytes). l ∷ lines_of r) (sym (take_all i s h)) (sym (done s i h));
+          lines-last s absent ∙ lone-some s k
+          ∙ ap₂ (λ (l r : Bytes). l ∷ lines_of r) (sym (take_all (length s) s (omega arith))) (sym (done s (length s) (omega arith)));
     }
 
--- the line `end=` is one of two
-pub end_line : (line : Bytes) → same line (bytes "end=\n") ≡ true → is_end line ≡ true
-unfolding is_end
-end_line line e = rw (same-eq line (bytes "end=\n") e)
+-- the bytes without byte 10, by the place of the first
+bare-by : (line : Bytes) (o : Option Bytes) → content line ≡ o → bare line ≡ elim o as (λ _. Bytes) [ some l ↦ l | none ↦ line ]
+bare-by line o e = ap (λ (o : Option Bytes). elim o as (λ _. Bytes) [ some l ↦ l | none ↦ line ]) e
 
-pub end-alone : (line : Bytes) → same line (bytes "end=\n") ≡ false → is_end line ≡ same line (bytes "end=")
-unfolding is_end
-end-alone line n = same_truth (same (bare line) (bytes "end=")) (same line (bytes "end=")) (go (content line) refl) λ e. rw (same-eq line (bytes "end=") e)
+pub bare-inside : (line : Bytes) (i : ℕ) → i < length line → cut newline line ≡ some (take i line, drop (i + 1) line) → (i + 1 ≡ length line → ⊥) → line ≡ bare line
+bare-inside line i h found off = let k : i + 1 < length line = omega arith in sym (bare-by line none (rw (found, next line (i + 1) k)))
+
+pub bare-within : (line : Bytes) → length (bare line) ≤ length line
+bare-within line = go (content line) refl
   where
-    go : (o : Option Bytes) → content line ≡ o → same (elim o as (λ _. Bytes) [ some l ↦ l | none ↦ line ]) (bytes "end=") ≡ true → same line (bytes "end=") ≡ true
-    go none p e = e
-    go (some l) p e =
-        let j : line ≡ bytes "end=\n" = ((content-exact line l).0 p).1 ∙ ap (λ (k : Bytes). k ++ newline ∷ []) (same-eq l (bytes "end=") e) in
-        false-is-true (sym n ∙ ap (λ (k : Bytes). same k (bytes "end=\n")) j)
+    go : (o : Option Bytes) → content line ≡ o → length (bare line) ≤ length line
+    go none e = omega (arith, ap length (bare-by line none e))
+    go (some l) e = omega (arith, ap length (bare-by line (some l) e), ap length ((content-exact line l).0 e).1, length-append l (newline ∷ []))
 
--- the file and the commands of what is left, with the first line read
-module _ (s : Bytes) (n : ℕ) (first : LineLength s n) (h : 1 ≤ length s) where
-  file-line : file_of (lines_of s) ≡ (if is_end (take n s) then [] otherwise take n s ++ file_of (lines_of (drop n s)))
-  file-line = ap file_of (first.lines h)
+-- the comparison of slices is the specification's
+pub pointwise-same : (s t : Bytes) → pointwise eqb s t ≡ same s t
+pointwise-same [] [] = refl
+pointwise-same [] (y ∷ t) = refl
+pointwise-same (x ∷ s) [] = refl
+pointwise-same (x ∷ s) (y ∷ t) = go (eqb x y) (pointwise-same s t)
+  where
+    go : (b : Bool) → pointwise eqb s t ≡ same s t → (b && pointwise eqb s t) ≡ (if b then same s t otherwise false)
+    go true e = e
+    go false e = refl
 
-  commands-line : commands_of (lines_of s) ≡ (if is_end (take n s) then lines_of (drop n s) otherwise commands_of (lines_of (drop n s)))
-  commands-line = ap commands_of (first.lines h)
+-- the line `end=`
+pub end-told : (line : Bytes) (b : Bool) → b ≡ pointwise eqb (bare line) (bytes "end=") → b ≡ is_end line
+unfolding is_end
+end-told line b e = e ∙ pointwise-same (bare line) (bytes "end=")
 
--- what is file up to place i, and what is left
-pub record SoFar (input : Bytes) (i : ℕ) : Type 0 where
-  pub within : i ≤ length input
-  pub file : file_of (lines_of input) ≡ take i input ++ file_of (lines_of (drop i input))
-  pub commands : commands_of (lines_of input) ≡ commands_of (lines_of (drop i input))
+-- what is file up to a place, and what is left
+pub record SoFar (input : Bytes) (n : ℕ) (rest : Bytes) : Type 0 where
+  pub within : n ≤ length input
+  pub left : drop n input ≡ rest
+  pub file : file_of (lines_of input) ≡ take n input ++ file_of (lines_of rest)
+  pub commands : commands_of (lines_of input) ≡ commands_of (lines_of rest)
 
-pub so-far-start : (input : Bytes) → SoFar input 0
-so-far-start input = record { within = omega arith; file = refl; commands = refl }
+module _ {input : Bytes} {n : ℕ} {rest line next : Bytes} (so : SoFar input n rest) (first : FirstLine rest line next) where
+  lengths : length input ≡ n + length line + length next
+  lengths = let w = so.within in omega (arith, ap length first.bytes, length-append line next, length-drop n input, ap length so.left)
 
-module _ (input : Bytes) (i n : ℕ) (first : LineLength (drop i input) n) (left : i < length input) (so : SoFar input i) where
-  some_left : 1 ≤ length (drop i input)
-  some_left = omega (arith, length-drop i input)
+  pub next-within : n + length line ≤ length input
+  next-within = omega (arith, lengths)
 
-  pub next-within : i + n ≤ length input
-  next-within = omega (arith, length-drop i input, first.within)
+  next-left : drop (n + length line) input ≡ next
+  next-left =
+      sym (drop-drop (length line) n input) ∙ ap (drop (length line)) (so.left ∙ first.bytes) ∙ drop-append_seam line next
 
-  pub next-further : i < i + n
-  next-further = omega (arith, first.some some_left)
+  next-front : take (n + length line) input ≡ take n input ++ line
+  next-front =
+      take-add n (length line) input ∙ ap (λ (s : Bytes). take n input ++ take (length line) s) (so.left ∙ first.bytes)
+      ∙ ap (λ (s : Bytes). take n input ++ s) (take-append_seam line next)
 
-  pub so_far_more : is_end (take n (drop i input)) ≡ false → SoFar input (i + n)
+  pub so_far_more : is_end line ≡ false → SoFar input (n + length line) next
   so_far_more e =
-      let d = drop-drop n i input in
       record {
         within = next-within;
-        file = so.file ∙ ap (λ (l : Bytes). take i input ++ l) (file-line (drop i input) n first some_left ∙ rw e)
-            ∙ sym (append_assoc (take i input) (take n (drop i input)) (file_of (lines_of (drop n (drop i input)))))
-            ∙ ap₂ (λ (l r : Bytes). l ++ file_of (lines_of r)) (sym (take-add i n input)) d;
-        commands = so.commands ∙ commands-line (drop i input) n first some_left ∙ (rw e) ∙ ap (λ (r : Bytes). commands_of (lines_of r)) d;
+        left = next-left;
+        file = so.file ∙ ap (λ (ls : List Bytes). take n input ++ file_of ls) first.lines ∙ (rw e (sym (append_assoc (take n input) line (file_of (lines_of next)))))
+            ∙ ap (λ (s : Bytes). s ++ file_of (lines_of next)) (sym next-front);
+        commands = so.commands ∙ ap commands_of first.lines ∙ rw e;
       }
 
-  pub splits : is_end (take n (drop i input)) ≡ true → Split input (record { file = i; commands = i + n })
-  splits e =
-      record {
-        ordered = omega arith;
-        within = next-within;
-        file = so.file ∙ ap (λ (l : Bytes). take i input ++ l) (file-line (drop i input) n first some_left ∙ rw e) ∙ append-nil (take i input);
-        commands = so.commands ∙ commands-line (drop i input) n first some_left ∙ (rw e) ∙ ap lines_of (drop-drop n i input);
-      }
-
--- "Without `end=` all is file"
-pub all-file : (input : Bytes) (i : ℕ) → length input ≤ i → SoFar input i → Split input (record { file = i; commands = i })
-all-file input i h so =
-    let d = done input i h in
-    record {
-      ordered = omega arith;
-      within = so.within;
-      file = so.file ∙ ap (λ (l : Bytes). take i input ++ file_of (lines_of l)) d ∙ append-nil (take i input);
-      commands = so.commands ∙ ap (λ (l : Bytes). commands_of (lines_of l)) d ∙ ap lines_of (sym d);
-    }
+  module _ (r : Input) (file : r.file.now ≡ take n input) (commands : r.commands.rest.now ≡ next) where
+    pub splits : is_end line ≡ true → Split input r
+    splits e =
+        let f : length r.file.now ≡ n = ap length file ∙ length-take-le n input so.within in
+        record {
+          within = omega (arith, lengths, ap length commands);
+          front = file ∙ ap (λ (k : ℕ). take k input) (sym f);
+          behind =
+              let z : length input - length r.commands.rest.now ≡ n + length line = omega (arith, lengths, ap length commands) in
+              commands ∙ sym next-left ∙ ap (λ (k : ℕ). drop k input) (sym z);
+          file = so.file ∙ ap (λ (ls : List Bytes). take n input ++ file_of ls) first.lines ∙ (rw e (append-nil (take n input))) ∙ sym file;
+          commands = so.commands ∙ ap commands_of first.lines ∙ (rw e) ∙ ap lines_of (sym commands);
+        }

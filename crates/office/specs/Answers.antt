@@ -1,5 +1,5 @@
 -- Commands answered: what is printed for them, and what they leave.
-use Rattle.std.specs.Prelude.{ℕ, ◌*◌, ◌≤◌, ◌≡◌, List, ◌∷◌, ◌++◌, length, take, drop}
+use Rattle.std.specs.Prelude.{ℕ, ◌+◌, ◌*◌, ◌≤◌, ◌≡◌, List, ◌∷◌, ◌++◌, length}
 use Rattle.std.proofs.Math.Option.{Option}
 use Rattle.model.specs.Notation.{map}
 use Rattle.model.specs.Limits.{Edition, table_words}
@@ -13,12 +13,15 @@ use Rattle.edit.specs.EditSteps.{EditCall}
 use Rattle.request.specs.declared.Decision.{Decision}
 use Rattle.request.specs.Decisions.{decision_of, Decides}
 use Rattle.engine.specs.Runs.{Memory}
-use Rattle.office.specs.declared.answer.Reached.{Reached}
-use Rattle.office.specs.Input.{LineLength}
+use Rattle.office.specs.declared.answer.Memory as office
 use Rattle.printing.specs.Printing.{answer_bytes, PrintedAt}
 
 abbrev pub memory : List ℕ → Bytes → List ℕ → Memory
 memory book code words = record { book = book; code = code; words = words }
+
+-- what the office lends to its calls
+abbrev pub lent : office.Memory → Memory
+lent m = memory m.book m.rules m.table
 
 -- how many words the table has that is lent: those of the first edition
 abbrev pub lent_words : ℕ
@@ -35,10 +38,11 @@ pub record Prints (S : State) (commands : List (Option Call)) (text : Bytes) (re
   pub prints : output lent_words S commands ≡ text ++ output lent_words state rest
 
 -- an edit made, and its answer
-pub record EditAnswered (line : Bytes) (book words book' words' : List ℕ) (out : Bytes) (at : ℕ) (out' : Bytes) (r : ℕ) : Type 0 where
+pub record EditAnswered (line : Bytes) (before after : Memory) (out : Bytes) (at : ℕ) (out' : Bytes) (r : ℕ) : Type 0 where
   pub answer : Answer
-  pub table-long : length words ≡ lent_words
-  pub call : EditCall line book words answer words' book'
+  pub table-long : length before.words ≡ lent_words
+  pub call : EditCall line before.book before.words answer after.words after.book
+  pub same : after.code ≡ before.code
   pub prints : PrintedAt out at (printed answer) out' r
 
 -- a request decided, and its answer
@@ -52,17 +56,13 @@ pub record RequestAnswered (block : Bytes) (l : Memory) (out : Bytes) (at : ℕ)
 pub record CommandAnswered (line : Bytes) (before after : Memory) (out : Bytes) (at : ℕ) (out' : Bytes) (r : ℕ) : Type 0 where
   pub text : Bytes
   pub answer : PrintedAt out at text out' r
+  pub same : after.code ≡ before.code
   pub goes_on : (S : State) (rest : List (Option Call)) → MemoryOf S before → Prints S (call_of line ∷ rest) text rest after
 
--- the first of some commands answered: where the next begins, and where the output ends
-pub record FirstAnswered (commands : Bytes) (before after : Memory) (out : Bytes) (at : ℕ) (out' : Bytes) (r : Reached) : Type 0 where
-  pub line : LineLength commands r.next
-  pub answered : CommandAnswered (take r.next commands) before after out at out' r.end
-
--- the commands up to a place answered
-pub record AnsweredTo (commands : Bytes) (i : ℕ) (before after : Memory) (out : Bytes) (at : ℕ) (out' : Bytes) (r : ℕ) : Type 0 where
-  pub within : i ≤ length commands
+-- the commands up to those that are left answered
+pub record Answered (commands rest : Bytes) (before after : Memory) (out : Bytes) (at : ℕ) (out' : Bytes) (r : ℕ) : Type 0 where
   pub text : Bytes
   pub laid : Laid out at text out' r
-  pub short : length text ≤ answer_bytes * i
-  pub goes_on : (S : State) → MemoryOf S before → Prints S (map call_of (lines_of commands)) text (map call_of (lines_of (drop i commands))) after
+  pub short : length text + answer_bytes * length rest ≤ answer_bytes * length commands
+  pub same : after.code ≡ before.code
+  pub goes_on : (S : State) → MemoryOf S before → Prints S (map call_of (lines_of commands)) text (map call_of (lines_of rest)) after

@@ -1,53 +1,23 @@
-// One command: an edit, a request with its block in hex, or neither.
+// One command: an edit, or a request with its block in hex.
 ghost use Rattle.std.specs.Prelude.{◌*◌, ◌≤◌, length};
-ghost use Rattle.office.specs.Command.{Bare, CommandTold};
+ghost use Rattle.office.specs.Command.{CommandTold};
 
-// A request has the length of its block, whose bytes are in the buffer that was lent to the reader. A line that is neither, bad hex among them, is bad.
+// A request has its block.
 #[derive(Clone, Copy)]
-pub enum Command {
+pub enum Command<'a> {
     Edit,
-    Request(usize),
-    Bad,
+    Request(&'a [u8]),
 }
 
-// The length of a line without its byte 10.
-fn bare_length(line: &[u8]) -> usize
-    ensures { Bare line.now result }
+// Reads a line, and the block of a request into a buffer. A line that is neither, bad hex among them, is no command.
+pub fn read<'a>(line: &[u8], buffer: &'a mut [u8]) -> Option<Command<'a>>
+    requires { length line.now ≤ 2 * length buffer.old }
+    ensures { CommandTold line.now result }
 {
-    let i = text::index_of(line, b'\n');
-    if line.len() <= i {
-        return i;
+    if fields::sign_of(line).is_some() {
+        return Some(Command::Edit);
     }
-    if i + 1 < line.len() {
-        return line.len();
-    }
-    i
-}
-
-// Reads a line, and the block of a request into a buffer.
-pub fn read(line: &[u8], block: &mut [u8]) -> Command
-    requires { length line.now ≤ 2 * length block.old }
-    ensures { CommandTold line.now block.new result }
-{
-    if line.len() < 1 {
-        return Command::Bad;
-    }
-    if line[0] == b'+' {
-        return Command::Edit;
-    }
-    if line[0] == b'-' {
-        return Command::Edit;
-    }
-    let end = bare_length(line);
-    if end < 4 {
-        return Command::Bad;
-    }
-    if !text::same(&line[..4], b"try=") {
-        return Command::Bad;
-    }
-    let hex = text::unhex(&line[4..end], block);
-    if !hex.ok {
-        return Command::Bad;
-    }
-    Command::Request(hex.len)
+    let hex = crate::input::bare(line).strip_prefix(b"try=")?;
+    let length = text::unhex(hex, buffer).ok()?;
+    Some(Command::Request(&buffer[..length]))
 }

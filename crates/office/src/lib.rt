@@ -6,9 +6,10 @@ ghost use Rattle.model.specs.Gate.{gate};
 ghost use Rattle.output.specs.Laid.{Laid};
 ghost use Rattle.printing.specs.Printing.{answer_bytes};
 
+use answer::Memory;
 use book::{BOOK_WORDS, RULE_BYTES, TABLE_WORDS};
-use codes::TOO_LONG;
-use file::Loaded;
+use codes::Refusal;
+use file::Refused;
 
 pub mod answer;
 pub mod command;
@@ -22,22 +23,24 @@ pub fn run(input: &[u8], out: &mut [u8]) -> usize
     ensures { Laid out.old 0 (gate input.now) out.new result × (result ≤ answer_bytes + answer_bytes * length input.now) }
 {
     if INPUT_BYTES < input.len() {
-        return printing::put_load(
-            out,
-            0,
-            Loaded {
-                number: TOO_LONG,
-                line: 0,
-            },
-        );
+        let too_long = Refused {
+            refusal: Refusal::TooLong,
+            line: 0,
+        };
+        return printing::put_load(out, 0, Err(too_long));
     }
-    let places = input::split(input);
-    let file = places.file;
-    let commands = places.commands;
-    let mut book: [u64; BOOK_WORDS] = [0; BOOK_WORDS];
-    let mut rules: [u8; RULE_BYTES] = [0; RULE_BYTES];
-    let mut table: [u64; TABLE_WORDS] = [0; TABLE_WORDS];
-    let loaded = engine::load(&input[..file], &mut book, &mut rules, &mut table);
+    let parts = input::split(input);
+    let mut memory = Memory {
+        book: [0; BOOK_WORDS],
+        rules: [0; RULE_BYTES],
+        table: [0; TABLE_WORDS],
+    };
+    let loaded = engine::load(
+        parts.file,
+        &mut memory.book,
+        &mut memory.rules,
+        &mut memory.table,
+    );
     let at = printing::put_load(out, 0, loaded);
-    answer::answer_commands(&input[commands..], &mut book, &rules, &mut table, out, at)
+    memory.answer_all(parts.commands, out, at)
 }

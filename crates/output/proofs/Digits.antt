@@ -2,11 +2,11 @@
 use Prim.Native.Nat.{ℕ, zero, suc, ◌+◌, ◌-◌, ◌*◌, ◌/◌, ◌%◌, ◌^◌, ◌≤◌, ◌<◌}
 use mathlib.Core.Path.{◌≡◌, refl, sym, ap, ap₂, ◌∙◌}
 use mathlib.Core.Bool.{Bool, true, false}
-use mathlib.Core.List.{[], ◌∷◌, ◌++◌, append-nil}
+use mathlib.Core.List.{[], ◌∷◌, ◌++◌}
 use native.Mathlib.Omega.{arith}
 use native.Mathlib.Nat.{pow-suc}
 use borrow.Author.Tests.{ltb-true, ltb-false}
-use lib.ListN.{length, get_or, drop, set, length-append, length-drop, length-set, drop_of_length-le}
+use lib.ListN.{length, get_or, drop, set, length-append, length-drop, length-set}
 use lib.Seq.{get_or-set_same, drop-set-lt, drop-cons, append_snoc}
 use lib.Dec.{ltb}
 use Rattle.model.specs.Bytes.{Bytes}
@@ -43,11 +43,6 @@ module _ (array : Bytes) (i b : ℕ) (h : i < length array) where
       let l : i < length (set array i b) = simp length-set h in
       let z : suc i ≡ i + 1 = omega arith in
       drop-cons (set array i b) i 0 l ∙ ap (λ (k : ℕ). get_or (set array i b) i 0 ∷ drop k (set array i b)) z ∙ ap₂ (λ (x : ℕ) (s : Bytes). x ∷ s) (get_or-set_same array i b 0 h) (drop-set-lt (i + 1) array i b (omega arith))
-
-pub filling-start : (array : Bytes) (n : ℕ) → length array ≡ 10 → Filling n array n 9
-filling-start array n l =
-    let z : length array ≤ 9 + 1 = omega arith in
-    record { long = l; within = omega arith; are = sym (append-nil (decimal n)) ∙ ap (λ (s : Bytes). decimal n ++ s) (sym (drop_of_length-le array z)) }
 
 module _ (n : ℕ) (array : Bytes) (m i : ℕ) (f : Filling n array m i) where
   -- a number of at most ten digits leaves a place for each

@@ -1,15 +1,11 @@
 -- The bytes of a packed word, laid in eight turns: those behind the word stay as they stand. Assumes nothing.
 use Prim.Native.Nat.{ℕ, suc, ◌+◌, ◌-◌, ◌/◌, ◌%◌, ◌≤◌, ◌<◌}
 use mathlib.Core.Path.{◌≡◌, refl, sym, ap, ◌∙◌}
-use mathlib.Core.Bool.{Bool, true, false}
 use mathlib.Core.List.{[], ◌∷◌, ◌++◌, append-nil}
 use native.Mathlib.Decide.{dec_lt}
 use native.Mathlib.Omega.{arith}
-use borrow.Author.Tests.{lt-ltb, le-ltb}
 use lib.ListN.{length, get_or, take, drop, set, length-drop}
 use lib.Seq.{sets, set-get_or, length-take-le, take_all, take-add, drop-drop}
-use lib.Dec.{ltb}
-use Rattle.model.specs.Notation.{if◌then◌otherwise◌}
 use Rattle.model.specs.Bytes.{Bytes}
 use Rattle.output.specs.Laid.{Laid, word_text}
 use Rattle.output.proofs.Laying.{laid_more}
@@ -23,14 +19,11 @@ pub record Turns (before : Bytes) (at word : ℕ) (out : Bytes) (left i : ℕ) :
 
 -- one turn more
 pub turn : {before : Bytes} {at word : ℕ} {out : Bytes} {left i : ℕ} (n x : ℕ) → Turns before at word out left i → i < 8 → n ≡ length (word_text 8 word)
-    → x ≡ (if ltb i n then left % 256 otherwise get_or out (at + i) 0) → Turns before at word (set out (at + i) x) (left / 256) (i + 1)
-turn {before} {at} {word} {out} {left} {i} n x p below long is = go (dec_lt 0 left)
+    → (i < n → x ≡ left % 256) → (n ≤ i → x ≡ get_or out (at + i) 0) → Turns before at word (set out (at + i) x) (left / 256) (i + 1)
+turn {before} {at} {word} {out} {left} {i} n x p below long new old = go (dec_lt 0 left)
   where
     t : Bytes
     t = word_text 8 word
-
-    chosen : (b : Bool) → ltb i n ≡ b → x ≡ (if b then left % 256 otherwise get_or out (at + i) 0)
-    chosen b e = is ∙ ap (λ (c : Bool). if c then left % 256 otherwise get_or out (at + i) 0) e
 
     -- from what is laid after the turn, and what i bytes leave of the text
     done : (s : Bytes) → drop i t ≡ s → set out (at + i) x ≡ sets before at (take i t ++ take 1 s) → drop 1 s ≡ word_text (7 - i) (left / 256)
@@ -48,14 +41,14 @@ turn {before} {at} {word} {out} {left} {i} n x p below long is = go (dec_lt 0 le
         let z : 8 - i ≡ suc (7 - i) = omega arith in
         let e = p.rest ∙ ap (λ (k : ℕ). word_text k left) z ∙ word_more (7 - i) left (λ e. omega arith) in
         let l : i < length t = omega (arith, ap length e, length-drop i t) in
-        let y = chosen true (lt-ltb i n (omega (arith, l, long))) in
+        let y = new (omega (arith, l, long)) in
         let k : at + i ≡ at + length (take i t) = omega (arith, length-take-le i t (omega (arith, l))) in
         done (left % 256 ∷ word_text (7 - i) (left / 256)) e (ap (set out (at + i)) y ∙ (laid_more (left % 256) (at + i) p.laid k).is) refl
     go (no none) =
         let z : left ≡ 0 = omega arith in
         let y : left / 256 ≡ 0 = omega arith in
         let e = p.rest ∙ ap (word_text (8 - i)) z ∙ word_none (8 - i) in
-        let u = chosen false (le-ltb i n (omega (arith, ap length e, length-drop i t, long))) in
+        let u = old (omega (arith, ap length e, length-drop i t, long)) in
         done [] e
         (ap (set out (at + i)) u ∙ set-get_or out (at + i) 0 ∙ p.laid.is ∙ ap (sets before at) (sym (append-nil (take i t))))
         (sym (ap (word_text (7 - i)) y ∙ word_none (7 - i)))

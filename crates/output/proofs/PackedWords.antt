@@ -1,15 +1,16 @@
 -- The bytes of a packed word, laid one after another. Assumes nothing.
-use Prim.Native.Nat.{ℕ, zero, suc, ◌+◌, ◌-◌, ◌/◌, ◌%◌, ◌^◌, ◌≤◌, ◌<◌}
+use Prim.Native.Nat.{ℕ, zero, suc, ◌/◌, ◌%◌, ◌<◌}
 use mathlib.Core.Path.{◌≡◌, refl, sym, ap, ◌∙◌}
 use mathlib.Core.Bool.{Bool}
-use mathlib.Core.List.{[], ◌∷◌, ◌++◌, append-nil, append_assoc}
+use mathlib.Core.List.{[], ◌∷◌}
+use native.Mathlib.Decide.{dec_lt}
 use native.Mathlib.Omega.{arith}
-use native.Mathlib.Nat.{pow-suc}
+use lib.ListN.{length, take}
+use native.Mathlib.Nat.{div-div-eq-div-mul}
 use borrow.Author.Tests.{ne_eqb}
 use Rattle.model.specs.Notation.{if◌then◌otherwise◌}
 use Rattle.model.specs.Bytes.{Bytes}
-use Rattle.output.specs.Laid.{Laid, word_text}
-use Rattle.output.proofs.Laying.{laid_as, laid_on}
+use Rattle.output.specs.Laid.{word_text}
 
 pub word_more : (n w : ℕ) → (w ≡ 0 → ⊥) → word_text (suc n) w ≡ w % 256 ∷ word_text n (w / 256)
 unfolding word_text
@@ -20,46 +21,30 @@ unfolding word_text
 word_none zero = refl
 word_none (suc n) = refl
 
--- some bytes of a word are laid; what is left of it has `most` bytes at most
-pub record WordLeft (before : Bytes) (at word : ℕ) (out : Bytes) (left n : ℕ) : Type 0 where
-  pub most : ℕ
-  pub laid : Bytes
-  pub few : most ≤ 8
-  pub small : left < 256 ^ most
-  pub near : n ≤ at + (8 - most)
-  pub text : word_text 8 word ≡ laid ++ word_text most left
-  pub so_far : Laid before at laid out n
+word_zero : (w : ℕ) → word_text zero w ≡ []
+unfolding word_text
+word_zero w = refl
 
--- where something is left, a byte of it is
-pub word-near : {before : Bytes} {at word : ℕ} {out : Bytes} {left n : ℕ} → WordLeft before at word out left n → (left ≡ 0 → ⊥) → n < at + 8
-word-near {at = at} {left = left} {n = n} w some = go w.most w.few w.small w.near
+-- all the bytes of a word are those, and zeros behind them
+abbrev pub low_bytes : ℕ → ℕ → Bytes
+low_bytes zero w = []
+low_bytes (suc n) w = w % 256 ∷ low_bytes n (w / 256)
+
+pub front-bytes : (n w : ℕ) → take (length (word_text n w)) (low_bytes n w) ≡ word_text n w
+front-bytes zero w = ap (λ (s : Bytes). take (length s) []) (word_zero w) ∙ sym (word_zero w)
+front-bytes (suc n) w = go (dec_lt 0 w) (front-bytes n (w / 256))
   where
-    go : (k : ℕ) → k ≤ 8 → left < 256 ^ k → n ≤ at + (8 - k) → n < at + 8
-    go zero few small near = absurd (some (omega arith))
-    go (suc k) few small near = omega arith
+    go : Dec (0 < w) → take (length (word_text n (w / 256))) (low_bytes n (w / 256)) ≡ word_text n (w / 256) → take (length (word_text (suc n) w)) (low_bytes (suc n) w) ≡ word_text (suc n) w
+    go (yes p) rest =
+        let e = word_more n w (λ z. omega arith) in
+        ap (λ (s : Bytes). take (length s) (low_bytes (suc n) w)) e ∙ ap (λ (s : Bytes). w % 256 ∷ s) rest ∙ sym e
+    go (no p) rest =
+        let z : w ≡ 0 = omega arith in
+        let e : word_text (suc n) w ≡ [] = ap (word_text (suc n)) z ∙ word_none (suc n) in
+        ap (λ (s : Bytes). take (length s) (low_bytes (suc n) w)) e ∙ sym e
 
--- one byte more
-pub word-step : {before : Bytes} {at word : ℕ} {out : Bytes} {left n : ℕ} {after : Bytes} {r : ℕ} → WordLeft before at word out left n → (left ≡ 0 → ⊥)
-    → Laid out n (left % 256 ∷ []) after r → WordLeft before at word after (left / 256) r
-word-step {before} {at} {word} {out} {left} {n} {after} {r} w some p = go w.most w.few w.small w.near w.text
-  where
-    go : (k : ℕ) → k ≤ 8 → left < 256 ^ k → n ≤ at + (8 - k) → word_text 8 word ≡ w.laid ++ word_text k left → WordLeft before at word after (left / 256) r
-    go zero few small near e = absurd (some (omega arith))
-    go (suc k) few small near e =
-        let q = pow-suc 256 k in
-        record {
-          most = k;
-          laid = w.laid ++ left % 256 ∷ [];
-          few = omega arith;
-          small = omega arith;
-          near = omega (arith, p.behind);
-          text = e ∙ ap (λ (l : Bytes). w.laid ++ l) (word_more k left some) ∙ sym (append_assoc w.laid (left % 256 ∷ []) (word_text k (left / 256)));
-          so_far = laid_on w.so_far p;
-        }
-
--- no byte is left
-pub word_end : {before : Bytes} {at word : ℕ} {out : Bytes} {left n : ℕ} → WordLeft before at word out left n → left ≡ 0 → Laid before at (word_text 8 word) out n × (n ≤ at + 8)
-word_end {left = left} w z = (
-  laid_as (sym (w.text ∙ ap (λ (l : Bytes). w.laid ++ l) (ap (word_text w.most) z ∙ word_none w.most) ∙ append-nil w.laid)) w.so_far,
-  omega (arith, w.near),
-)
+-- as the machine lays out a word
+pub eight-bytes : (w : ℕ)
+    → (w % 256 ∷ w / 256 % 256 ∷ w / 65536 % 256 ∷ w / 16777216 % 256 ∷ w / 4294967296 % 256 ∷ w / 1099511627776 % 256 ∷ w / 281474976710656 % 256 ∷ w / 72057594037927936 % 256 ∷ [])
+    ≡ low_bytes 8 w
+eight-bytes w = simp div-div-eq-div-mul

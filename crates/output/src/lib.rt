@@ -2,8 +2,7 @@
 // written, so no room is asked for: over a buffer of 0 bytes the place is the length.
 #![tactic(auto)]
 
-ghost use Rattle.std.specs.Prelude.{◌≡◌, [], ◌∷◌, ◌+◌, ◌<◌, ◌≤◌, min, length, ltb};
-ghost use Rattle.model.specs.Notation.{if◌then◌otherwise◌};
+ghost use Rattle.std.specs.Prelude.{◌≡◌, [], ◌∷◌, ◌+◌, ◌<◌, ◌≤◌, length};
 ghost use Rattle.model.specs.Atoms.{decimal};
 ghost use Rattle.output.specs.Laid.{far, Laid, word_text, most_digits, Digits};
 
@@ -16,17 +15,10 @@ pub fn put_byte(out: &mut [u8], at: usize, byte: u8) -> usize
     requires { at < far }
     ensures { Laid out.old at (byte ∷ []) out.new result }
 {
-    if out.len() <= at {
-        return at + 1;
+    if at < out.len() {
+        out[at] = byte;
     }
-    out[at] = byte;
     at + 1
-}
-
-fn least(a: usize, b: usize) -> usize
-    ensures { result ≡ min a b }
-{
-    if a <= b { a } else { b }
 }
 
 // Bytes as they stand.
@@ -38,40 +30,19 @@ pub fn put(out: &mut [u8], at: usize, text: &[u8]) -> usize
     if out.len() <= at {
         return end;
     }
-    let fitting = least(text.len(), out.len() - at);
+    let fitting = text.len().min(out.len() - at);
     out[at..at + fitting].copy_from_slice(&text[..fitting]);
     end
-}
-
-// The bytes of a packed word, one after another.
-fn put_bytes(out: &mut [u8], at: usize, word: u64) -> usize
-    requires { at + 8 ≤ far }
-    ensures { Laid out.old at (word_text 8 word) out.new result × (result ≤ at + 8) }
-{
-    let mut left = word;
-    let mut n = at;
-    while left != 0 {
-        n = put_byte(out, n, (left % 256) as u8);
-        left = left / 256;
-    }
-    n
 }
 
 // How many bytes a packed word has: those up to the last that is not 0.
 fn width(word: u64) -> usize
     ensures { (result ≡ length (word_text 8 word)) × (result ≤ 8) }
 {
-    (71 - u64::leading_zeros(word) as usize) / 8
+    8 - word.leading_zeros() as usize / 8
 }
 
-// The byte of a word, or the one that stands there already.
-fn kept(new: u8, old: u8, i: usize, n: usize) -> u8
-    ensures { result ≡ (if ltb i n then new otherwise old) }
-{
-    if i < n { new } else { old }
-}
-
-// The bytes of a packed word where eight have room: each of the eight is written, those behind the word as they stand, so that no jump depends on its length.
+// The bytes of a packed word where eight have room: all eight are written, those behind the word as they stand, so that no jump depends on its length.
 fn put_eight(out: &mut [u8], at: usize, word: u64) -> usize
     requires { (at + 8 ≤ length out.old) × (at + 8 ≤ far) }
     ensures { Laid out.old at (word_text 8 word) out.new result × (result ≤ at + 8) }
@@ -79,9 +50,9 @@ fn put_eight(out: &mut [u8], at: usize, word: u64) -> usize
     let n = width(word);
     let mut left = word;
     for i in 0..WORD {
-        let old = out[at + i];
-        out[at + i] = kept((left % 256) as u8, old, i, n);
-        left = left / 256;
+        let byte = (left % 256) as u8;
+        out[at + i] = if i < n { byte } else { out[at + i] };
+        left /= 256;
     }
     at + n
 }
@@ -91,23 +62,13 @@ pub fn put_word(out: &mut [u8], at: usize, word: u64) -> usize
     requires { at + 8 ≤ far }
     ensures { Laid out.old at (word_text 8 word) out.new result × (result ≤ at + 8) }
 {
-    if out.len() <= at {
-        return at + width(word);
+    if at + WORD <= out.len() {
+        return put_eight(out, at, word);
     }
-    if out.len() - at < WORD {
-        return put_bytes(out, at, word);
-    }
-    put_eight(out, at, word)
+    put(out, at, &word.to_le_bytes()[..width(word)])
 }
 
-fn digit(d: u32) -> u8
-    requires { d < 10 }
-    ensures { result ≡ 48 + d }
-{
-    b'0' + d as u8
-}
-
-// The digits of a number at the end of an array; answers where they begin.
+// The digits of a number at the end of an array; answers where they begin. The walk goes by the number, which alone tells how many places it takes.
 fn fill(digits: &mut [u8; DIGITS], n: u32) -> usize
     requires { length digits.old ≡ most_digits }
     ensures { Digits n digits.new result }
@@ -115,11 +76,11 @@ fn fill(digits: &mut [u8; DIGITS], n: u32) -> usize
     let mut m = n;
     let mut i = DIGITS - 1;
     while 10 <= m {
-        digits[i] = digit(m % 10);
-        m = m / 10;
+        digits[i] = b'0' + (m % 10) as u8;
+        m /= 10;
         i -= 1;
     }
-    digits[i] = digit(m);
+    digits[i] = b'0' + m as u8;
     i
 }
 
@@ -128,8 +89,7 @@ pub fn put_decimal(out: &mut [u8], at: usize, n: u32) -> usize
     requires { at + most_digits ≤ far }
     ensures { Laid out.old at (decimal n) out.new result × (result ≤ at + most_digits) }
 {
-    let mut digits: [u8; DIGITS] = [0; DIGITS];
+    let mut digits = [0; DIGITS];
     let start = fill(&mut digits, n);
-    let all = &digits[..];
-    put(out, at, &all[start..])
+    put(out, at, &digits[start..])
 }

@@ -1,15 +1,18 @@
 -- How a term begins: the code's heads, and what a term is from its head.
 use Prim.Native.Nat.{ℕ, ◌+◌, ◌*◌, ◌≤◌, ◌<◌, max}
 use mathlib.Core.Path.{◌≡◌, refl, sym, ap, subst, ◌∙◌}
-use mathlib.Core.Bool.{Bool, true, false, ◌&&◌}
+use mathlib.Core.Bool.{Bool, true, false}
 use mathlib.Core.List.{List, [], ◌∷◌}
 use mathlib.Core.Option.{Option, none, some, some-injective}
 use native.Mathlib.Omega.{arith}
+use mir.Val.{bool_byte}
+use Rattle.std.specs.Prelude as std
+use Rattle.std.specs.Prelude.{Some, None}
 use native.Mathlib.Decide.{dec_lt}
-use lib.Dec.{eqb, leb}
+use lib.Dec.{eqb}
 use lib.ListN.{length, get_or}
-use borrow.Author.Tests.{le-leb, leb-true, eqb-true, eqb-false}
-use Rattle.model.specs.Notation.{◌>>=◌, ◌or_else◌, only_if, if◌then◌otherwise◌}
+use borrow.Author.Tests.{eqb-true, eqb-false}
+use Rattle.model.specs.Notation.{◌>>=◌, ◌or_else◌, only_if}
 use Rattle.model.specs.Bytes.{Bytes}
 use Rattle.model.specs.Atoms.{Atom}
 use Rattle.model.specs.Tokens as model
@@ -17,15 +20,13 @@ use Rattle.model.specs.Tokens.{Mark, Operator}
 use Rattle.model.specs.Grammar as grammar
 use Rattle.model.specs.Grammar.{compare, constants, attribute, one_type, is_mark, behind_mark, read_operator, read_items, read_set, read_var, read_comparison, read_simple, read_term, closed, term_within, policy_within}
 use Rattle.model.proofs.Results.{case-so}
-use Rattle.model.proofs.WordTables.{false-is-true, none-is-some}
-use Rattle.model.proofs.Options.{bind-some, parts, both}
+use Rattle.model.proofs.WordTables.{none-is-some}
+use Rattle.model.proofs.Options.{bind-some}
 use Rattle.model.proofs.Complete.{above}
 use Rattle.codes.proofs.TokenKinds.{truth-range}
 use Rattle.tokens.proofs.RuleCode.{truth-here}
-use Rattle.policy.specs.declared.Reading.{Reading}
-use Rattle.policy.specs.declared.Reading.TheVariants.{Read, Malformed}
 use Rattle.policy.specs.declared.Head.{Head}
-use Rattle.policy.specs.declared.Head.TheVariants.{Leaf, Open, Neither}
+use Rattle.policy.specs.declared.Head.TheVariants.{Leaf, Open}
 use Rattle.policy.specs.declared.Var.{Var}
 use Rattle.policy.specs.Starts.{Start, whole, opened, neither, simple_start, negated_start, read_or, plain_start, signed_start, term_start, alone_start, closed_by}
 use Rattle.policy.specs.Readers.{lending, Lending, Asked, From, Answers, Ahead, Terms, Policies, Closes, Starts, Further, Heads, VarReads, VarAnswers, Vars, Alone, SecondVars, VarHeads}
@@ -35,18 +36,18 @@ use Rattle.policy.proofs.Shorter.{mark-fewer}
 -- ---- a var alone
 
 module _ (v : Var) where
-  pub alone-none : (v.atoms ≡ 0 → ⊥) → Alone v Neither
+  pub alone-none : (v.atoms ≡ 0 → ⊥) → Alone v None
   alone-none n = record { further = λ code at l. tt; starts = go }
     where
-      go : (code : Bytes) (L : Lending) (A : Asked) (w : grammar.Var) (rest : List model.Token) → VarReads code L A v w rest → Starts code A Neither (alone_start w rest)
+      go : (code : Bytes) (L : Lending) (A : Asked) (w : grammar.Var) (rest : List model.Token) → VarReads code L A v w rest → Starts code A None (alone_start w rest)
       go code L A (constants l) rest r = tt
       go code L A (attribute s m) rest r = n r.atom-count
 
-  pub alone-on : v.atoms ≡ 0 → Alone v (Leaf v.next 0)
+  pub alone-on : v.atoms ≡ 0 → Alone v (Some (Leaf v.next 0))
   alone-on z = record { further = λ code at l. l; starts = go }
     where
       go : (code : Bytes) (L : Lending) (A : Asked) (w : grammar.Var) (rest : List model.Token) → VarReads code L A v w rest
-          → Starts code A (Leaf v.next 0) (alone_start w rest)
+          → Starts code A (Some (Leaf v.next 0)) (alone_start w rest)
       go code L A (constants l) rest r = absurd (omega (arith, r.atom-count, r.some-atoms, z))
       go code L A (attribute s m) rest r = (r.behind, refl)
 
@@ -81,51 +82,51 @@ module _ (code : Bytes) (at k : ℕ) (e : k ≡ get_or code at 0) where
   here : 0 < k → at < length code
   here h = inside code at (omega arith)
 
-  pub simple-open : k ≡ 5 → Heads (λ ts. simple_start ts) code at (Open (at + 1))
+  pub simple-open : k ≡ 5 → Heads (λ ts. simple_start ts) code at (Some (Open (at + 1)))
   simple-open z = record {
     further = let w = here (omega arith) in omega arith;
     starts = λ A ts f.
         let m = mark_on Mark.lparen code A at ts f (sym e ∙ z) in
-        subst (λ us. Starts code A (Open (at + 1)) (simple_start us)) (sym m.split) m.behind;
+        subst (λ us. Starts code A (Some (Open (at + 1))) (simple_start us)) (sym m.split) m.behind;
   }
 
-  pub simple-truth : 13 ≤ k → k ≤ 15 → Heads (λ ts. simple_start ts) code at (Leaf (at + 1) 0)
+  pub simple-truth : 13 ≤ k → k ≤ 15 → Heads (λ ts. simple_start ts) code at (Some (Leaf (at + 1) 0))
   simple-truth lo hi = record {
     further = omega arith;
     starts = λ A ts f.
         let (t, us, c, s, g) = truth-here f.coded (omega arith) (omega arith) in
-        subst (λ us. Starts code A (Leaf (at + 1) 0) (simple_start us)) (sym s) ((told (subst (From code A at) s f)).behind, refl);
+        subst (λ us. Starts code A (Some (Leaf (at + 1) 0)) (simple_start us)) (sym s) ((told (subst (From code A at) s f)).behind, refl);
   }
 
   -- where no var begins either
-  module _ (rows : List ℕ) (v : Var) (X : Vars code rows at v) (z : v.ok ≡ false) where
-    other-starts : (k ≡ 5 → ⊥) → (13 ≤ k → k ≤ 15 → ⊥) → (A : Asked) (ts : List model.Token) → From code A at ts → Starts code A Neither (simple_start ts)
+  module _ (X : Vars code at None) where
+    other-starts : (k ≡ 5 → ⊥) → (13 ≤ k → k ≤ 15 → ⊥) → (A : Asked) (ts : List model.Token) → From code A at ts → Starts code A None (simple_start ts)
     other-starts a b A [] f = tt
-    other-starts a b A (model.Token.name x n ∷ ts) f = false-is-true (sym z ∙ (X.answers (lending rows [] [] []) refl A (model.Token.name x n ∷ ts) f).0)
+    other-starts a b A (model.Token.name x n ∷ ts) f = absurd (X.answers (lending [] [] [] []) A (model.Token.name x n ∷ ts) f)
     other-starts a b A (model.Token.int n ∷ ts) f = tt
     other-starts a b A (model.Token.str n ∷ ts) f = tt
     other-starts a b A (model.Token.truth w ∷ ts) f = b (omega (arith, e, (told f).kind-is, truth-range w)) (omega (arith, e, (told f).kind-is, truth-range w))
     other-starts a b A (model.Token.operator o ∷ ts) f = tt
     other-starts a b A (model.Token.mark m ∷ ts) f =
-        subst (λ (k : Bool). Starts code A Neither (elim k as (λ _. Start) [ true ↦ opened false ts | false ↦ neither ]))
+        subst (λ (k : Bool). Starts code A None (elim k as (λ _. Start) [ true ↦ opened false ts | false ↦ neither ]))
         (sym (isnt-mark Mark.lparen m (λ q. a (e ∙ (told f).kind-is ∙ q)))) tt
 
-    pub simple-neither : (k ≡ 5 → ⊥) → (13 ≤ k → k ≤ 15 → ⊥) → Heads (λ ts. simple_start ts) code at Neither
+    pub simple-neither : (k ≡ 5 → ⊥) → (13 ≤ k → k ≤ 15 → ⊥) → Heads (λ ts. simple_start ts) code at None
     simple-neither a b = record { further = tt; starts = λ A ts f. other-starts a b A ts f }
 
 -- ---- after NOT
 
 -- NOT changes neither where a term ends nor its sets
-not-starts : (code : Bytes) (A : Asked) (h : Head) (x : Start) → Starts code A h x → Starts code A h (negated_start x)
-not-starts code A (Leaf n l) (whole p ts) s = s
-not-starts code A (Leaf n l) (opened b ts) s = absurd s
-not-starts code A (Leaf n l) neither s = absurd s
-not-starts code A (Open n) (whole p ts) s = absurd s
-not-starts code A (Open n) (opened b ts) s = s
-not-starts code A (Open n) neither s = absurd s
-not-starts code A Neither (whole p ts) s = absurd s
-not-starts code A Neither (opened b ts) s = absurd s
-not-starts code A Neither neither s = tt
+not-starts : (code : Bytes) (A : Asked) (h : std.Option Head) (x : Start) → Starts code A h x → Starts code A h (negated_start x)
+not-starts code A (Some (Leaf n l)) (whole p ts) s = s
+not-starts code A (Some (Leaf n l)) (opened b ts) s = absurd s
+not-starts code A (Some (Leaf n l)) neither s = absurd s
+not-starts code A (Some (Open n)) (whole p ts) s = absurd s
+not-starts code A (Some (Open n)) (opened b ts) s = s
+not-starts code A (Some (Open n)) neither s = absurd s
+not-starts code A None (whole p ts) s = absurd s
+not-starts code A None (opened b ts) s = absurd s
+not-starts code A None neither s = tt
 
 -- ---- what begins with a var
 
@@ -139,127 +140,133 @@ behind_var v r = r >>= λ (o, rest). behind_operator v o (read_var rest)
 abbrev from_var : Option (grammar.Var × List model.Token) → grammar.Reading
 from_var r = r >>= λ (v, rest). behind_var v (read_operator rest)
 
-module _ (code : Bytes) (rows : List ℕ) (v : Var) where
+module _ (code : Bytes) (v : Var) where
   -- values are not asked for
   abbrev nothing : Lending
-  nothing = lending rows [] [] []
+  nothing = lending [] [] [] []
 
   -- a head that fits what is read behind the var fits what begins with it
-  var-heads : (h : Head) → ((at : ℕ) → at ≤ v.next → Further code at h)
+  var-heads : (h : std.Option Head) → ((at : ℕ) → at ≤ v.next → Further code at h)
       → ((A : Asked) (w : grammar.Var) (rest : List model.Token) → VarReads code nothing A v w rest → Starts code A h (read_or (alone_start w rest) (behind_var w (read_operator rest))))
-      → VarHeads code rows false v h
+      → VarHeads code false v h
   unfolding plain_start read_comparison
-  var-heads h a f at X ok = record { further = a at X.further; starts = λ A ts g. go A ts (read_var ts) refl (X.answers nothing refl A ts g) }
+  var-heads h a f at X =
+      record { further = a at (omega (arith, X.past)); starts = λ A ts g. go A ts (read_var ts) refl (X.answers nothing A ts g) }
     where
-      go : (A : Asked) (ts : List model.Token) (r : Option (grammar.Var × List model.Token)) → read_var ts ≡ r → VarAnswers code nothing A v r
+      go : (A : Asked) (ts : List model.Token) (r : Option (grammar.Var × List model.Token)) → read_var ts ≡ r → VarAnswers code nothing A (Some v) r
           → Starts code A h (read_or (simple_start ts) (from_var r))
-      go A ts none q b = false-is-true (sym b ∙ ok)
+      go A ts none q b = absurd b
       go A ts (some y) q b =
-          subst (λ (x : Start). Starts code A h (read_or x (behind_var y.0 (read_operator y.1)))) (sym (alone-start ts y q)) (f A y.0 y.1 b.1)
+          subst (λ (x : Start). Starts code A h (read_or x (behind_var y.0 (read_operator y.1)))) (sym (alone-start ts y q)) (f A y.0 y.1 b)
 
   -- after NOT a var stands alone
-  not-alone : (h : Head) → Alone v h → VarHeads code rows true v h
-  not-alone h O at X ok = record {
-    further = O.further code at X.further;
-    starts = λ A ts g. not-starts code A h (simple_start ts) (go A ts (read_var ts) refl (X.answers nothing refl A ts g));
+  not-alone : (h : std.Option Head) → Alone v h → VarHeads code true v h
+  not-alone h O at X = record {
+    further = O.further code at (omega (arith, X.past));
+    starts = λ A ts g. not-starts code A h (simple_start ts) (go A ts (read_var ts) refl (X.answers nothing A ts g));
   }
     where
-      go : (A : Asked) (ts : List model.Token) (q : Option (grammar.Var × List model.Token)) → read_var ts ≡ q → VarAnswers code nothing A v q → Starts code A h (simple_start ts)
-      go A ts none q b = false-is-true (sym b ∙ ok)
-      go A ts (some y) q b = subst (Starts code A h) (sym (alone-start ts y q)) (O.starts code nothing A y.0 y.1 b.1)
+      go : (A : Asked) (ts : List model.Token) (q : Option (grammar.Var × List model.Token)) → read_var ts ≡ q → VarAnswers code nothing A (Some v) q → Starts code A h (simple_start ts)
+      go A ts none q b = absurd b
+      go A ts (some y) q b = subst (Starts code A h) (sym (alone-start ts y q)) (O.starts code nothing A y.0 y.1 b)
 
-  module _ (negated : Bool) (w : Var) (second : SecondVars code rows negated v.next w) where
-    -- no operator and var behind it: it stands alone
-    pub not-second : w.ok ≡ false → (h : Head) → Alone v h → VarHeads code rows negated v h
-    not-second z h O = go negated refl
-      where
-        off : (16 ≤ get_or code v.next 0 → get_or code v.next 0 ≤ 23 → ⊥) → VarHeads code rows false v h
-        off n = var-heads h (O.further code) λ A x rest r.
-            subst (λ o. Starts code A h (read_or (alone_start x rest) (behind_var x o)))
-            (sym (operator-off code A v.next rest r.behind n)) (O.starts code nothing A x rest r)
+  -- no operator and var behind it: it stands alone
+  pub not-second : (negated : Bool) → SecondVars code negated v.next None → (h : std.Option Head) → Alone v h → VarHeads code negated v h
+  not-second negated second h O = go negated refl
+    where
+      off : (16 ≤ get_or code v.next 0 → get_or code v.next 0 ≤ 23 → ⊥) → VarHeads code false v h
+      off n = var-heads h (O.further code) λ A x rest r.
+          subst (λ o. Starts code A h (read_or (alone_start x rest) (behind_var x o)))
+          (sym (operator-off code A v.next rest r.behind n)) (O.starts code nothing A x rest r)
 
-        last : (A : Asked) (x : grammar.Var) (rest : List model.Token) → VarReads code nothing A v x rest → (o : Operator)
-            (q : Option (grammar.Var × List model.Token)) → VarAnswers code nothing A w q → Starts code A h (read_or (alone_start x rest) (behind_operator x o q))
-        last A x rest r o none b = O.starts code nothing A x rest r
-        last A x rest r o (some y) b = false-is-true (sym z ∙ b.0)
+      last : (A : Asked) (x : grammar.Var) (rest : List model.Token) → VarReads code nothing A v x rest → (o : Operator)
+          (q : Option (grammar.Var × List model.Token)) → VarAnswers code nothing A None q → Starts code A h (read_or (alone_start x rest) (behind_operator x o q))
+      last A x rest r o none b = O.starts code nothing A x rest r
+      last A x rest r o (some y) b = absurd b
 
-        on : 16 ≤ get_or code v.next 0 → Vars code rows (v.next + 1) w → VarHeads code rows false v h
-        on lo W = var-heads h (O.further code) λ A x rest r.
-            let (o, left, c, s, g) = operator-on code A v.next rest r.behind lo in
-            subst (λ us. Starts code A h (read_or (alone_start x rest) (behind_var x (read_operator us)))) (sym s)
-            (last A x rest r o (read_var left) (W.answers nothing refl A left g))
+      on : 16 ≤ get_or code v.next 0 → Vars code (v.next + 1) None → VarHeads code false v h
+      on lo W = var-heads h (O.further code) λ A x rest r.
+          let (o, left, c, s, g) = operator-on code A v.next rest r.behind lo in
+          subst (λ us. Starts code A h (read_or (alone_start x rest) (behind_var x (read_operator us)))) (sym s)
+          (last A x rest r o (read_var left) (W.answers nothing A left g))
 
-        plain : negated ≡ false → Dec (get_or code v.next 0 < 16) → Dec (23 < get_or code v.next 0) → VarHeads code rows false v h
-        plain f (yes a) d = off (λ x y. omega arith)
-        plain f (no a) (yes b) = off (λ x y. omega arith)
-        plain f (no a) (no b) = on (omega arith) (second.none-second z f (omega arith) (omega arith))
+      plain : negated ≡ false → Dec (get_or code v.next 0 < 16) → Dec (23 < get_or code v.next 0) → VarHeads code false v h
+      plain f (yes a) d = off (λ x y. omega arith)
+      plain f (no a) (yes b) = off (λ x y. omega arith)
+      plain f (no a) (no b) = on (omega arith) (second f (omega arith) (omega arith))
 
-        go : (b : Bool) → negated ≡ b → VarHeads code rows b v h
-        go true f = not-alone h O
-        go false f = plain f (dec_lt (get_or code v.next 0) 16) (dec_lt 23 (get_or code v.next 0))
+      go : (b : Bool) → negated ≡ b → VarHeads code b v h
+      go true f = not-alone h O
+      go false f = plain f (dec_lt (get_or code v.next 0) 16) (dec_lt 23 (get_or code v.next 0))
 
-    -- a comparison
-    pub compared : w.ok ≡ true → (l : ℕ) → l ≡ max v.atoms w.atoms → VarHeads code rows negated v (Leaf w.next l)
-    compared ok l m =
-        let (f, lo, W) = second.is-second ok in
-        subst (λ (b : Bool). VarHeads code rows b v (Leaf w.next l)) (sym f)
-        (var-heads (Leaf w.next l) (λ at a. let g = W.further in omega arith) λ A y rest r.
-        let (o, left, c, s, g) = operator-on code A v.next rest r.behind lo in
-        subst (λ us. Starts code A (Leaf w.next l) (read_or (alone_start y rest) (behind_var y (read_operator us)))) (sym s)
-        (last A y rest r o (read_var left) (W.answers nothing refl A left g)))
-      where
-        last : (A : Asked) (y : grammar.Var) (rest : List model.Token) → VarReads code nothing A v y rest → (o : Operator)
-            (q : Option (grammar.Var × List model.Token)) → VarAnswers code nothing A w q
-            → Starts code A (Leaf w.next l) (read_or (alone_start y rest) (behind_operator y o q))
-        last A y rest r o none b = false-is-true (sym b ∙ ok)
-        last A y rest r o (some (z, more)) b = (b.1.behind, omega (arith, m, r.atom-count, b.1.atom-count))
+  -- a comparison
+  pub compared : (negated : Bool) (w : Var) → SecondVars code negated v.next (Some w) → (l : ℕ) → l ≡ max v.atoms w.atoms
+      → VarHeads code negated v (Some (Leaf w.next l))
+  compared negated w (f, lo, W) l m =
+      subst (λ (b : Bool). VarHeads code b v (Some (Leaf w.next l))) (sym f)
+      (var-heads (Some (Leaf w.next l)) (λ at a. let g = W.past in omega arith) λ A y rest r.
+      let (o, left, c, s, g) = operator-on code A v.next rest r.behind lo in
+      subst (λ us. Starts code A (Some (Leaf w.next l)) (read_or (alone_start y rest) (behind_var y (read_operator us)))) (sym s)
+      (last A y rest r o (read_var left) (W.answers nothing A left g)))
+    where
+      last : (A : Asked) (y : grammar.Var) (rest : List model.Token) → VarReads code nothing A v y rest → (o : Operator)
+          (q : Option (grammar.Var × List model.Token)) → VarAnswers code nothing A (Some w) q
+          → Starts code A (Some (Leaf w.next l)) (read_or (alone_start y rest) (behind_operator y o q))
+      last A y rest r o none b = absurd b
+      last A y rest r o (some (z, more)) b = (b.behind, omega (arith, m, r.atom-count, b.atom-count))
 
 -- the var behind an operator, by what was found of it
-module _ (code : Bytes) (rows : List ℕ) (at : ℕ) where
-  pub no-second-var : (negated : Bool) (w : Var) → w.ok ≡ false → (negated ≡ false → 16 ≤ get_or code at 0 → get_or code at 0 ≤ 23 → ⊥) → SecondVars code rows negated at w
-  no-second-var negated w z n = record { is-second = λ t. false-is-true (sym z ∙ t); none-second = λ t f a b. absurd (n f a b) }
+module _ (code : Bytes) (at : ℕ) (negated : Bool) where
+  pub no-second-var : (negated ≡ false → 16 ≤ get_or code at 0 → get_or code at 0 ≤ 23 → ⊥) → SecondVars code negated at None
+  no-second-var n = λ f a b. absurd (n f a b)
 
-  pub second-var : (negated : Bool) (w : Var) → negated ≡ false → 16 ≤ get_or code at 0 → Vars code rows (at + 1) w → SecondVars code rows negated at w
-  second-var negated w f a W = record { is-second = λ t. (f, a, W); none-second = λ t g b c. W }
+  pub second-var : (w : std.Option Var) → negated ≡ false → 16 ≤ get_or code at 0 → Vars code (at + 1) w → SecondVars code negated at w
+  second-var (Some w) f a W = (f, a, W)
+  second-var None f a W = λ g b c. W
 
 -- ---- terms
 
-further-later : (code : Bytes) (at n : ℕ) (h : Head) → at ≤ n → Further code n h → Further code at h
-further-later code at n (Leaf k m) l a = omega arith
-further-later code at n (Open m) l a = omega arith
-further-later code at n Neither l a = tt
+further-later : (code : Bytes) (at n : ℕ) (h : std.Option Head) → at ≤ n → Further code n h → Further code at h
+further-later code at n (Some (Leaf k m)) l a = omega arith
+further-later code at n (Some (Open m)) l a = omega arith
+further-later code at n None l a = tt
 
 module _ (code : Bytes) (at : ℕ) where
   -- without a var, after NOT or not
-  pub signed-simple : (rows : List ℕ) (negated : Bool) (v : Var) → Vars code rows at v → v.ok ≡ false → (h : Head) → Heads (λ ts. simple_start ts) code at h
+  pub signed-simple : (negated : Bool) → Vars code at None → (h : std.Option Head) → Heads (λ ts. simple_start ts) code at h
       → Heads (signed_start negated) code at h
   unfolding plain_start read_comparison
-  signed-simple rows true v X o h H = record { further = H.further; starts = λ A ts f. not-starts code A h (simple_start ts) (H.starts A ts f) }
-  signed-simple rows false v X o h H =
-      record { further = H.further; starts = λ A ts f. go A ts (H.starts A ts f) (read_var ts) (X.answers (lending rows [] [] []) refl A ts f) }
+  signed-simple true X h H = record { further = H.further; starts = λ A ts f. not-starts code A h (simple_start ts) (H.starts A ts f) }
+  signed-simple false X h H =
+      record { further = H.further; starts = λ A ts f. go A ts (H.starts A ts f) (read_var ts) (X.answers (lending [] [] [] []) A ts f) }
     where
       go : (A : Asked) (ts : List model.Token) → Starts code A h (simple_start ts) → (q : Option (grammar.Var × List model.Token))
-          → VarAnswers code (lending rows [] [] []) A v q → Starts code A h (read_or (simple_start ts) (from_var q))
+          → VarAnswers code (lending [] [] [] []) A None q → Starts code A h (read_or (simple_start ts) (from_var q))
       go A ts s none a = s
-      go A ts s (some y) a = false-is-true (sym o ∙ a.0)
+      go A ts s (some y) a = absurd a
 
   -- a term: what stands behind its NOT, if it has one
-  pub term-signed : (negated : Bool) → negated ≡ eqb (get_or code at 0) 12 → (n : ℕ) → n ≡ (if negated then at + 1 otherwise at) → (h : Head)
-      → Heads (signed_start negated) code n h → Heads (λ ts. term_start ts) code at h
+  pub term-signed : (k n : ℕ) → k ≡ get_or code at 0 → n ≡ bool_byte (eqb k 12) → (h : std.Option Head)
+      → Heads (signed_start (eqb k 12)) code (at + n) h → Heads (λ ts. term_start ts) code at h
   unfolding term_start
-  term-signed true e n f h H = record {
-    further = further-later code at n h (omega arith) H.further;
-    starts = λ A ts g.
-        let m = mark_on Mark.NOT code A at ts g (eqb-true (get_or code at 0) 12 (sym e)) in
-        subst (λ us. Starts code A h (term_start us)) (sym m.split) (H.starts A m.rest (subst (λ (k : ℕ). From code A k m.rest) (sym f) m.behind));
-  }
-  term-signed false e n f h H = record {
-    further = further-later code at n h (omega arith) H.further;
-    starts = λ A ts g.
-        subst (λ w. Starts code A h (elim w as (λ _. Start) [ some rest ↦ negated_start (simple_start rest) | none ↦ plain_start ts ]))
-        (sym (mark-off Mark.NOT code A at ts g (eqb-false (get_or code at 0) 12 (sym e))))
-        (H.starts A ts (subst (λ (k : ℕ). From code A k ts) (sym f) g));
-  }
+  term-signed k n e f h H = go (eqb k 12) refl f H
+    where
+      go : (b : Bool) → eqb k 12 ≡ b → n ≡ bool_byte b → Heads (signed_start b) code (at + n) h → Heads (λ ts. term_start ts) code at h
+      go true z f H = record {
+        further = further-later code at (at + n) h (omega arith) H.further;
+        starts = λ A ts g.
+            let m = mark_on Mark.NOT code A at ts g (sym e ∙ eqb-true k 12 z) in
+            subst (λ us. Starts code A h (term_start us)) (sym m.split) (H.starts A m.rest (subst (λ (i : ℕ). From code A (at + i) m.rest) (sym f) m.behind));
+      }
+      go false z f H =
+          let there : at + n ≡ at = omega arith in
+          record {
+            further = further-later code at (at + n) h (omega arith) H.further;
+            starts = λ A ts g.
+                subst (λ w. Starts code A h (elim w as (λ _. Start) [ some rest ↦ negated_start (simple_start rest) | none ↦ plain_start ts ]))
+                (sym (mark-off Mark.NOT code A at ts g (λ y. eqb-false k 12 z (e ∙ y))))
+                (H.starts A ts (subst (λ (i : ℕ). From code A i ts) (sym there) g));
+          }
 
 -- what is read from a start: `inner` reads the policy in parentheses
 abbrev pub finished : (List model.Token → grammar.Reading) → Start → grammar.Reading
@@ -351,9 +358,9 @@ start-fewer ts =
     other (some y) = tt
 
 -- A term, from its head
-module _ (code : Bytes) (at : ℕ) (h : Head) (H : Heads (λ ts. term_start ts) code at h) where
+module _ (code : Bytes) (at : ℕ) (h : std.Option Head) (H : Heads (λ ts. term_start ts) code at h) where
   -- an answer that fits what is read from each start fits the term
-  term-from : (r : Reading) → Ahead at r
+  term-from : (r : std.Option ℕ) → Ahead at r
       → ((A : Asked) (ts : List model.Token) (n : ℕ) → 3 * length ts ≤ n → (x : Start) → FewerIn ts x → Starts code A h x → Answers code A r (finished (λ rest. policy_within n rest) x))
       → Terms code at r
   unfolding policy_within
@@ -364,44 +371,48 @@ module _ (code : Bytes) (at : ℕ) (h : Head) (H : Heads (λ ts. term_start ts) 
         (λ k m. subst (Answers code A r) (sym (term-finished (λ rest. policy_within k rest) ts)) (f A ts k m (term_start ts) (start-fewer ts) (H.starts A ts g)));
   }
 
-  pub head-none : h ≡ Neither → Terms code at Malformed
-  head-none e = term-from Malformed tt λ A ts n l x a b. go A n x (subst (λ (k : Head). Starts code A k x) e b)
+  pub head-none : h ≡ None → Terms code at None
+  head-none e = term-from None tt λ A ts n l x a b. go A n x (subst (λ (k : std.Option Head). Starts code A k x) e b)
     where
-      go : (A : Asked) (n : ℕ) (x : Start) → Starts code A Neither x → Answers code A Malformed (finished (λ rest. policy_within n rest) x)
+      go : (A : Asked) (n : ℕ) (x : Start) → Starts code A None x → Answers code A None (finished (λ rest. policy_within n rest) x)
       go A n (whole p rest) b = absurd b
       go A n (opened c rest) b = absurd b
       go A n neither b = tt
 
-  pub head-leaf : (k s : ℕ) → h ≡ Leaf k s → Terms code at (Read k)
-  head-leaf k s e = term-from (Read k) (subst (Further code at) e H.further) λ A ts n l y a b. go A n y (subst (λ (k : Head). Starts code A k y) e b)
+  pub head-leaf : (k s : ℕ) → h ≡ Some (Leaf k s) → Terms code at (Some k)
+  head-leaf k s e =
+      term-from (Some k) (subst (Further code at) e H.further) λ A ts n l y a b. go A n y (subst (λ (k : std.Option Head). Starts code A k y) e b)
     where
-      go : (A : Asked) (n : ℕ) (y : Start) → Starts code A (Leaf k s) y → Answers code A (Read k) (finished (λ rest. policy_within n rest) y)
+      go : (A : Asked) (n : ℕ) (y : Start) → Starts code A (Some (Leaf k s)) y → Answers code A (Some k) (finished (λ rest. policy_within n rest) y)
       go A n (whole p rest) b = b.0
       go A n (opened c rest) b = absurd b
       go A n neither b = absurd b
 
-  module _ (n : ℕ) (e : h ≡ Open n) where
+  module _ (n : ℕ) (e : h ≡ Some (Open n)) where
     pub head-falls : (at < n) × (at < length code)
     head-falls = subst (Further code at) e H.further
 
-    pub head-open : (q r : Reading) → Policies code n q → Closes code q r → Terms code at r
-    head-open q r P C =
-        term-from r (C.ahead at (later q P.ahead)) λ A ts k l x a d. go A ts k l x a (subst (λ (k : Head). Starts code A k x) e d)
+    -- what is read in the parenthesis, and what closes it
+    open-by : (q r : std.Option ℕ) → Policies code n q → Ahead at r
+        → ((c : Bool) (A : Asked) (o : grammar.Reading) → Answers code A q o → Answers code A r (closed_by c o)) → Terms code at r
+    open-by q r P a f = term-from r a λ A ts k l x b d. go A ts k l x b (subst (λ (k : std.Option Head). Starts code A k x) e d)
       where
-        later : (q : Reading) → Ahead n q → Ahead at q
-        later (Read y) a = let w = head-falls in omega (arith, w.0)
-        later Malformed a = tt
-
-        go : (A : Asked) (ts : List model.Token) (k : ℕ) → 3 * length ts ≤ k → (x : Start) → FewerIn ts x → Starts code A (Open n) x
+        go : (A : Asked) (ts : List model.Token) (k : ℕ) → 3 * length ts ≤ k → (x : Start) → FewerIn ts x → Starts code A (Some (Open n)) x
             → Answers code A r (finished (λ rest. policy_within k rest) x)
-        go A ts k l (whole p rest) a d = absurd d
-        go A ts k l (opened c rest) a d = C.answers c A (policy_within k rest) (P.answers A rest d k (omega arith))
-        go A ts k l neither a d = absurd d
+        go A ts k l (whole p rest) b d = absurd d
+        go A ts k l (opened c rest) b d = f c A (policy_within k rest) (P.answers A rest d k (omega arith))
+        go A ts k l neither b d = absurd d
 
--- operators by their numbers
-module _ (k : ℕ) where
-  pub no-operator : (leb 16 k && leb k 23) ≡ false → 16 ≤ k → k ≤ 23 → ⊥
-  no-operator e a b = false-is-true (sym e ∙ both (le-leb 16 k a) (le-leb k 23 b))
+    pub open-none : Policies code n None → Terms code at None
+    open-none P = open-by None None P tt go
+      where
+        go : (c : Bool) (A : Asked) (o : grammar.Reading) → Answers code A None o → Answers code A None (closed_by c o)
+        go c A none a = tt
+        go c A (some y) a = absurd a
 
-  pub an-operator : (leb 16 k && leb k 23) ≡ true → 16 ≤ k
-  an-operator e = leb-true 16 k (parts (leb 16 k) (leb k 23) e).0
+    pub open-closed : (y : ℕ) → Policies code n (Some y) → (r : std.Option ℕ) → Closes code y r → Terms code at r
+    open-closed y P r C = open-by (Some y) r P (later r C.ahead) C.answers
+      where
+        later : (r : std.Option ℕ) → Ahead y r → Ahead at r
+        later (Some z) a = let w = head-falls in let v = P.ahead in omega (arith, w.0)
+        later None a = tt

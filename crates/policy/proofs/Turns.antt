@@ -5,6 +5,8 @@ use mathlib.Core.Bool.{false}
 use mathlib.Core.List.{List, [], ◌∷◌}
 use mathlib.Core.Option.{Option, none, some, some-injective}
 use native.Mathlib.Omega.{arith}
+use Rattle.std.specs.Prelude as std
+use Rattle.std.specs.Prelude.{Some, None}
 use native.Mathlib.Decide.{dec_lt}
 use native.Mathlib.Numerals.{add-one}
 use lib.ListN.{length, get_or}
@@ -16,7 +18,7 @@ use Rattle.model.proofs.WordTables.{false-is-true, none-is-some}
 use Rattle.codes.specs.Codes.{mark_code}
 use Rattle.codes.proofs.TokenKinds.{kind-range}
 use Rattle.policy.specs.declared.Head.{Head}
-use Rattle.policy.specs.declared.Head.TheVariants.{Leaf, Open, Neither}
+use Rattle.policy.specs.declared.Head.TheVariants.{Leaf, Open}
 use Rattle.policy.specs.declared.scan.Reached.{Reached}
 use Rattle.policy.specs.declared.scan.Stand.{Stand}
 use Rattle.policy.specs.declared.scan.Stand.TheVariants.{Before, Behind, Whole, Failed}
@@ -24,20 +26,20 @@ use Rattle.policy.specs.Starts.{Start, whole, opened, neither, term_start}
 use Rattle.policy.specs.Readers.{Asked, From, Starts, Further, Heads}
 use Rattle.policy.specs.Judgements.{Counted}
 use Rattle.policy.specs.Scans.{Counts, counts_of, after_conjunction, after_policy, before_term, behind_term}
-use Rattle.policy.specs.Scans.{counts_at, Left, goes, OpenWithin, OpenBefore, turns_left, Turns, moved_to, with_leaf, stand_by, Scans}
+use Rattle.policy.specs.Scans.{counts_at, Left, goes, OpenWithin, OpenBefore, turns_left, Turns, moved_to, stand_by, Scans}
 use Rattle.policy.proofs.CodeFronts.{inside, told, ended, mark_on, mark-off}
 use Rattle.policy.proofs.ScannedTokens.{same-counts, by-start, before-opened, Flat, start-flat, scanned, all_left}
 
 -- ---- a turn where a term is expected: all that is used of its head
 
-module _ (code : Bytes) (x : Reached) (h : Head) (H : Heads (λ ts. term_start ts) code x.at h) (w : x.unclosed ≤ x.at) where
+module _ (code : Bytes) (x : Reached) (h : std.Option Head) (H : Heads (λ ts. term_start ts) code x.at h) (w : x.unclosed ≤ x.at) where
   pub head-open : OpenBefore x h
   head-open = go h H.further
     where
-      go : (h : Head) → Further code x.at h → OpenBefore x h
-      go (Leaf n l) f = tt
-      go (Open n) f = omega (arith, f.0)
-      go Neither f = tt
+      go : (h : std.Option Head) → Further code x.at h → OpenBefore x h
+      go (Some (Leaf n l)) f = tt
+      go (Some (Open n)) f = omega (arith, f.0)
+      go None f = tt
 
   pub head-turn : Turns code (Before x) (stand_by x h)
   head-turn = record {
@@ -46,36 +48,36 @@ module _ (code : Bytes) (x : Reached) (h : Head) (H : Heads (λ ts. term_start t
     fewer = λ _. fewer h H.further;
   }
     where
-      left : (h : Head) (A : Asked) (o : Option Counts) (ts : List Token) → before_term x.unclosed (counts_at x) ts ≡ o
+      left : (h : std.Option Head) (A : Asked) (o : Option Counts) (ts : List Token) → before_term x.unclosed (counts_at x) ts ≡ o
           → (y : Start) → term_start ts ≡ y → Flat y → Starts code A h y → Left code A (stand_by x h) o
-      left (Leaf n l) A o ts e (whole p rest) s f r = (
+      left (Some (Leaf n l)) A o ts e (whole p rest) s f r = (
         rest,
         r.0,
         ap (λ (c : Counts). behind_term x.unclosed c rest) (same-counts (omega (arith, f.0)) (omega (arith, f.1)) (ap (max x.largest) r.1))
             ∙ sym (by-start x.unclosed (counts_at x) ts (whole p rest) s) ∙ e,
       )
-      left (Leaf n l) A o ts e (opened b rest) s f r = absurd r
-      left (Leaf n l) A o ts e neither s f r = absurd r
-      left (Open n) A o ts e (whole p rest) s f r = absurd r
-      left (Open n) A o ts e (opened b rest) s f r = (
+      left (Some (Leaf n l)) A o ts e (opened b rest) s f r = absurd r
+      left (Some (Leaf n l)) A o ts e neither s f r = absurd r
+      left (Some (Open n)) A o ts e (whole p rest) s f r = absurd r
+      left (Some (Open n)) A o ts e (opened b rest) s f r = (
         rest,
         r,
         ap (λ (d : ℕ). before_term d (counts_at x) rest) (add-one x.unclosed) ∙ sym (before-opened x.unclosed (counts_at x) ts b rest s) ∙ e,
       )
-      left (Open n) A o ts e neither s f r = absurd r
-      left Neither A o ts e (whole p rest) s f r = absurd r
-      left Neither A o ts e (opened b rest) s f r = absurd r
-      left Neither A o ts e neither s f r = sym (by-start x.unclosed (counts_at x) ts neither s) ∙ e
+      left (Some (Open n)) A o ts e neither s f r = absurd r
+      left None A o ts e (whole p rest) s f r = absurd r
+      left None A o ts e (opened b rest) s f r = absurd r
+      left None A o ts e neither s f r = sym (by-start x.unclosed (counts_at x) ts neither s) ∙ e
 
-      within : (h : Head) → Further code x.at h → OpenWithin (stand_by x h)
-      within (Leaf n l) f = omega arith
-      within (Open n) f = omega (arith, f.0)
-      within Neither f = tt
+      within : (h : std.Option Head) → Further code x.at h → OpenWithin (stand_by x h)
+      within (Some (Leaf n l)) f = omega arith
+      within (Some (Open n)) f = omega (arith, f.0)
+      within None f = tt
 
-      fewer : (h : Head) → Further code x.at h → turns_left code (stand_by x h) < turns_left code (Before x)
-      fewer (Leaf n l) f = omega arith
-      fewer (Open n) f = omega (arith, f.0, f.1)
-      fewer Neither f = omega arith
+      fewer : (h : std.Option Head) → Further code x.at h → turns_left code (stand_by x h) < turns_left code (Before x)
+      fewer (Some (Leaf n l)) f = omega arith
+      fewer (Some (Open n)) f = omega (arith, f.0, f.1)
+      fewer None f = omega arith
 
 -- ---- a turn behind a term, by the kind of the token there
 
@@ -219,20 +221,3 @@ scan-ends code Failed g f A ts h = go (read_policy ts) (f A ts h)
     go : (o : Option Policy) → none ≡ (o >>= λ p. some (counts_of p)) → Counted Failed o
     go none e = tt
     go (some p) e = none-is-some e
-
--- one term more, by the counts that were computed
-pub leaf-counted : (x : Reached) (next set t n d l : ℕ) → t ≡ min 17 (x.terms + 1) → n ≡ min 9 x.unclosed → d ≡ max x.depth n
-    → l ≡ max x.largest set → ◌≡◌ {A = Reached} (record { at = next; unclosed = x.unclosed; terms = t; depth = d; largest = l }) (with_leaf x next set)
-leaf-counted x next set t n d l e f g h =
-    let k : d ≡ max x.depth (min 9 x.unclosed) = g ∙ ap (max x.depth) f in
-    λ i. record { at = next; unclosed = x.unclosed; terms = e i; depth = k i; largest = h i }
-
-module _ (x : Reached) (h : Head) where
-  pub stand-leaf : (n l : ℕ) → h ≡ Leaf n l → (r : Reached) → r ≡ with_leaf x n l → Behind r ≡ stand_by x h
-  stand-leaf n l e r f = ap Behind f ∙ ap (stand_by x) (sym e)
-
-  pub stand-open : (n : ℕ) → h ≡ Open n → (r : Reached) → r ≡ moved_to x n (x.unclosed + 1) → Before r ≡ stand_by x h
-  stand-open n e r f = ap Before f ∙ ap (stand_by x) (sym e)
-
-  pub open-below : (n : ℕ) → h ≡ Open n → OpenBefore x h → x.unclosed < n
-  open-below n e o = subst (OpenBefore x) e o

@@ -5,6 +5,8 @@ use mathlib.Core.Bool.{Bool, true, false}
 use mathlib.Core.List.{List, [], ◌∷◌, ◌++◌}
 use mathlib.Core.Option.{Option, none, some, some-injective}
 use native.Mathlib.Omega.{arith}
+use Rattle.std.specs.Prelude as std
+use Rattle.std.specs.Prelude.{Some, None}
 use lib.Dec.{eqb, leb, ltb}
 use lib.ListN.{length, get_or}
 use borrow.Author.Tests.{eq-eqb, ne_eqb}
@@ -24,12 +26,12 @@ use Rattle.text.specs.Values.{atom_words}
 use Rattle.rows.specs.Rows.{number_or}
 use Rattle.tokens.specs.RuleCode.{encode_token, rule_code, Coded, size, unknown_number}
 use Rattle.tokens.proofs.RuleCode.{size-carried, code-cons, coded-within, name-here, name-number, str-length}
-use Rattle.values.specs.declared.Operand.{Operand}
 use Rattle.values.specs.Operands.{operand, no_values, row_type, constants_from, Stands, values_from, first_of, attribute_operand}
 use Rattle.values.proofs.RuleConstants.{step, none-behind}
+use Rattle.policy.specs.declared.Meant.TheVariants.{Constants as MeantConstants, Attribute}
 use Rattle.policy.specs.declared.Var.{Var}
 use Rattle.policy.specs.declared.Constants.{Constants}
-use Rattle.policy.specs.Readers.{Lending, lent_with, Asked, From, VarReads, VarAnswers, Vars, SetVars, ConstantEnds, of_kind, ItemsAnswers, ItemsFrom}
+use Rattle.policy.specs.Readers.{Lending, lent_with, Asked, From, VarReads, VarAnswers, Past, Vars, SetVars, ConstantEnds, of_kind, EndsWithin, ItemsAnswers, ItemsFrom}
 use Rattle.policy.proofs.CodeFronts.{inside, told, ended, mark_on, mark-off, constant-off}
 
 -- ---- one constant
@@ -164,28 +166,35 @@ module _ (t : Token) (a : Atom) (e : as_constant t ≡ some a) where
   items-neither (u ∷ ts) f g =
       rw e (ap₂ (λ (w x : Option (List Token)). elim w as (λ _. Option (List Atom × List Token)) [ some rest ↦ some (a ∷ [], rest) | none ↦ x >>= λ rest. read_items ts >>= λ (l, rest). some (a ∷ l, rest) ]) f g)
 
+-- constants, and n more before them; no further than is needed to see that the limit is passed
+abbrev n_more : ℕ → std.Option Constants → std.Option Constants
+n_more n None = None
+n_more n (Some r) = Some (record { atoms = min 9 (n + r.atoms); end = r.end })
+
+abbrev one_more : std.Option Constants → std.Option Constants
+one_more None = None
+one_more (Some r) = Some (record { atoms = min 9 (r.atoms + 1); end = r.end })
+
 -- an atom of the kind is followed by others of it
 of-kind-cons : (kind : ℕ) (a : Atom) (l : List Atom) → kind ≡ type_code (type_of a) → all_of (of_kind kind) (a ∷ l) ≡ all_of (of_kind kind) l
 of-kind-cons kind a l e =
     ap (λ (b : Bool). elim b as (λ _. Bool) [ true ↦ all_of (of_kind kind) l | false ↦ false ]) (eq-eqb (type_code (type_of a)) kind (sym e))
 
 module _ (code : Bytes) (kind at : ℕ) where
-  pub items-short : (r : Constants) → r.ok ≡ false → length code ≤ at → ItemsFrom code kind at r
-  items-short r e l = record { further = λ t. false-is-true (sym e ∙ t); answers = λ lo hi A ts f. absurd (omega (arith, coded-within f.coded)) }
+  pub items-short : length code ≤ at → ItemsFrom code kind at None
+  items-short l = record { within = tt; answers = λ lo hi A ts f. absurd (omega (arith, coded-within f.coded)) }
 
-  pub items-other : (r : Constants) → r.ok ≡ false → (get_or code at 0 ≡ kind → ⊥) → ItemsFrom code kind at r
-  items-other r e n = record { further = λ t. false-is-true (sym e ∙ t); answers = λ lo hi A ts f. go A ts f }
+  pub items-other : (get_or code at 0 ≡ kind → ⊥) → ItemsFrom code kind at None
+  items-other n = record { within = tt; answers = λ lo hi A ts f. go A ts f }
     where
-      go : (A : Asked) (ts : List Token) → From code A at ts → ItemsAnswers code A kind at r (read_items ts)
-      go A [] f = e
+      go : (A : Asked) (ts : List Token) → From code A at ts → ItemsAnswers code A kind at None (read_items ts)
+      go A [] f = tt
       go A (t ∷ ts) f = case (as_constant t) refl
         where
-          case : (o : Option Atom) → as_constant t ≡ o → ItemsAnswers code A kind at r (read_items (t ∷ ts))
-          case none q = subst (ItemsAnswers code A kind at r) (sym (items-not t ts q)) e
-          case (some a) q = items-from t a q (ItemsAnswers code A kind at r) e (λ l rest. (
-            e ∙ sym (ap (λ (b : Bool). elim b as (λ _. Bool) [ true ↦ all_of (of_kind kind) l | false ↦ false ]) (ne_eqb (type_code (type_of a)) kind (λ z. n ((told f).kind-is ∙ kind-of a t q ∙ z)))),
-            λ z. false-is-true (sym e ∙ z),
-          )) ts
+          case : (o : Option Atom) → as_constant t ≡ o → ItemsAnswers code A kind at None (read_items (t ∷ ts))
+          case none q = subst (ItemsAnswers code A kind at None) (sym (items-not t ts q)) tt
+          case (some a) q = items-from t a q (ItemsAnswers code A kind at None) tt (λ l rest.
+              ap (λ (b : Bool). elim b as (λ _. Bool) [ true ↦ all_of (of_kind kind) l | false ↦ false ]) (ne_eqb (type_code (type_of a)) kind (λ z. n ((told f).kind-is ∙ kind-of a t q ∙ z)))) ts
 
   module _ (q : get_or code at 0 ≡ kind) (end k : ℕ) (E : ConstantEnds code kind at end) (h : k ≡ get_or code end 0) where
     pub items-within : 0 < k → end < length code
@@ -194,122 +203,108 @@ module _ (code : Bytes) (kind at : ℕ) where
     front : 1 ≤ kind → kind ≤ 2 → (A : Asked) (ts : List Token) → From code A at ts → Constant code A kind at end ts
     front lo hi A ts f = constant-on code kind at end (sym q) E lo hi A ts f
 
-    pub items-last : k ≡ 8 → ItemsFrom code kind at (record { ok = true; atoms = 1; end = end })
+    pub items-last : k ≡ 8 → ItemsFrom code kind at (Some (record { atoms = 1; end = end }))
     items-last z = record {
-      further = λ _. (E.further, items-within (omega arith));
+      within = (E.further, items-within (omega arith));
       answers = λ lo hi A ts f.
-          let r : Constants = record { ok = true; atoms = 1; end = end } in
+          let r : std.Option Constants = Some (record { atoms = 1; end = end }) in
           let c = front lo hi A ts f in
           let b = mark_on Mark.rbrace code A end c.rest c.behind (sym h ∙ z) in
           let w = items-within (omega arith) in
           let k : kind ≡ type_code (type_of c.atom) = c.kind-is ∙ kind-of c.atom c.token c.is in
-          let o : all_of (of_kind kind) (c.atom ∷ []) ≡ true = of-kind-cons kind c.atom [] k in
           subst (λ us. ItemsAnswers code A kind at r (read_items us)) (sym (c.split ∙ ap (λ us. c.token ∷ us) b.split))
-          (subst (ItemsAnswers code A kind at r) (sym (items-end c.token c.atom c.is b.rest)) (
-            sym o,
-            λ _. record {
-              behind = b.behind;
-              atom-count = refl;
-              some-atoms = omega arith;
-              of-kind = o;
-              coded = λ v. constant-only code A kind at end (omega arith) v c.atom c.token c.rest c.is k c.from c.ends;
-              written = λ v. all_cons is_atom c.atom [] (written-atom c.atom c.token c.is ((told c.from).written v)) refl;
-            },
-          ));
+          (subst (ItemsAnswers code A kind at r) (sym (items-end c.token c.atom c.is b.rest)) (record {
+            behind = b.behind;
+            atom-count = refl;
+            some-atoms = omega arith;
+            of-kind = of-kind-cons kind c.atom [] k;
+            coded = λ v. constant-only code A kind at end (omega arith) v c.atom c.token c.rest c.is k c.from c.ends;
+            written = λ v. all_cons is_atom c.atom [] (written-atom c.atom c.token c.is ((told c.from).written v)) refl;
+          }));
     }
 
-    pub items_more : (r : Constants) (n : ℕ) → k ≡ 9 → ItemsFrom code kind (end + 1) r → n ≡ min 9 (r.atoms + 1)
-        → ItemsFrom code kind at (record { ok = r.ok; atoms = n; end = r.end })
-    items_more r n z R m = record {
-      further = λ t. let (x, y) = R.further t in (omega (arith, E.further), y);
+    pub items_more : (r : std.Option Constants) → ItemsFrom code kind (end + 1) r → k ≡ 9 → ItemsFrom code kind at (one_more r)
+    items_more r R z = record {
+      within = ends r R.within;
       answers = λ lo hi A ts f.
-          let p : Constants = record { ok = r.ok; atoms = n; end = r.end } in
           let c = front lo hi A ts f in
           let b = mark_on Mark.comma code A end c.rest c.behind (sym h ∙ z) in
-          subst (λ us. ItemsAnswers code A kind at p (read_items us)) (sym (c.split ∙ ap (λ us. c.token ∷ us) b.split))
-          (subst (ItemsAnswers code A kind at p) (sym (items-next c.token c.atom c.is b.rest))
-          (go A ts c (read_items b.rest) (R.answers lo hi A b.rest b.behind)));
+          subst (λ us. ItemsAnswers code A kind at (one_more r) (read_items us)) (sym (c.split ∙ ap (λ us. c.token ∷ us) b.split))
+          (subst (ItemsAnswers code A kind at (one_more r)) (sym (items-next c.token c.atom c.is b.rest))
+          (go r R.within A ts c (read_items b.rest) (R.answers lo hi A b.rest b.behind)));
     }
       where
-        go : (A : Asked) (ts : List Token) (c : Constant code A kind at end ts) (o : Option (List Atom × List Token)) → ItemsAnswers code A kind (end + 1) r o
-            → ItemsAnswers code A kind at (record { ok = r.ok; atoms = n; end = r.end }) (o >>= λ (l, left). some (c.atom ∷ l, left))
-        go A ts c none a = a
-        go A ts c (some (l, left)) a =
-            let k : kind ≡ type_code (type_of c.atom) = c.kind-is ∙ kind-of c.atom c.token c.is in (
-              a.0 ∙ sym (of-kind-cons kind c.atom l k),
-              λ t.
-                  let (x, y) = R.further t in
-                  let i = a.1 t in
-                  let s : at + size c.token + 1 ≡ end + 1 = omega (arith, c.ends) in
-                  record {
-                    behind = i.behind;
-                    atom-count = omega (arith, m, i.atom-count);
-                    some-atoms = omega arith;
-                    of-kind = of-kind-cons kind c.atom l k ∙ i.of-kind;
-                    coded = λ v.
-                        constant-first code A kind at r.end (omega arith) v c.atom c.token c.rest c.is k c.from (omega (arith, c.ends))
-                        ∙ ap (λ (l : List Words). atom_words c.atom ∷ l) (ap (constants_from kind code r.end) s ∙ i.coded v);
-                    written = λ v. all_cons is_atom c.atom l (written-atom c.atom c.token c.is ((told c.from).written v)) (i.written v);
-                  },
-            )
+        ends : (r : std.Option Constants) → EndsWithin code (end + 1) r → EndsWithin code at (one_more r)
+        ends (Some x) (a, b) = (omega (arith, E.further), b)
+        ends None e = tt
 
-    pub items-off : (r : Constants) → r.ok ≡ false → (k ≡ 8 → ⊥) → (k ≡ 9 → ⊥) → ItemsFrom code kind at r
-    items-off r e x y = record {
-      further = λ t. false-is-true (sym e ∙ t);
+        go : (r : std.Option Constants) → EndsWithin code (end + 1) r → (A : Asked) (ts : List Token) (c : Constant code A kind at end ts)
+            (o : Option (List Atom × List Token)) → ItemsAnswers code A kind (end + 1) r o
+            → ItemsAnswers code A kind at (one_more r) (o >>= λ (l, left). some (c.atom ∷ l, left))
+        go None w A ts c none a = tt
+        go None w A ts c (some (l, left)) a = of-kind-cons kind c.atom l (c.kind-is ∙ kind-of c.atom c.token c.is) ∙ a
+        go (Some r) w A ts c none a = absurd a
+        go (Some r) (x, y) A ts c (some (l, left)) i =
+            let k : kind ≡ type_code (type_of c.atom) = c.kind-is ∙ kind-of c.atom c.token c.is in
+            let s : at + size c.token + 1 ≡ end + 1 = omega (arith, c.ends) in
+            record {
+              behind = i.behind;
+              atom-count = omega (arith, i.atom-count);
+              some-atoms = omega arith;
+              of-kind = of-kind-cons kind c.atom l k ∙ i.of-kind;
+              coded = λ v.
+                  constant-first code A kind at r.end (omega arith) v c.atom c.token c.rest c.is k c.from (omega (arith, c.ends))
+                  ∙ ap (λ (l : List Words). atom_words c.atom ∷ l) (ap (constants_from kind code r.end) s ∙ i.coded v);
+              written = λ v. all_cons is_atom c.atom l (written-atom c.atom c.token c.is ((told c.from).written v)) (i.written v);
+            }
+
+    pub items-off : (k ≡ 8 → ⊥) → (k ≡ 9 → ⊥) → ItemsFrom code kind at None
+    items-off x y = record {
+      within = tt;
       answers = λ lo hi A ts f.
           let c = front lo hi A ts f in
-          subst (λ us. ItemsAnswers code A kind at r (read_items us)) (sym c.split)
-          (subst (ItemsAnswers code A kind at r) (sym (items-neither c.token c.atom c.is c.rest
-          (mark-off Mark.rbrace code A end c.rest c.behind (λ w. x (h ∙ w))) (mark-off Mark.comma code A end c.rest c.behind (λ w. y (h ∙ w))))) e);
+          subst (λ us. ItemsAnswers code A kind at None (read_items us)) (sym c.split)
+          (subst (ItemsAnswers code A kind at None) (sym (items-neither c.token c.atom c.is c.rest
+          (mark-off Mark.rbrace code A end c.rest c.behind (λ w. x (h ∙ w))) (mark-off Mark.comma code A end c.rest c.behind (λ w. y (h ∙ w))))) tt);
     }
 
 -- ---- the constants of a set, one after another
 
--- r, of n constants that were passed and those of q
-abbrev Behind : ℕ → Constants → Constants → Type 0
-Behind n q r = (r.ok ≡ q.ok) × (q.ok ≡ true → (r.end ≡ q.end) × (r.atoms ≡ min 9 (n + q.atoms)))
-
 -- what is read from `at` on tells what is read from `first` on, n constants before
 abbrev pub Passed : Bytes → ℕ → ℕ → ℕ → ℕ → Type 0
-Passed code kind first at n = (q r : Constants) → Behind n q r → ItemsFrom code kind at q → ItemsFrom code kind first r
+Passed code kind first at n = (r : std.Option Constants) → ItemsFrom code kind at r → ItemsFrom code kind first (n_more n r)
 
 module _ (code : Bytes) (kind at : ℕ) where
   pub none_passed : Passed code kind at at 0
-  none_passed q r (e, f) Q = record {
-    further = λ t. subst (λ (k : ℕ). (at < k) × (k < length code)) (sym (f (sym e ∙ t)).0) (Q.further (sym e ∙ t));
-    answers = λ lo hi A ts g. go A (read_items ts) (Q.answers lo hi A ts g);
-  }
+  none_passed None R = R
+  none_passed (Some r) R = record { within = R.within; answers = λ lo hi A ts g. go A (read_items ts) (R.answers lo hi A ts g) }
     where
-      go : (A : Asked) (o : Option (List Atom × List Token)) → ItemsAnswers code A kind at q o → ItemsAnswers code A kind at r o
-      go A none a = e ∙ a
-      go A (some y) a = (
-        e ∙ a.0,
-        λ t.
-            let i = a.1 (sym e ∙ t) in
-            let (s, n) = f (sym e ∙ t) in
-            record {
-              behind = subst (λ (k : ℕ). From code A (k + 1) y.1) (sym s) i.behind;
-              atom-count = omega (arith, n, i.atom-count);
-              some-atoms = i.some-atoms;
-              of-kind = i.of-kind;
-              coded = λ v. ap (λ (k : ℕ). constants_from kind code k at) s ∙ i.coded v;
-              written = i.written;
-            },
-      )
+      go : (A : Asked) (o : Option (List Atom × List Token)) → ItemsAnswers code A kind at (Some r) o → ItemsAnswers code A kind at (n_more 0 (Some r)) o
+      go A none a = absurd a
+      go A (some y) i = record {
+        behind = i.behind;
+        atom-count = omega (arith, i.atom-count);
+        some-atoms = i.some-atoms;
+        of-kind = i.of-kind;
+        coded = i.coded;
+        written = i.written;
+      }
 
 module _ (code : Bytes) (kind first at n : ℕ) (P : Passed code kind first at n) where
-  pub no-constant : (r : Constants) → r.ok ≡ false → ItemsFrom code kind at r → ItemsFrom code kind first r
-  no-constant r e R = P r r (refl, λ t. false-is-true (sym e ∙ t)) R
+  pub no-constant : ItemsFrom code kind at None → ItemsFrom code kind first None
+  no-constant R = P None R
 
   module _ (q : get_or code at 0 ≡ kind) (end k m : ℕ) (E : ConstantEnds code kind at end) (h : k ≡ get_or code end 0) (j : m ≡ min 9 (n + 1)) where
-    pub last-constant : k ≡ 8 → ItemsFrom code kind first (record { ok = true; atoms = m; end = end })
+    pub last-constant : k ≡ 8 → ItemsFrom code kind first (Some (record { atoms = m; end = end }))
     last-constant z =
-        P (record { ok = true; atoms = 1; end = end }) (record { ok = true; atoms = m; end = end }) (refl, λ _. (refl, j)) (items-last code kind at q end k E h z)
+        subst (λ (i : ℕ). ItemsFrom code kind first (Some (record { atoms = i; end = end }))) (sym j)
+        (P (Some (record { atoms = 1; end = end })) (items-last code kind at q end k E h z))
 
     pub constant-passed : k ≡ 9 → Passed code kind first (end + 1) m
-    constant-passed z p r (e, f) R =
-        P (record { ok = p.ok; atoms = min 9 (p.atoms + 1); end = p.end }) r (e, λ t. ((f t).0, let i = (f t).1 in omega arith))
-        (items_more code kind at q end k E h p (min 9 (p.atoms + 1)) z R refl)
+    constant-passed z None R = P None (items_more code kind at q end k E h None R z)
+    constant-passed z (Some r) R =
+        subst (λ (i : ℕ). ItemsFrom code kind first (Some (record { atoms = i; end = r.end }))) (omega (arith, j))
+        (P (one_more (Some r)) (items_more code kind at q end k E h (Some r) R z))
 
 -- ---- a set
 
@@ -346,52 +341,48 @@ module _ (code : Bytes) (at k : ℕ) (e : k ≡ get_or code at 0) where
           subst (λ (x : List Atom × List Token). one_type x.0 ≡ all_of (of_kind k) x.0) (some-injective (a ∷ l, rest) y z)
           (same-types a l ∙ ap (λ (i : ℕ). all_of (of_kind i) l) (sym s) ∙ sym (of-kind-cons k a l s))) ts
 
-  pub set-none : (v : Var) → (v.ok ≡ false) × (v.next ≡ at) → (1 ≤ k → k ≤ 2 → ⊥) → SetVars code at v
+  pub set-none : (1 ≤ k → k ≤ 2 → ⊥) → SetVars code at None
   unfolding read_set
-  set-none v x n = record { further = omega (arith, x.1); answers = λ L A ts f. go L A ts f }
+  set-none n = record { past = tt; answers = λ L A ts f. go L A ts f }
     where
-      go : (L : Lending) (A : Asked) (ts : List Token) → From code A at ts → VarAnswers code L A v (read_set ts)
-      go L A [] f = x.0
+      go : (L : Lending) (A : Asked) (ts : List Token) → From code A at ts → VarAnswers code L A None (read_set ts)
+      go L A [] f = tt
       go L A (t ∷ ts) f =
-          subst (λ o. VarAnswers code L A v (o >>= λ (l, rest). only_if (one_type l) (constants l, rest)))
-          (sym (items-not t ts (constant-off code A at t ts f (λ a b. n (omega arith) (omega arith))))) x.0
+          subst (λ o. VarAnswers code L A None (o >>= λ (l, rest). only_if (one_type l) (constants l, rest)))
+          (sym (items-not t ts (constant-off code A at t ts f (λ a b. n (omega arith) (omega arith))))) tt
 
-  module _ (lo : 1 ≤ k) (hi : k ≤ 2) (r : Constants) (R : ItemsFrom code k at r) where
-    pub set-off : (v : Var) → (v.ok ≡ false) × (v.next ≡ at) → r.ok ≡ false → SetVars code at v
+  module _ (lo : 1 ≤ k) (hi : k ≤ 2) where
+    pub set-off : ItemsFrom code k at None → SetVars code at None
     unfolding read_set
-    set-off v x z = record { further = omega (arith, x.1); answers = λ L A ts f. go L A (read_items ts) (R.answers lo hi A ts f) (one_type_lem lo hi A ts f) }
+    set-off R = record { past = tt; answers = λ L A ts f. go L A (read_items ts) (R.answers lo hi A ts f) (one_type_lem lo hi A ts f) }
       where
-        go : (L : Lending) (A : Asked) (o : Option (List Atom × List Token)) → ItemsAnswers code A k at r o
+        go : (L : Lending) (A : Asked) (o : Option (List Atom × List Token)) → ItemsAnswers code A k at None o
             → ((y : List Atom × List Token) → o ≡ some y → one_type y.0 ≡ all_of (of_kind k) y.0)
-            → VarAnswers code L A v (o >>= λ (l, rest). only_if (one_type l) (constants l, rest))
-        go L A none a s = x.0
-        go L A (some y) a s =
-            subst (λ (b : Bool). VarAnswers code L A v (only_if b (constants y.0, y.1))) (sym (s y refl ∙ sym a.0 ∙ z)) x.0
+            → VarAnswers code L A None (o >>= λ (l, rest). only_if (one_type l) (constants l, rest))
+        go L A none a s = tt
+        go L A (some y) a s = subst (λ (b : Bool). VarAnswers code L A None (only_if b (constants y.0, y.1))) (sym (s y refl ∙ a)) tt
 
-    pub set_on : (o : Operand) → o ≡ operand k 2 at r.end → r.ok ≡ true → SetVars code at (record { ok = true; operand = o; atoms = r.atoms; next = r.end + 1 })
+    pub set_on : (r : Constants) → ItemsFrom code k at (Some r)
+        → SetVars code at (Some (record { meant = MeantConstants k at r.end; atoms = r.atoms; next = r.end + 1 }))
     unfolding read_set values_from first_of
-    set_on o p z = record {
-      further = let w = R.further z in omega (arith, w.0);
+    set_on r R = record {
+      past = omega (arith, R.within.0);
       answers = λ L A ts f. go L A (read_items ts) (R.answers lo hi A ts f) (one_type_lem lo hi A ts f);
     }
       where
-        go : (L : Lending) (A : Asked) (w : Option (List Atom × List Token)) → ItemsAnswers code A k at r w
+        go : (L : Lending) (A : Asked) (w : Option (List Atom × List Token)) → ItemsAnswers code A k at (Some r) w
             → ((y : List Atom × List Token) → w ≡ some y → one_type y.0 ≡ all_of (of_kind k) y.0)
-            → VarAnswers code L A (record { ok = true; operand = o; atoms = r.atoms; next = r.end + 1 }) (w >>= λ (l, rest). only_if (one_type l) (constants l, rest))
-        go L A none a s = false-is-true (sym a ∙ z)
-        go L A (some y) a s =
-            let i = a.1 z in
-            subst (λ (b : Bool). VarAnswers code L A (record { ok = true; operand = o; atoms = r.atoms; next = r.end + 1 }) (only_if b (constants y.0, y.1)))
-            (sym (s y refl ∙ i.of-kind)) (
-              refl,
-              record {
-                behind = i.behind;
-                atom-count = i.atom-count;
-                some-atoms = i.some-atoms;
-                near = let w = R.further z in rw p (omega (arith, w.0, w.1), omega (arith, w.1));
-                stands = λ v read g. subst (λ (j : Operand). Stands (lent_with code L) j y.0) (sym p) (record { coded = i.coded v; typed = i.of-kind; written = i.written v });
-              },
-            )
+            → VarAnswers code L A (Some (record { meant = MeantConstants k at r.end; atoms = r.atoms; next = r.end + 1 })) (w >>= λ (l, rest). only_if (one_type l) (constants l, rest))
+        go L A none a s = absurd a
+        go L A (some y) i s =
+            subst (λ (b : Bool). VarAnswers code L A (Some (record { meant = MeantConstants k at r.end; atoms = r.atoms; next = r.end + 1 })) (only_if b (constants y.0, y.1)))
+            (sym (s y refl ∙ i.of-kind)) (record {
+              behind = i.behind;
+              atom-count = i.atom-count;
+              some-atoms = i.some-atoms;
+              near = λ rows. (omega (arith, R.within.0, R.within.1), omega (arith, R.within.1));
+              stands = λ v read g. record { coded = i.coded v; typed = i.of-kind; written = i.written v };
+            })
 
 -- ---- a var
 
@@ -408,91 +399,89 @@ operand-near rows k = go (ltb k 32) (eqb (get_or rows (8 * k) 0) 0) (leb (get_or
     go true false false = (omega arith, omega arith)
     go false b c = (omega arith, omega arith)
 
-constant-read : (code : Bytes) (L : Lending) (A : Asked) (v : Var) → v.ok ≡ true → (t : Token) (a : Atom) (rest : List Token) → as_constant t ≡ some a
-    → VarReads code L A v (constants (a ∷ [])) rest → VarAnswers code L A v (read_var (t ∷ rest))
-constant-read code L A v o (name x n) a rest q r = none-is-some q
-constant-read code L A v o (int n) a rest q r =
-    (o, subst (λ (b : Atom). VarReads code L A v (constants (b ∷ [])) rest) (sym (some-injective (Atom.int n) a q)) r)
-constant-read code L A v o (str n) a rest q r =
-    (o, subst (λ (b : Atom). VarReads code L A v (constants (b ∷ [])) rest) (sym (some-injective (Atom.str n) a q)) r)
-constant-read code L A v o (truth x) a rest q r = none-is-some q
-constant-read code L A v o (operator x) a rest q r = none-is-some q
-constant-read code L A v o (mark x) a rest q r = none-is-some q
+constant-read : (code : Bytes) (L : Lending) (A : Asked) (v : Var) (t : Token) (a : Atom) (rest : List Token) → as_constant t ≡ some a
+    → VarReads code L A v (constants (a ∷ [])) rest → VarAnswers code L A (Some v) (read_var (t ∷ rest))
+constant-read code L A v (name x n) a rest q r = none-is-some q
+constant-read code L A v (int n) a rest q r =
+    subst (λ (b : Atom). VarReads code L A v (constants (b ∷ [])) rest) (sym (some-injective (Atom.int n) a q)) r
+constant-read code L A v (str n) a rest q r =
+    subst (λ (b : Atom). VarReads code L A v (constants (b ∷ [])) rest) (sym (some-injective (Atom.str n) a q)) r
+constant-read code L A v (truth x) a rest q r = none-is-some q
+constant-read code L A v (operator x) a rest q r = none-is-some q
+constant-read code L A v (mark x) a rest q r = none-is-some q
 
-module _ (code : Bytes) (rows : List ℕ) (at k : ℕ) (e : k ≡ get_or code at 0) where
+module _ (code : Bytes) (at k : ℕ) (e : k ≡ get_or code at 0) where
   pub var-within : 0 < k → at < length code
   var-within h = inside code at (omega arith)
 
-  pub var-constant : 1 ≤ k → k ≤ 2 → (end : ℕ) → ConstantEnds code k at end → (o : Operand) → o ≡ operand k 2 at end
-      → Vars code rows at (record { ok = true; operand = o; atoms = 1; next = end })
+  pub var-constant : 1 ≤ k → k ≤ 2 → (end : ℕ) → ConstantEnds code k at end
+      → Vars code at (Some (record { meant = MeantConstants k at end; atoms = 1; next = end }))
   unfolding values_from first_of
-  var-constant lo hi end E o p = record {
-    further = let w = E.further in omega arith;
-    passes = λ _. E.further;
-    answers = λ L q A ts f.
+  var-constant lo hi end E = record {
+    past = E.further;
+    answers = λ L A ts f.
+        let v : Var = record { meant = MeantConstants k at end; atoms = 1; next = end } in
         let c = constant-on code k at end e E lo hi A ts f in
         let s : k ≡ type_code (type_of c.atom) = c.kind-is ∙ kind-of c.atom c.token c.is in
-        subst (λ us. VarAnswers code L A (record { ok = true; operand = o; atoms = 1; next = end }) (read_var us)) (sym c.split)
-        (constant-read code L A (record { ok = true; operand = o; atoms = 1; next = end }) refl c.token c.atom c.rest c.is (record {
+        let w : at + size c.token < length code = (told c.from).within in
+        subst (λ us. VarAnswers code L A (Some v) (read_var us)) (sym c.split)
+        (constant-read code L A v c.token c.atom c.rest c.is (record {
           behind = c.behind;
           atom-count = refl;
           some-atoms = omega arith;
-          near = let w : at + size c.token < length code = (told c.from).within in rw p (omega arith, omega (arith, c.ends));
-          stands = λ v read g. subst (λ (j : Operand). Stands (lent_with code L) j (c.atom ∷ [])) (sym p) (record {
-            coded =
-                let w : at + size c.token < length code = (told c.from).within in
-                constant-only code A k at end (omega (arith, c.ends)) v c.atom c.token c.rest c.is s c.from c.ends;
+          near = λ rows. (omega arith, omega (arith, c.ends));
+          stands = λ v read g. record {
+            coded = constant-only code A k at end (omega (arith, c.ends)) v c.atom c.token c.rest c.is s c.from c.ends;
             typed = of-kind-cons k c.atom [] s;
             written = all_cons is_atom c.atom [] (written-atom c.atom c.token c.is ((told c.from).written v)) refl;
-          });
+          };
         }));
   }
 
-  pub var-name : k ≡ 4 → (n : ℕ) → n ≡ get_or code (at + 1) 0 → n < 256 → (o : Operand) → o ≡ attribute_operand rows n
-      → Vars code rows at (record { ok = true; operand = o; atoms = 0; next = at + 2 })
-  var-name z n m few o p = record {
-    further = omega arith;
-    passes = λ _. omega arith;
-    answers = λ L q A ts f.
+  pub var-name : k ≡ 4 → (n : ℕ) → n ≡ get_or code (at + 1) 0 → n < 256
+      → Vars code at (Some (record { meant = Attribute n; atoms = 0; next = at + 2 }))
+  var-name z n m few = record {
+    past = omega arith;
+    answers = λ L A ts f.
         let (s, x, us, g, c) = name-here f.coded (sym e ∙ z) in
         let h : From code A at (name s x ∷ us) = subst (From code A at) g f in
-        subst (λ us. VarAnswers code L A (record { ok = true; operand = o; atoms = 0; next = at + 2 }) (read_var us)) (sym g) (
-          refl,
-          record {
-            behind = (told h).behind;
-            atom-count = refl;
-            some-atoms = tt;
-            near = let w = operand-near rows n in rw p (omega (arith, w.0), omega (arith, w.1));
-            stands = λ v read r.
-                let (i, j) = declared (attribute_number A.declared s x) ((told h).known v) in
-                let d : n ≡ i = m ∙ name-number h.coded ∙ ap (number_or unknown_number) j in
-                subst (λ (w : Operand). Stands (lent_with code L) w (read s x)) (sym (p ∙ ap₂ attribute_operand (sym q) d)) (r s x i j);
-          },
-        );
+        subst (λ us. VarAnswers code L A (Some (record { meant = Attribute n; atoms = 0; next = at + 2 })) (read_var us)) (sym g) (record {
+          behind = (told h).behind;
+          atom-count = refl;
+          some-atoms = tt;
+          near = λ rows. (omega (arith, (operand-near rows n).0), omega (arith, (operand-near rows n).1));
+          stands = λ v read r.
+              let (i, j) = declared (attribute_number A.declared s x) ((told h).known v) in
+              let d : n ≡ i = m ∙ name-number h.coded ∙ ap (number_or unknown_number) j in
+              subst (λ (w : ℕ). Stands (lent_with code L) (attribute_operand L.attributes w) (read s x)) (sym d) (r s x i j);
+        });
   }
     where
       declared : (o : Option ℕ) → is_none o ≡ false → (i : ℕ) × (o ≡ some i)
       declared none w = false-is-true (sym w)
       declared (some i) w = (i, refl)
 
-  pub var-set : (v : Var) → k ≡ 7 → SetVars code (at + 1) v → Vars code rows at v
+  pub var-set : (v : std.Option Var) → k ≡ 7 → SetVars code (at + 1) v → Vars code at v
   var-set v z S = record {
-    further = let w = S.further in omega arith;
-    passes = λ _. let w = S.further in omega arith;
-    answers = λ L q A ts f.
+    past = past v S.past;
+    answers = λ L A ts f.
         let b = mark_on Mark.lbrace code A at ts f (sym e ∙ z) in
         subst (λ us. VarAnswers code L A v (read_var us)) (sym b.split) (S.answers L A b.rest b.behind);
   }
-
-  pub var-none : (v : Var) → (v.ok ≡ false) × (v.next ≡ at) → (1 ≤ k → k ≤ 2 → ⊥) → (k ≡ 4 → ⊥) → (k ≡ 7 → ⊥) → Vars code rows at v
-  var-none v x a b d = record { further = omega (arith, x.1); passes = λ ok. false-is-true (sym x.0 ∙ ok); answers = λ L q A ts f. go L A ts f }
     where
-      go : (L : Lending) (A : Asked) (ts : List Token) → From code A at ts → VarAnswers code L A v (read_var ts)
-      go L A [] f = x.0
+      past : (v : std.Option Var) → Past (at + 1) v → Past at v
+      past (Some v) l = omega arith
+      past None l = tt
+
+  pub var-none : (1 ≤ k → k ≤ 2 → ⊥) → (k ≡ 4 → ⊥) → (k ≡ 7 → ⊥) → Vars code at None
+  var-none a b d = record { past = tt; answers = λ L A ts f. go L A ts f }
+    where
+      go : (L : Lending) (A : Asked) (ts : List Token) → From code A at ts → VarAnswers code L A None (read_var ts)
+      go L A [] f = tt
       go L A (name y n ∷ ts) f = absurd (b (e ∙ (told f).kind-is))
       go L A (int n ∷ ts) f = absurd (a (omega (arith, e, (told f).kind-is)) (omega (arith, e, (told f).kind-is)))
       go L A (str n ∷ ts) f = absurd (a (omega (arith, e, (told f).kind-is)) (omega (arith, e, (told f).kind-is)))
-      go L A (truth y ∷ ts) f = x.0
-      go L A (operator y ∷ ts) f = x.0
+      go L A (truth y ∷ ts) f = tt
+      go L A (operator y ∷ ts) f = tt
       go L A (mark m ∷ ts) f =
-          subst (λ w. VarAnswers code L A v (w >>= read_set)) (sym (mark-off Mark.lbrace code A at (mark m ∷ ts) f (λ w. d (e ∙ w)))) x.0
+          subst (λ w. VarAnswers code L A None (w >>= read_set)) (sym (mark-off Mark.lbrace code A at (mark m ∷ ts) f (λ w. d (e ∙ w)))) tt

@@ -1,15 +1,17 @@
 -- Laws of a whole policy: whether one is read of its tokens, and the order of the refusals.
-use Prim.Native.Nat.{ℕ, suc, ◌+◌, ◌-◌, ◌*◌, ◌≤◌, ◌<◌, min}
+use Prim.Native.Nat.{ℕ, suc, ◌+◌, ◌-◌, ◌*◌, ◌<◌, min}
 use mathlib.Core.Path.{◌≡◌, refl, sym, ap, ap₂, subst, ◌∙◌}
-use mathlib.Core.Bool.{Bool, true, false, ◌||◌, not}
-use mathlib.Core.List.{List, [], ◌∷◌}
+use mathlib.Core.Bool.{Bool, true, false, ◌||◌}
+use mathlib.Core.List.{List, [], ◌∷◌, ◌++◌}
 use mathlib.Core.Option.{Option, none, some}
 use native.Mathlib.Omega.{arith}
+use Rattle.std.specs.Prelude as std
+use Rattle.std.specs.Prelude.{Some, None, Ok, Err}
 use native.Mathlib.Decide.{dec_lt}
-use lib.Dec.{eqb, ltb}
+use lib.Dec.{ltb}
 use lib.ListN.{length, get_or, drop}
 use lib.Seq.{drop-drop}
-use borrow.Author.Tests.{lt-ltb, le-ltb, eq-eqb, ne_eqb}
+use borrow.Author.Tests.{lt-ltb, le-ltb}
 use Rattle.model.specs.Notation.{◌>>=◌, is_none, any_of}
 use Rattle.model.specs.Numbers as refusal
 use Rattle.model.specs.Bytes.{Bytes}
@@ -19,39 +21,31 @@ use Rattle.model.specs.Grammar as grammar
 use Rattle.model.specs.Grammar.{Policy, policy_within, wholly, read_policy, too_large, terms, depth, largest_set}
 use Rattle.model.specs.Refusals.{◌if◌, first, unknown_name}
 use Rattle.model.proofs.WordTables.{false-is-true}
-use Rattle.codes.proofs.TokenKinds.{kind-range}
 use Rattle.model.specs.Standing.{WellDeclared}
 use Rattle.rows.specs.Rows.{AttributeRows}
 use Rattle.tokens.specs.declared.Encoded.{Encoded}
-use Rattle.tokens.specs.RuleCode.{Encodes}
+use Rattle.tokens.specs.declared.BadToken.{BadToken}
+use Rattle.tokens.specs.RuleCode.{rule_code, code_length, CodeOf, Encodes}
 use Rattle.tokens.proofs.RuleCode.{code-coded}
-use Rattle.policy.specs.declared.Reading.{Reading}
-use Rattle.policy.specs.declared.Reading.TheVariants.{Read, Malformed}
 use Rattle.policy.specs.declared.scan.Reached.{Reached}
 use Rattle.policy.specs.declared.scan.Stand.{Stand}
 use Rattle.policy.specs.declared.scan.Stand.TheVariants.{Before, Behind, Whole, Failed}
 use Rattle.policy.specs.Readers.{Asked, From, Answers, Policies}
-use Rattle.policy.specs.Judgements.{Ends, Counted, policy_tests, policy_number, Refuses, Judges}
+use Rattle.policy.specs.Judgements.{Counted, policy_tests, policy_number, Refuses, Judges}
 use Rattle.policy.specs.Scans.{Scans}
-use Rattle.policy.proofs.CodeFronts.{told, ended}
+use Rattle.policy.proofs.CodeFronts.{ended}
 
 -- ---- nothing behind a policy
 
-module _ (code : Bytes) (r : Reading) where
-  pub ends-none : r ≡ Malformed → Ends code r false
-  ends-none e A o a = go o (subst (λ (q : Reading). Answers code A q o) e a)
-    where
-      go : (o : grammar.Reading) → Answers code A Malformed o → is_none (o >>= wholly) ≡ true
-      go none a = refl
-      go (some y) a = absurd a
+module _ (code : Bytes) where
+  ends-none : (A : Asked) (o : grammar.Reading) → Answers code A None o → is_none (o >>= wholly) ≡ true
+  ends-none A none a = refl
+  ends-none A (some y) a = absurd a
 
-  pub ends_read : (n k : ℕ) → r ≡ Read n → k ≡ get_or code n 0 → Ends code r (eqb k 0)
-  ends_read n k e h A o a = go o (subst (λ (q : Reading). Answers code A q o) e a)
-    where
-      go : (o : grammar.Reading) → Answers code A (Read n) o → is_none (o >>= wholly) ≡ not (eqb k 0)
-      go none a = absurd a
-      go (some (p, [])) a = sym (ap not (eq-eqb k 0 (h ∙ ended a)))
-      go (some (p, t ∷ ts)) a = sym (ap not (ne_eqb k 0 (λ z. omega (arith, z, h, (told a).kind-is, kind-range t))))
+  ends_read : (n : ℕ) → (get_or code n 0 ≡ 0 → ⊥) → (A : Asked) (o : grammar.Reading) → Answers code A (Some n) o → is_none (o >>= wholly) ≡ true
+  ends_read n k A none a = absurd a
+  ends_read n k A (some (p, [])) a = absurd (k (ended a))
+  ends_read n k A (some (p, t ∷ ts)) a = refl
 
 -- ---- the limits
 
@@ -67,15 +61,6 @@ ltb-min k a = go (dec_lt k a)
 module _ (x : Reached) where
   abbrev over : Bool → Bool → Bool → Bool
   over a b c = a || b || c
-
-  pub over-terms : 16 < x.terms → true ≡ over (ltb 16 x.terms) (ltb 8 x.depth) (ltb 8 x.largest)
-  over-terms h = sym (ap (λ (a : Bool). over a (ltb 8 x.depth) (ltb 8 x.largest)) (lt-ltb 16 x.terms h))
-
-  pub over-depth : x.terms ≤ 16 → 8 < x.depth → true ≡ over (ltb 16 x.terms) (ltb 8 x.depth) (ltb 8 x.largest)
-  over-depth h i = sym (ap₂ (λ (a b : Bool). over a b (ltb 8 x.largest)) (le-ltb 16 x.terms h) (lt-ltb 8 x.depth i))
-
-  pub over-set : x.terms ≤ 16 → x.depth ≤ 8 → ltb 8 x.largest ≡ over (ltb 16 x.terms) (ltb 8 x.depth) (ltb 8 x.largest)
-  over-set h i = sym (ap₂ (λ (a b : Bool). over a b (ltb 8 x.largest)) (le-ltb 16 x.terms h) (le-ltb 8 x.depth i))
 
   large : (p : Policy) → Counted (Whole x) (some p)
       → over (ltb 16 x.terms) (ltb 8 x.depth) (ltb 8 x.largest) ≡ too_large p
@@ -121,48 +106,63 @@ module _ (s : Stand) (unknown : Bool) where
 
 -- ---- judging
 
-module _ (s : Bytes) (rows : List ℕ) (before after : Bytes) (c : Encoded) (E : Encodes s rows before after c) where
+module _ (s : Bytes) (rows : List ℕ) (before after : Bytes) (c : std.Result Encoded BadToken) (E : Encodes s rows before after c) where
   judges-by : (n : ℕ) → ((D : Declarations) → WellDeclared D → AttributeRows rows D → n ≡ policy_number D s) → Judges s rows before after n
   judges-by n f = record {
     number = f;
-    code = λ D ord ar ts e. (E.tokens D ord ar ts e).code;
+    code = λ D ord ar ts e. written D c E.bad ts e (E.tokens D ord ar ts e);
     long = E.long;
     behind =
-        let m : c.len + (3 * length s + 3 - c.len) ≡ 3 * length s + 3 = omega (arith, E.within) in
-        ap (λ (k : ℕ). drop k after) (sym m) ∙ sym (drop-drop (3 * length s + 3 - c.len) c.len after) ∙ ap (drop (3 * length s + 3 - c.len)) E.behind
-        ∙ drop-drop (3 * length s + 3 - c.len) c.len before ∙ ap (λ (k : ℕ). drop k before) m;
+        let l = code_length c in
+        let m : l + (3 * length s + 3 - l) ≡ 3 * length s + 3 = omega (arith, E.within) in
+        ap (λ (k : ℕ). drop k after) (sym m) ∙ sym (drop-drop (3 * length s + 3 - l) l after) ∙ ap (drop (3 * length s + 3 - l)) E.behind
+        ∙ drop-drop (3 * length s + 3 - l) l before ∙ ap (λ (k : ℕ). drop k before) m;
   }
+    where
+      written : (D : Declarations) (r : std.Result Encoded BadToken) → std.is_err r ≡ is_none (tokens_of s) → (ts : List Token) → tokens_of s ≡ some ts
+          → std.IfOk r (λ x. CodeOf D ts before after x) → after ≡ rule_code D ts ++ drop (length (rule_code D ts)) before
+      written D (Ok x) b ts e t = t.code
+      written D (Err x) b ts e t = false-is-true (sym (b ∙ ap is_none e))
 
-  pub judge-bad : c.bad ≡ true → Judges s rows before after refusal.malformed
+  pub judge-bad : (x : BadToken) → c ≡ Err x → Judges s rows before after refusal.malformed
   unfolding policy_number
-  judge-bad z = judges-by 6 (λ D ord ar. go D (tokens_of s) (sym E.bad ∙ z))
+  judge-bad x e = judges-by 6 (λ D ord ar. go D (tokens_of s) (sym E.bad ∙ ap std.is_err e))
     where
       go : (D : Declarations) (o : Option (List Token)) → is_none o ≡ true → refusal.malformed ≡ first (policy_tests D o (o >>= read_policy))
-      go D none e = refl
-      go D (some ts) e = false-is-true e
+      go D none f = refl
+      go D (some ts) f = false-is-true f
 
-  -- where it has tokens, by what is known of them
-  judge-coded : c.bad ≡ false → (n : ℕ)
-      → ((D : Declarations) (A : Asked) (ts : List Token) → From after A 0 ts → c.unknown ≡ any_of (unknown_name D) ts → n ≡ first (policy_tests D (some ts) (read_policy ts)))
-      → Judges s rows before after n
-  unfolding policy_number
-  judge-coded z n f = judges-by n (λ D ord ar. go D ord ar (tokens_of s) refl (sym E.bad ∙ z))
-    where
-      go : (D : Declarations) → WellDeclared D → AttributeRows rows D → (o : Option (List Token)) → tokens_of s ≡ o → is_none o ≡ false
-          → n ≡ first (policy_tests D o (o >>= read_policy))
-      go D ord ar none e b = false-is-true (sym b)
-      go D ord ar (some ts) e b =
-          let t = E.tokens D ord ar ts e in
-          f D (record { declared = D; valued = false }) ts (record { coded = code-coded t; written = λ v. false-is-true v; known = λ v. false-is-true v }) t.unknown
+  module _ (x : Encoded) (e : c ≡ Ok x) where
+    -- where it has tokens, by what is known of them
+    judge-coded : (n : ℕ)
+        → ((D : Declarations) (A : Asked) (ts : List Token) → From after A 0 ts → x.unknown ≡ any_of (unknown_name D) ts → n ≡ first (policy_tests D (some ts) (read_policy ts)))
+        → Judges s rows before after n
+    unfolding policy_number
+    judge-coded n f = judges-by n (λ D ord ar. go D ord ar (tokens_of s) refl (sym E.bad ∙ ap std.is_err e))
+      where
+        go : (D : Declarations) → WellDeclared D → AttributeRows rows D → (o : Option (List Token)) → tokens_of s ≡ o → is_none o ≡ false
+            → n ≡ first (policy_tests D o (o >>= read_policy))
+        go D ord ar none g b = false-is-true (sym b)
+        go D ord ar (some ts) g b =
+            let t : CodeOf D ts before after x = subst (λ (r : std.Result Encoded BadToken). std.IfOk r (λ y. CodeOf D ts before after y)) e (E.tokens D ord ar ts g) in
+            f D (record { declared = D; valued = false }) ts (record { coded = code-coded t; written = λ v. false-is-true v; known = λ v. false-is-true v }) t.unknown
 
-  pub judge-scanned : c.bad ≡ false → (q : Stand) → Scans after q → (n : ℕ) → Refuses q c.unknown n → Judges s rows before after n
-  judge-scanned z q S n R = judge-coded z n λ D A ts h u. R (read_policy ts) D ts (S A ts h) u
+    pub judge-scanned : (q : Stand) → Scans after q → (n : ℕ) → Refuses q x.unknown n → Judges s rows before after n
+    judge-scanned q S n R = judge-coded n λ D A ts h u. R (read_policy ts) D ts (S A ts h) u
 
-  pub judge-unread : c.bad ≡ false → (r : Reading) → Policies after 0 r → (b : Bool) → Ends after r b → b ≡ false → Judges s rows before after refusal.malformed
-  unfolding read_policy
-  judge-unread z r P b W n = judge-coded z refusal.malformed λ D A ts h u.
-      go D ts (read_policy ts) (W A (policy_within (3 * length ts + 3) ts) (P.answers A ts h (3 * length ts + 3) (omega arith)) ∙ ap not n)
-    where
-      go : (D : Declarations) (ts : List Token) (o : Option Policy) → is_none o ≡ true → refusal.malformed ≡ first (policy_tests D (some ts) o)
-      go D ts none e = refl
-      go D ts (some p) e = false-is-true e
+    -- what is read of a policy, where it is none
+    judge-by : (r : std.Option ℕ) → Policies after 0 r → ((A : Asked) (o : grammar.Reading) → Answers after A r o → is_none (o >>= wholly) ≡ true)
+        → Judges s rows before after refusal.malformed
+    unfolding read_policy
+    judge-by r P f = judge-coded refusal.malformed λ D A ts h u.
+        go D ts (read_policy ts) (f A (policy_within (3 * length ts + 3) ts) (P.answers A ts h (3 * length ts + 3) (omega arith)))
+      where
+        go : (D : Declarations) (ts : List Token) (o : Option Policy) → is_none o ≡ true → refusal.malformed ≡ first (policy_tests D (some ts) o)
+        go D ts none e = refl
+        go D ts (some p) e = false-is-true e
+
+    pub judge-unread : Policies after 0 None → Judges s rows before after refusal.malformed
+    judge-unread P = judge-by None P (ends-none after)
+
+    pub judge-more : (n k : ℕ) → Policies after 0 (Some n) → k ≡ get_or after n 0 → (k ≡ 0 → ⊥) → Judges s rows before after refusal.malformed
+    judge-more n k P h z = judge-by (Some n) P (ends_read after n (λ y. z (h ∙ y)))

@@ -1,25 +1,18 @@
 -- What is said of a whole policy: whether it is one, and whether it is accepted.
-use Rattle.std.specs.Prelude.{ℕ, ◌+◌, ◌*◌, min, ◌≡◌, Bool, not, List, [], ◌∷◌, ◌++◌, length, drop}
+use Rattle.std.specs.Prelude.{ℕ, ◌+◌, ◌*◌, min, ◌≡◌, Bool, List, [], ◌∷◌, ◌++◌, length, drop}
 use Rattle.std.proofs.Math.Option.{Option, none, some}
 use Rattle.model.specs.Numbers as refusal
 use Rattle.model.specs.Notation.{◌>>=◌, ◌is◌, is_none, any_of}
 use Rattle.model.specs.Bytes.{Bytes}
 use Rattle.model.specs.Declarations.{Declarations}
 use Rattle.model.specs.Tokens.{Token, tokens_of}
-use Rattle.model.specs.Grammar as grammar
-use Rattle.model.specs.Grammar.{Policy, wholly, read_policy, too_large, terms, depth, largest_set}
+use Rattle.model.specs.Grammar.{Policy, read_policy, too_large, terms, depth, largest_set}
 use Rattle.model.specs.Refusals.{Test, ◌if◌, first, unknown_name}
 use Rattle.model.specs.Standing.{WellDeclared}
 use Rattle.rows.specs.Rows.{AttributeRows}
 use Rattle.tokens.specs.RuleCode.{rule_code}
-use Rattle.policy.specs.declared.Reading.{Reading}
 use Rattle.policy.specs.declared.scan.Stand.{Stand}
 use Rattle.policy.specs.declared.scan.Stand.TheVariants.{Before, Behind, Whole, Failed}
-use Rattle.policy.specs.Readers.{Asked, Answers}
-
--- whether a policy was read, and nothing stands behind it
-abbrev pub Ends : Bytes → Reading → Bool → Type 0
-Ends code r b = (A : Asked) (o : grammar.Reading) → Answers code A r o → is_none (o >>= wholly) ≡ not b
 
 -- where the loop ends: whether there is a policy, and its counts, no further than is needed to see that a limit is passed
 abbrev pub Counted : Stand → Option Policy → Type 0

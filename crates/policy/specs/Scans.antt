@@ -1,5 +1,7 @@
 -- What the loop over a policy leaves to read: at each place, what the grammar makes of the tokens from there on, where so many parentheses are open.
 use Rattle.std.specs.Prelude.{ℕ, zero, suc, ◌+◌, ◌-◌, ◌*◌, ◌≤◌, ◌<◌, min, max, ◌≡◌, Bool, true, false, List, [], ◌∷◌, length}
+use Rattle.std.specs.Prelude as std
+use Rattle.std.specs.Prelude.{Some, None}
 use Rattle.std.proofs.Math.Option.{Option, none, some}
 use Rattle.model.specs.Notation.{◌>>=◌}
 use Rattle.model.specs.Bytes.{Bytes}
@@ -7,7 +9,7 @@ use Rattle.model.specs.Tokens.{Token, Mark}
 use Rattle.model.specs.Grammar as grammar
 use Rattle.model.specs.Grammar.{Policy, behind_mark, policy_within, read_policy, largest_set}
 use Rattle.policy.specs.declared.Head.{Head}
-use Rattle.policy.specs.declared.Head.TheVariants.{Leaf, Open, Neither}
+use Rattle.policy.specs.declared.Head.TheVariants.{Leaf, Open}
 use Rattle.policy.specs.declared.scan.Reached.{Reached}
 use Rattle.policy.specs.declared.scan.Stand.{Stand}
 use Rattle.policy.specs.declared.scan.Stand.TheVariants.{Before, Behind, Whole, Failed}
@@ -112,15 +114,15 @@ with_leaf x n l =
     record { at = n; unclosed = x.unclosed; terms = min 17 (x.terms + 1); depth = max x.depth (min 9 x.unclosed); largest = max x.largest l }
 
 -- by the head of a term
-abbrev pub stand_by : Reached → Head → Stand
-stand_by x (Leaf n l) = Behind (with_leaf x n l)
-stand_by x (Open n) = Before (moved_to x n (x.unclosed + 1))
-stand_by x Neither = Failed
+abbrev pub stand_by : Reached → std.Option Head → Stand
+stand_by x (Some (Leaf n l)) = Behind (with_leaf x n l)
+stand_by x (Some (Open n)) = Before (moved_to x n (x.unclosed + 1))
+stand_by x None = Failed
 
-abbrev pub OpenBefore : Reached → Head → Type 0
-OpenBefore x (Leaf n l) = Unit {0}
-OpenBefore x (Open n) = x.unclosed < n
-OpenBefore x Neither = Unit {0}
+abbrev pub OpenBefore : Reached → std.Option Head → Type 0
+OpenBefore x (Some (Leaf n l)) = Unit {0}
+OpenBefore x (Some (Open n)) = x.unclosed < n
+OpenBefore x None = Unit {0}
 
 -- where the loop ends says whether the tokens that the code holds are a policy, and its counts
 abbrev pub Scans : Bytes → Stand → Type 0

@@ -1,12 +1,13 @@
 // Judges a policy by one loop, in which a counter stands for the open parentheses: whether it is well formed, and its counts. So a policy whose
 // parentheses are too deep, or do not match, is refused before the readers that call each other begin.
-ghost use Rattle.std.specs.Prelude.{◌≡◌, ◌||◌, ◌+◌, min, ltb, length};
+ghost use Rattle.std.specs.Prelude.{◌≡◌, ◌||◌, ltb};
+ghost use Rattle.codes.specs.Enums.{number_in};
 ghost use Rattle.policy.specs.declared.scan.Stand.TheVariants.{Behind};
 ghost use Rattle.policy.specs.Judgements.{Refuses};
-ghost use Rattle.policy.specs.Scans.{Scans, Turns, OpenWithin, OpenBefore, goes, moved_to, with_leaf, stand_by};
+ghost use Rattle.policy.specs.Scans.{Scans, Turns, OpenWithin, OpenBefore, goes, with_leaf, stand_by};
 
 use crate::Head;
-use codes::{AND, END, MALFORMED, OR, OVER_LIMITS, RPAREN, UNDECLARED};
+use codes::{AND, END, OR, RPAREN, Refusal};
 
 // How far the loop has come: the place of the next token, the parentheses that are open there, and the counts of what was read: terms (17 for more
 // than 16), the depth of parentheses and the atoms of the largest set (9 for more than 8).
@@ -28,62 +29,32 @@ pub enum Stand {
     Failed,
 }
 
-fn one_term_more(n: u8) -> u8
-    ensures { result ≡ min 17 (n + 1) }
-{
-    if 17 <= n {
-        return 17;
-    }
-    n + 1
-}
-
-fn at_most_nine(n: usize) -> u8
-    ensures { result ≡ min 9 n }
-{
-    if 9 <= n {
-        return 9;
-    }
-    n as u8
-}
-
-// The same counts, at another place.
-fn moved(x: Reached, at: usize, unclosed: usize) -> Reached
-    ensures { result ≡ moved_to x at unclosed }
-{
-    Reached {
-        at,
-        unclosed,
-        terms: x.terms,
-        depth: x.depth,
-        largest: x.largest,
-    }
-}
-
 // One term more, without parentheses, that ends before `next`: it stands as deep as parentheses are open.
 fn counted(x: Reached, next: usize, set: u8) -> Reached
     ensures { result ≡ with_leaf x next set }
 {
-    let terms = one_term_more(x.terms);
-    let depth = crate::larger(x.depth, at_most_nine(x.unclosed));
-    let largest = crate::larger(x.largest, set);
     Reached {
         at: next,
-        unclosed: x.unclosed,
-        terms,
-        depth,
-        largest,
+        terms: x.terms.min(16) + 1,
+        depth: x.depth.max(x.unclosed.min(9) as u8),
+        largest: x.largest.max(set),
+        ..x
     }
 }
 
 // Behind the head of a term.
-fn behind_head(x: Reached, h: Head) -> Stand
+fn behind_head(x: Reached, h: Option<Head>) -> Stand
     requires { OpenBefore x h }
     ensures { result ≡ stand_by x h }
 {
     match h {
-        Head::Neither => Stand::Failed,
-        Head::Leaf(next, set) => Stand::Behind(counted(x, next, set)),
-        Head::Open(n) => Stand::Before(moved(x, n, x.unclosed + 1)),
+        Some(Head::Leaf(next, set)) => Stand::Behind(counted(x, next, set)),
+        Some(Head::Open(inner)) => Stand::Before(Reached {
+            at: inner,
+            unclosed: x.unclosed + 1,
+            ..x
+        }),
+        None => Stand::Failed,
     }
 }
 
@@ -92,55 +63,38 @@ fn behind_term(code: &[u8], x: Reached) -> Stand
     requires { OpenWithin (Behind x) }
     ensures { Turns code.now (Behind x) result }
 {
-    let k = crate::kind_at(code, x.at);
-    match k {
-        AND | OR => Stand::Before(moved(x, x.at + 1, x.unclosed)),
-        RPAREN => {
-            if x.unclosed == 0 {
-                return Stand::Failed;
-            }
-            Stand::Behind(moved(x, x.at + 1, x.unclosed - 1))
-        }
-        END => {
-            if x.unclosed == 0 {
-                return Stand::Whole(x);
-            }
-            Stand::Failed
-        }
+    match crate::kind_at(code, x.at) {
+        AND | OR => Stand::Before(Reached { at: x.at + 1, ..x }),
+        RPAREN if x.unclosed != 0 => Stand::Behind(Reached {
+            at: x.at + 1,
+            unclosed: x.unclosed - 1,
+            ..x
+        }),
+        END if x.unclosed == 0 => Stand::Whole(x),
         _ => Stand::Failed,
     }
 }
 
 // One turn of the loop, by what stands at the place.
-fn turn(code: &[u8], attributes: &[u64], s: Stand) -> Stand
-    requires { (length attributes.now ≡ 256) × OpenWithin s }
+fn turn(code: &[u8], s: Stand) -> Stand
+    requires { OpenWithin s }
     ensures { Turns code.now s result }
 {
     match s {
-        Stand::Before(x) => {
-            let h = crate::term_head(code, attributes, x.at);
-            behind_head(x, h)
-        }
+        Stand::Before(x) => behind_head(x, crate::term_head(code, x.at)),
         Stand::Behind(x) => behind_term(code, x),
-        Stand::Whole(x) => Stand::Whole(x),
-        Stand::Failed => Stand::Failed,
+        Stand::Whole(_) | Stand::Failed => s,
     }
 }
 
 fn is_going(s: Stand) -> bool
     ensures { result ≡ goes s }
 {
-    match s {
-        Stand::Before(_) => true,
-        Stand::Behind(_) => true,
-        Stand::Whole(_) => false,
-        Stand::Failed => false,
-    }
+    matches!(s, Stand::Before(_) | Stand::Behind(_))
 }
 
 // Whether the code holds a policy, and its counts: where the loop ends.
-pub fn scan(code: &[u8], attributes: &[u64]) -> Stand
-    requires { length attributes.now ≡ 256 }
+pub fn scan(code: &[u8]) -> Stand
     ensures { Scans code.now result }
 {
     let mut s = Stand::Before(Reached {
@@ -151,8 +105,7 @@ pub fn scan(code: &[u8], attributes: &[u64]) -> Stand
         largest: 0,
     });
     while is_going(s) {
-        let next = turn(code, attributes, s);
-        s = next;
+        s = turn(code, s);
     }
     s
 }
@@ -161,31 +114,17 @@ pub fn scan(code: &[u8], attributes: &[u64]) -> Stand
 fn is_large(x: Reached) -> bool
     ensures { result ≡ (ltb 16 x.terms || ltb 8 x.depth || ltb 8 x.largest) }
 {
-    if 16 < x.terms {
-        return true;
-    }
-    if 8 < x.depth {
-        return true;
-    }
-    8 < x.largest
+    16 < x.terms || 8 < x.depth || 8 < x.largest
 }
 
-// What is refused of a policy by where the loop ends, in this order: 6 malformed, 7 over the limits, 8 a name that is not declared; else 0.
-pub fn refusal(s: Stand, unknown: bool) -> u8
-    ensures { Refuses s unknown result }
+// What is refused of a policy by where the loop ends, in this order: 6 malformed, 7 over the limits, 8 a name that is not declared.
+pub fn refusal(s: Stand, unknown: bool) -> Result<(), Refusal>
+    ensures { Refuses s unknown (number_in result) }
 {
     match s {
-        Stand::Before(_) => MALFORMED,
-        Stand::Behind(_) => MALFORMED,
-        Stand::Whole(x) => {
-            if is_large(x) {
-                return OVER_LIMITS;
-            }
-            if unknown {
-                return UNDECLARED;
-            }
-            0
-        }
-        Stand::Failed => MALFORMED,
+        Stand::Whole(x) if is_large(x) => Err(Refusal::OverLimits),
+        Stand::Whole(_) if unknown => Err(Refusal::Undeclared),
+        Stand::Whole(_) => Ok(()),
+        Stand::Before(_) | Stand::Behind(_) | Stand::Failed => Err(Refusal::Malformed),
     }
 }

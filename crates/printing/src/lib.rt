@@ -2,17 +2,17 @@
 #![tactic(auto)]
 
 ghost use Rattle.std.specs.Prelude.{◌+◌, ◌≤◌, length};
-ghost use Rattle.model.specs.Decision.{undefined};
 ghost use Rattle.model.specs.Ledger.{decided};
 ghost use Rattle.model.specs.Gate.{printed};
 ghost use Rattle.output.specs.Laid.{Laid, far};
 ghost use Rattle.file.specs.LoadAnswers.{loaded_of};
-ghost use Rattle.request.specs.Decisions.{cause_of, decision_of};
+ghost use Rattle.request.specs.Decisions.{decision_of};
 ghost use Rattle.edit.specs.EditSteps.{edited_of};
 ghost use Rattle.printing.specs.Printing.{answer_bytes, PrintedAt, numbers_behind, number_line};
 
+use codes::Refusal;
 use edit::Edited;
-use file::Loaded;
+use file::Refused;
 use request::{Cause, Decision};
 
 // A key and two numbers, without a line's end.
@@ -27,22 +27,30 @@ fn put_pair(out: &mut [u8], at: usize, key: &[u8], number: u32, other: u32) -> u
 }
 
 // The answer of a load.
-pub fn put_load(out: &mut [u8], at: usize, loaded: Loaded) -> usize
+pub fn put_load(out: &mut [u8], at: usize, loaded: Result<u32, Refused>) -> usize
     requires { at + answer_bytes ≤ far }
     ensures { PrintedAt out.old at (printed (loaded_of loaded)) out.new result }
 {
-    let a = put_pair(out, at, b"load=", loaded.number as u32, loaded.line);
+    let (number, line) = match loaded {
+        Ok(lines) => (0, lines),
+        Err(refused) => (u32::from(refused.refusal), refused.line),
+    };
+    let a = put_pair(out, at, b"load=", number, line);
     output::put_byte(out, a, b'\n')
 }
 
 // The answer of an edit.
-pub fn put_edit(out: &mut [u8], at: usize, edited: Edited) -> usize
+pub fn put_edit(out: &mut [u8], at: usize, edited: Result<Edited, Refusal>) -> usize
     requires { at + answer_bytes ≤ far }
     ensures { PrintedAt out.old at (printed (edited_of edited)) out.new result }
 {
-    let a = put_pair(out, at, b"edit=", edited.number as u32, edited.count);
+    let (number, count, joins) = match edited {
+        Ok(edited) => (0, edited.count, edited.joins),
+        Err(refusal) => (u32::from(refusal), 0, 0),
+    };
+    let a = put_pair(out, at, b"edit=", number, count);
     let b = output::put_byte(out, a, b',');
-    let c = output::put_decimal(out, b, edited.joins);
+    let c = output::put_decimal(out, b, joins);
     output::put_byte(out, c, b'\n')
 }
 
@@ -56,26 +64,16 @@ fn put_number(out: &mut [u8], at: usize, text: &[u8], n: u32) -> usize
     output::put_byte(out, b, b'\n')
 }
 
-// An undefined answer, with its cause.
-fn put_undefined(out: &mut [u8], at: usize, cause: Cause) -> usize
-    requires { at + answer_bytes ≤ far }
-    ensures { PrintedAt out.old at (printed (decided (undefined (cause_of cause)))) out.new result }
-{
-    match cause {
-        Cause::Absent => output::put(out, at, b"try=undefined,absent\n"),
-        Cause::Unlike => output::put(out, at, b"try=undefined,unlike\n"),
-    }
-}
-
 // The answer of a request.
 pub fn put_decision(out: &mut [u8], at: usize, decision: Decision) -> usize
     requires { at + answer_bytes ≤ far }
     ensures { PrintedAt out.old at (printed (decided (decision_of decision))) out.new result }
 {
     match decision {
-        Decision::Permit(rule) => put_number(out, at, b"try=permit,", rule as u32),
+        Decision::Permit(rule) => put_number(out, at, b"try=permit,", u32::from(rule)),
         Decision::Deny => output::put(out, at, b"try=deny\n"),
-        Decision::Undefined(cause) => put_undefined(out, at, cause),
-        Decision::Refused(number) => put_number(out, at, b"try=refused,", number as u32),
+        Decision::Undefined(Cause::Absent) => output::put(out, at, b"try=undefined,absent\n"),
+        Decision::Undefined(Cause::Unlike) => output::put(out, at, b"try=undefined,unlike\n"),
+        Decision::Refused(refusal) => { put_number(out, at, b"try=refused,", u32::from(refusal)) }
     }
 }

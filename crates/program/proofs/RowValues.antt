@@ -15,7 +15,10 @@ use Rattle.model.proofs.Causes.{lone-undef, compare-undef}
 use Rattle.codes.specs.Codes.{truth_code}
 use Rattle.codes.proofs.TokenKinds.{truth-range, operator-range}
 use Rattle.text.specs.Values.{atom_words}
+use denote.Enum.Bare.{sameb}
+use Rattle.truth.specs.contracts.Truth.{the_type}
 use Rattle.truth.specs.declared.Truth.{Truth}
+use Rattle.truth.specs.declared.Truth.TheVariants.{False, Undef, True}
 use Rattle.truth.specs.declared.verdict.Verdict as code
 use Rattle.truth.specs.Truths.{truth_of}
 use Rattle.truth.specs.Verdicts.{Verdict, verdict, verdict_of}
@@ -23,6 +26,12 @@ use Rattle.values.specs.declared.Operand.{Operand}
 use Rattle.values.specs.Operands.{Lent, lent, operand_values, Stands}
 use Rattle.values.specs.Compared.{Compared, Lone, Lacks}
 use Rattle.program.specs.TermRows.{row_kind, row_left, row_right, RowValue, RowTruth, RowLacks, RowTold, constant, lone, compare}
+
+-- whether a value is UNDEF, as the code asks it
+pub undef_so : (t : Truth) → sameb the_type t Undef ≡ is_undef (truth_of t)
+undef_so False = refl
+undef_so Undef = refl
+undef_so True = refl
 
 -- ---- the value, by the kind of the row
 

@@ -13,6 +13,11 @@ use Rattle.truth.specs.Verdicts.{Verdict, verdict, verdict_of}
 use Rattle.codes.specs.Codes.{truth_code, operator_code, name_code}
 use Rattle.values.specs.declared.Operand.{Operand}
 use Rattle.values.specs.Operands.{Lent, lent, operand, Stands}
+use Rattle.program.specs.declared.lent.Lent as given
+
+-- what is lent to everything that reads values, as the code passes it on with the rows
+abbrev pub lent_by : given.Lent → Lent
+lent_by l = lent l.code.now l.pairs.now l.session.now l.entries.now
 
 -- how many bytes a row has, and how many rows a rule has: one for each term
 abbrev pub row_bytes : ℕ

@@ -2,6 +2,8 @@
 // operator and operands were looked up when the rule was loaded. One loop runs it.
 #![tactic(auto)]
 
+mod lent;
+
 ghost use Rattle.std.specs.Prelude.{◌≡◌, true, [], ℕ, ◌+◌, ◌*◌, ◌≤◌, ◌<◌, length, get_or};
 ghost use Rattle.model.specs.Truth as model;
 ghost use Rattle.model.specs.Notation.{if◌then◌otherwise◌};
@@ -9,11 +11,13 @@ ghost use Rattle.codes.specs.Codes.{truth_code};
 ghost use Rattle.truth.specs.Truths.{truth_of};
 ghost use Rattle.truth.specs.Verdicts.{verdict_of, either};
 ghost use Rattle.values.specs.Operands.{lent};
+ghost use Rattle.program.specs.TermRows.{lent_by};
 ghost use Rattle.program.specs.Walks.{is_passed, either_of, both_of, Fresh, Termed, Passed, Around};
 ghost use Rattle.program.specs.TermRows.{row_bytes, two, operand_at, RowTruth, RowLacks, RowTold};
 ghost use Rattle.program.specs.Runs.{NextAt, next_row, Stepped, Ran};
 
 use codes::{AND, END, FALSE, LPAREN, NAME, NOT, OR, RPAREN, TRUE, UNDEF};
+use lent::Lent;
 use truth::Truth;
 use truth::verdict::Verdict;
 use values::Operand;
@@ -54,9 +58,8 @@ fn fresh(outer: u64) -> Walk
 fn either_of(w: Walk) -> Verdict
     ensures { verdict_of result ≡ either_of w }
 {
-    let value = w.either;
     Verdict {
-        value,
+        value: w.either,
         absent: w.absent,
     }
 }
@@ -64,9 +67,8 @@ fn either_of(w: Walk) -> Verdict
 fn both_of(w: Walk) -> Verdict
     ensures { verdict_of result ≡ both_of w }
 {
-    let value = w.both;
     Verdict {
-        value,
+        value: w.both,
         absent: w.lacking,
     }
 }
@@ -75,42 +77,26 @@ fn both_of(w: Walk) -> Verdict
 fn verdict_of(w: Walk) -> Verdict
     ensures { verdict_of result ≡ either (either_of w) (both_of w) }
 {
-    let either = either_of(w);
-    let both = both_of(w);
-    truth::verdict::or(either, both)
+    truth::verdict::or(either_of(w), both_of(w))
 }
 
 fn with_term(w: Walk, v: Verdict) -> Walk
     ensures { Termed w (verdict_of v) result }
 {
-    let before = both_of(w);
     let term = truth::verdict::signed(w.negated, v);
-    let verdict = truth::verdict::and(before, term);
-    let either = w.either;
-    let both = verdict.value;
+    let verdict = truth::verdict::and(both_of(w), term);
     Walk {
-        either,
-        absent: w.absent,
-        both,
+        both: verdict.value,
         lacking: verdict.absent,
         negated: false,
-        outer: w.outer,
+        ..w
     }
 }
 
 fn negated(w: Walk) -> Walk
     ensures { Passed 12 w result }
 {
-    let either = w.either;
-    let both = w.both;
-    Walk {
-        either,
-        absent: w.absent,
-        both,
-        lacking: w.lacking,
-        negated: true,
-        outer: w.outer,
-    }
+    Walk { negated: true, ..w }
 }
 
 // The next conjunction, behind OR.
@@ -118,14 +104,12 @@ fn joined(w: Walk) -> Walk
     ensures { Passed 11 w result }
 {
     let verdict = verdict_of(w);
-    let either = verdict.value;
     Walk {
-        either,
+        either: verdict.value,
         absent: verdict.absent,
         both: Truth::True,
         lacking: false,
-        negated: w.negated,
-        outer: w.outer,
+        ..w
     }
 }
 
@@ -148,12 +132,10 @@ fn around(outer: u64) -> Walk
     let level = outer % 128;
     let conjunctions = truth::verdict::of_number(level % 8);
     let terms = truth::verdict::of_number(level / 8 % 8);
-    let either = conjunctions.value;
-    let both = terms.value;
     Walk {
-        either,
+        either: conjunctions.value,
         absent: conjunctions.absent,
-        both,
+        both: terms.value,
         lacking: terms.absent,
         negated: level / 64 == 1,
         outer: outer / 128,
@@ -182,7 +164,8 @@ fn passed(w: Walk, kind: u8) -> Walk
     }
 }
 
-// Whether a kind is that of a mark that is passed; with others a term begins, or the code ends.
+// Whether a kind is that of a mark that is passed; with others a term begins, or the code ends. One condition in place of the tests one after another is
+// slower.
 pub fn is_passed(kind: u8) -> bool
     ensures { result ≡ is_passed kind }
 {
@@ -203,7 +186,7 @@ fn two(s: &[u8], at: usize) -> usize
     requires { at + 2 ≤ length s.now }
     ensures { (result ≡ two s.now at) × (result < 65536) }
 {
-    codes::byte_to_index(s[at]) + 256 * codes::byte_to_index(s[at + 1])
+    usize::from(s[at]) + 256 * usize::from(s[at + 1])
 }
 
 fn operand_at(rows: &[u8], at: usize) -> Operand
@@ -230,21 +213,21 @@ fn spoken(kind: u8) -> Truth
 }
 
 // The value of the term whose row begins at a byte.
-fn row_value(
-    code: &[u8],
-    rows: &[u8],
-    pairs: &[u64],
-    session: &[u64; 128],
-    entries: &[u8],
-    row: usize,
-) -> Truth
-    requires { (length pairs.now ≡ 1024) × (row + row_bytes ≤ length rows.now) }
-    ensures { RowTruth (lent code.now pairs.now session.now entries.now) rows.now row result }
+fn row_value(lent: &Lent<'_>, row: usize) -> Truth
+    requires { row + row_bytes ≤ length lent.now.rows.now }
+    ensures { RowTruth (lent_by lent.now) lent.now.rows.now row result }
 {
+    let Lent {
+        code,
+        rows,
+        pairs,
+        session,
+        entries,
+    } = *lent;
     let kind = rows[row];
     let left = operand_at(rows, row + 1);
     match kind {
-        FALSE..=TRUE => spoken(kind),
+        FALSE | UNDEF | TRUE => spoken(kind),
         NAME => values::lone(code, pairs, session, entries, left),
         _ => {
             let right = operand_at(rows, row + 7);
@@ -254,68 +237,56 @@ fn row_value(
 }
 
 // Whether an operand of it lacks values; a word has none, and an attribute that stands alone no second one.
-fn row_lacks(code: &[u8], rows: &[u8], session: &[u64; 128], entries: &[u8], row: usize) -> bool
-    requires { row + row_bytes ≤ length rows.now }
-    ensures { RowLacks code.now session.now entries.now rows.now row result }
+fn row_lacks(lent: &Lent<'_>, row: usize) -> bool
+    requires { row + row_bytes ≤ length lent.now.rows.now }
+    ensures { RowLacks lent.now.code.now lent.now.session.now lent.now.entries.now lent.now.rows.now row result }
 {
-    let kind = rows[row];
+    let Lent {
+        code,
+        rows,
+        session,
+        entries,
+        ..
+    } = *lent;
     let left = operand_at(rows, row + 1);
-    match kind {
-        FALSE..=TRUE => false,
+    match rows[row] {
+        FALSE | UNDEF | TRUE => false,
         NAME => values::lacks(code, session, entries, left),
         _ => {
-            if values::lacks(code, session, entries, left) {
-                return true;
-            }
             let right = operand_at(rows, row + 7);
-            values::lacks(code, session, entries, right)
+            values::lacks(code, session, entries, left)
+                || values::lacks(code, session, entries, right)
         }
     }
 }
 
 // The verdict on it. The row is looked at again for the cause, at one place, so that what is no UNDEF pays nothing.
-fn row_verdict(
-    code: &[u8],
-    rows: &[u8],
-    pairs: &[u64],
-    session: &[u64; 128],
-    entries: &[u8],
-    row: usize,
-) -> Verdict
-    requires { (length pairs.now ≡ 1024) × (row + row_bytes ≤ length rows.now) }
-    ensures { RowTold (lent code.now pairs.now session.now entries.now) rows.now row result }
+fn row_verdict(lent: &Lent<'_>, row: usize) -> Verdict
+    requires { row + row_bytes ≤ length lent.now.rows.now }
+    ensures { RowTold (lent_by lent.now) lent.now.rows.now row result }
 {
-    let value = row_value(code, rows, pairs, session, entries, row);
-    if !truth::verdict::is_undef(value) {
+    let value = row_value(lent, row);
+    if value != Truth::Undef {
         return truth::verdict::plain(value);
     }
     Verdict {
         value,
-        absent: row_lacks(code, rows, session, entries, row),
+        absent: row_lacks(lent, row),
     }
 }
 
 // One token or one term further; a row that is not there says nothing.
-fn step(
-    code: &[u8],
-    rows: &[u8],
-    pairs: &[u64],
-    session: &[u64; 128],
-    entries: &[u8],
-    kind: u8,
-    row: usize,
-    w: Walk,
-) -> Walk
-    requires { (length pairs.now ≡ 1024) × (row ≤ 1048576) }
-    ensures { Stepped (lent code.now pairs.now session.now entries.now) rows.now kind row w result }
+fn step(lent: &Lent<'_>, kind: u8, row: usize, w: Walk) -> Walk
+    requires { row ≤ 1048576 }
+    ensures { Stepped (lent_by lent.now) lent.now.rows.now kind row w result }
 {
     if is_passed(kind) {
         return passed(w, kind);
     }
-    if rows.len() < row + ROW_BYTES {
+    if lent.rows.len() < row + ROW_BYTES {
         return w;
     }
-    with_term(w, row_verdict(code, rows, pairs, session, entries, row))
+    with_term(w, row_verdict(lent, row))
 }
 
 // Where the code goes on.
@@ -323,17 +294,10 @@ fn next_at(rows: &[u8], kind: u8, row: usize, at: usize) -> usize
     requires { (row ≤ 1048576) × (at ≤ 65536) }
     ensures { NextAt rows.now kind row at result }
 {
-    if is_passed(kind) {
+    if is_passed(kind) || rows.len() < row + ROW_BYTES {
         return at + 1;
     }
-    if rows.len() < row + ROW_BYTES {
-        return at + 1;
-    }
-    let next = two(rows, row + 13);
-    if next <= at {
-        return at + 1;
-    }
-    next
+    two(rows, row + 13).max(at + 1)
 }
 
 pub fn next_row(kind: u8, row: usize) -> usize
@@ -341,9 +305,10 @@ pub fn next_row(kind: u8, row: usize) -> usize
     ensures { (result ≡ next_row kind row) × (result ≤ row + row_bytes) }
 {
     if is_passed(kind) {
-        return row;
+        row
+    } else {
+        row + ROW_BYTES
     }
-    row + ROW_BYTES
 }
 
 // The verdict on a rule: its code and its rows, on what is lent for a request. UNDEF where they are no program.
@@ -351,15 +316,23 @@ pub fn run(code: &[u8], rows: &[u8], pairs: &[u64], session: &[u64; 128], entrie
     requires { (length pairs.now ≡ 1024) × (length code.now ≤ 65536) }
     ensures { Ran (lent code.now pairs.now session.now entries.now) rows.now result }
 {
+    let lent = Lent {
+        code: &*code,
+        rows: &*rows,
+        pairs: &*pairs,
+        session: &*session,
+        entries: &*entries,
+    };
     let mut w = fresh(0);
     let mut at: usize = 0;
     let mut row: usize = 0;
+    // How far a turn goes is told by the row of the term that begins there, so that no iterator over bytes fits.
     while at < code.len() {
         let kind = code[at];
         if kind == END {
             return verdict_of(w);
         }
-        let next = step(code, rows, pairs, session, entries, kind, row, w);
+        let next = step(&lent, kind, row, w);
         // field by field: the whole would be copied with the bytes between its fields, at each turn
         let either = next.either;
         let both = next.both;

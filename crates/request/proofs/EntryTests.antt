@@ -2,14 +2,14 @@
 use Prim.Native.Nat.{ℕ, zero, suc, ◌+◌, ◌*◌, ◌/◌, ◌≤◌, ◌<◌}
 use native.Mathlib.Omega.{arith}
 use native.Mathlib.Decide.{dec_lt}
-use mathlib.Core.Path.{◌≡◌, refl, sym, ap, ap₂, ◌∙◌}
-use mathlib.Core.Bool.{Bool, true, false, not, ◌&&◌}
+use mathlib.Core.Path.{◌≡◌, refl, sym, ap, ap₂, subst, ◌∙◌}
+use mathlib.Core.Bool.{Bool, true, false, not, ◌&&◌, true≢false}
 use mathlib.Core.List.{List, ◌∷◌}
 use mathlib.Core.Option.{Option, none, some}
-use lib.Dec.{ltb, leb}
+use lib.Dec.{eqb, ltb, leb}
 use lib.ListN.{length, get_or, take, drop}
 use lib.Seq.{get_or-drop, drop-drop}
-use borrow.Author.Tests.{lt-ltb, le-ltb, le-leb, lt-leb}
+use borrow.Author.Tests.{ne_eqb, lt-ltb, le-ltb, le-leb, lt-leb}
 use Rattle.model.specs.Notation.{if◌then◌otherwise◌, ◌is◌, all_of, nth}
 use Rattle.model.specs.Bytes.{Bytes}
 use Rattle.model.specs.Attributes.{Source, AtomType, from_block}
@@ -97,6 +97,44 @@ module _ (rows : List ℕ) (k v : ℕ) (D : Declarations) (ar : AttributeRows ro
     a-bool h =
         by-attribute (leb v 1) (λ l. there l)
         (λ a e. bool-type a.type v (sym (ar.row k a e).type ∙ h) ∙ sym (ap (λ (t : Bool). t && not (bool_above_one a.type v)) (source-so a e)))
+
+-- so it is by the number of the attribute as a place
+above : (a b : ℕ) → ltb a b ≡ true → a < b
+above a b e = go (dec_lt a b)
+  where
+    go : Dec (a < b) → a < b
+    go (yes h) = h
+    go (no h) = absurd (true≢false (sym e ∙ le-ltb a b (omega arith)))
+
+at_most : (a b : ℕ) → ltb a b ≡ false → b ≤ a
+at_most a b e = go (dec_lt a b)
+  where
+    go : Dec (a < b) → b ≤ a
+    go (yes h) = absurd (true≢false (sym (lt-ltb a b h) ∙ e))
+    go (no h) = omega arith
+
+module _ (rows : List ℕ) (i k v : ℕ) (same : i ≡ k) (D : Declarations) (ar : AttributeRows rows D) where
+  abbrev fit : Bool
+  fit = entry_fits D (record { attribute = k; value = v })
+
+  abbrev source : ℕ → ℕ
+  source j = get_or rows (8 * j) 0
+
+  abbrev type : ℕ → ℕ
+  type j = get_or rows (8 * j + 1) 0
+
+  pub fits-outside : 32 ≤ i → false ≡ fit
+  fits-outside h = no_number rows k v D ar (omega (arith, same))
+
+  pub fits-held : ltb 3 (source i) ≡ false → false ≡ fit
+  fits-held h = not-from-block rows k v D ar (subst (λ j. source j ≤ 3) same (at_most 3 (source i) h))
+
+  pub fits-typed : i < 32 → ltb 3 (source i) ≡ true → (type i ≡ 3 → ⊥) → not (eqb (type i) 3) ≡ fit
+  fits-typed h f n = ap not (ne_eqb (type i) 3 n)
+      ∙ no_bool rows k v D ar (omega (arith, same)) (subst (λ j. 3 < source j) same (above 3 (source i) f)) (subst (λ j. type j ≡ 3 → ⊥) same n)
+
+  pub fits-bool : i < 32 → ltb 3 (source i) ≡ true → type i ≡ 3 → leb v 1 ≡ fit
+  fits-bool h f e = a-bool rows k v D ar (omega (arith, same)) (subst (λ j. 3 < source j) same (above 3 (source i) f)) (subst (λ j. type j ≡ 3) same e)
 
 -- ---- the entries one after another
 

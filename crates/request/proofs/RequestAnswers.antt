@@ -27,7 +27,7 @@ use Rattle.book.specs.Sections as section
 use Rattle.book.specs.Sections.{section_words}
 use Rattle.book.specs.Held.{Holds}
 use Rattle.request.specs.declared.Decision.{Decision}
-use Rattle.request.specs.Requests.{pair_rows, WrongNumber, RequestOf}
+use Rattle.request.specs.Requests.{pair_rows, WrongNumber, NumbersOf, RequestOf}
 use Rattle.request.specs.Decisions.{decision_of, Decided, Answered, Decides}
 use Rattle.request.proofs.Blocks.{headed, not-read, is_read_lem, head_of}
 use Rattle.request.proofs.Books.{numbers_of, request-of}
@@ -132,23 +132,42 @@ module _ (S : State) (block : Bytes) where
 
 module _ {S : State} {book : List ℕ} {code : Bytes} (standing : Standing S) (holds : Holds book code S)
     (block : Bytes) (bytes : (i : ℕ) → get_or block i 0 < 256) (fit : is_block block ≡ true)
-    (w : Bool) (told : WrongNumber (section_words section.counts book) (section_words section.sorts book) (section_words section.attributes book) block (take (length block - 10) (drop 10 block)) w) where
+    {counts sorts attributes : List ℕ} (counts-are : counts ≡ section_words section.counts book) (sorts-are : sorts ≡ section_words section.sorts book)
+    (attributes-are : attributes ≡ section_words section.attributes book) where
   abbrev b : Block
   b = headed block
 
   read : read_block block ≡ some b
   read = is_read_lem block fit
 
-  told-so : w ≡ wrong_number S.declared b
-  told-so = told S.declared b (numbers_of standing holds block b read bytes)
+  abbrev entries : Bytes
+  entries = take (length block - 10) (drop 10 block)
 
-  pub refuses-numbers : w ≡ true → model.refused refusal.wrong_number ≡ model.decide S block
-  refuses-numbers e = wrong S block b read (sym e ∙ told-so)
+  numbers-lent : NumbersOf S.declared b counts sorts attributes block entries
+  numbers-lent =
+      subst (λ (l : List ℕ). NumbersOf S.declared b l sorts attributes block entries) (sym counts-are)
+      (subst (λ (l : List ℕ). NumbersOf S.declared b (section_words section.counts book) l attributes block entries) (sym sorts-are)
+      (subst (λ (l : List ℕ). NumbersOf S.declared b (section_words section.counts book) (section_words section.sorts book) l block entries) (sym attributes-are)
+      (numbers_of standing holds block b read bytes)))
 
-  pub answers : w ≡ false → (t : List ℕ) → t ≡ table S.declared S.ties → (d : Decision)
-      → Answered (section_words section.counts book) (section_words section.rules book) code (section_words section.attributes book) (section_words pair_rows book) t block (take (length block - 10) (drop 10 block)) d
-      → decision_of d ≡ model.decide S block
-  answers e t f d g = g S b (request-of standing holds block b read bytes t f) ∙ right S block b read (sym e ∙ told-so)
+  module _ (w : Bool) (told : WrongNumber counts sorts attributes block entries w) where
+    told-so : w ≡ wrong_number S.declared b
+    told-so = told S.declared b numbers-lent
+
+    pub refuses-numbers : w ≡ true → model.refused refusal.wrong_number ≡ model.decide S block
+    refuses-numbers e = wrong S block b read (sym e ∙ told-so)
+
+    pub answers : {targets pairs : List ℕ} → w ≡ false → targets ≡ section_words section.rules book → pairs ≡ section_words pair_rows book → (t : List ℕ) → t ≡ table S.declared S.ties → (d : Decision)
+        → Answered counts targets code attributes pairs t block entries d → decision_of d ≡ model.decide S block
+    answers {targets} {pairs} e targets-are pairs-are t f d g =
+        let lent = request-of standing holds block b read bytes t f in
+        g S b
+        (subst (λ (l : List ℕ). RequestOf S b l targets code attributes pairs t block entries) (sym counts-are)
+        (subst (λ (l : List ℕ). RequestOf S b (section_words section.counts book) l code attributes pairs t block entries) (sym targets-are)
+        (subst (λ (l : List ℕ). RequestOf S b (section_words section.counts book) (section_words section.rules book) code l pairs t block entries) (sym attributes-are)
+        (subst (λ (l : List ℕ). RequestOf S b (section_words section.counts book) (section_words section.rules book) code (section_words section.attributes book) l t block entries) (sym pairs-are)
+        lent))))
+        ∙ right S block b read (sym e ∙ told-so)
 
 pub stands-long : {S : State} {book : List ℕ} {code : Bytes} → Holds book code S → {t : List ℕ} → t ≡ table S.declared S.ties → length t ≡ table_words Edition.first
 stands-long {S} holds e = ap length e ∙ table-length S.declared S.ties ∙ ap table_words holds.edition

@@ -23,6 +23,11 @@ use Rattle.model.proofs.Causes.{undef-is, absent-of-undef}
 use Rattle.model.proofs.Decision.{Verdict, verdicts-rise, verdict-exact, decided-permit, decided-undefined, decided-deny, absent-rule, unlike-rules}
 use Rattle.bits.specs.Bits.{any_below}
 use Rattle.bits.proofs.Counts.{any-more, any_none, any-find}
+use denote.Enum.Bare.{sameb}
+use Rattle.truth.specs.contracts.Truth.{the_type}
+use Rattle.truth.specs.declared.Truth as code
+use Rattle.truth.specs.declared.Truth.TheVariants as variant
+use Rattle.truth.specs.Truths.{truth_of}
 use Rattle.truth.specs.declared.verdict.Verdict as truth
 use Rattle.truth.specs.Verdicts as told
 use Rattle.truth.specs.Verdicts.{verdict, verdict_of, rule_verdict}
@@ -147,6 +152,18 @@ module _ {S : State} {b : Block} {targets : List ℕ} {code : Bytes} {attributes
       (held.program attributes of.session-of.attribute-rows.row pairs session entries (read_by S b)
       (reads-number S b attributes pairs session entries of.session-of (code_of_rule code k)))
       ∙ sym (told-by S b k rule rule-there.1 true same-one)
+
+-- ---- a value is compared with a variant
+
+pub true-told : (t : code.Truth) → sameb the_type t variant.True ≡ is_true (truth_of t)
+true-told variant.False = refl
+true-told variant.Undef = refl
+true-told variant.True = refl
+
+pub undef-told : (t : code.Truth) → sameb the_type t variant.Undef ≡ is_undef (truth_of t)
+undef-told variant.False = refl
+undef-told variant.Undef = refl
+undef-told variant.True = refl
 
 -- ---- what the rules come to
 

@@ -19,7 +19,7 @@ use Rattle.truth.specs.declared.verdict.Verdict as code
 use Rattle.truth.specs.Verdicts.{Verdict, verdict, verdict_of, rule_verdict}
 use Rattle.index.specs.Index.{chains}
 use Rattle.book.specs.Sections as section
-use Rattle.book.specs.Sections.{Section, rule_bytes}
+use Rattle.book.specs.Sections.{Section}
 use Rattle.book.specs.Held.{CountsOf, SortRows, RuleRows}
 
 -- the rows of pairs stand in the section of their index, behind its chains
@@ -61,12 +61,6 @@ pub record RulesOf (S : State) (b : Block) (targets : List ℕ) (code : Bytes) (
   pub operation-is : b.operation ≡ operation
   pub rule-rows : RuleRows targets code S.declared
   pub session-of : SessionOf S b attributes pairs session entries
-
--- the sections that the rules are run on have their sizes
-pub record Sizes (targets : List ℕ) (code : Bytes) (pairs : List ℕ) : Type 0 where
-  pub targets-long : length targets ≡ (section.rules).size
-  pub code-long : length code ≡ rule_bytes
-  pub pairs-long : length pairs ≡ pair_rows.size
 
 -- r is the verdict on rule k, whatever rows of attributes the session is that of
 abbrev pub RuleTold : List ℕ → Bytes → List ℕ → List ℕ → Bytes → ℕ → ℕ → code.Verdict → Type 0

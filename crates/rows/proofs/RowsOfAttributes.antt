@@ -1,117 +1,77 @@
 -- What the rows of attributes say of the declarations. Assumes nothing.
 use Prim.Native.Nat.{ℕ, ◌+◌, ◌*◌, ◌≤◌, ◌<◌}
 use native.Mathlib.Omega.{arith}
-use native.Mathlib.Decide.{dec_lt}
-use mathlib.Core.Path.{◌≡◌, refl, sym, ap, ap₂, ◌∙◌}
-use mathlib.Core.Bool.{Bool, true, false, ◌&&◌, true≢false}
+use mathlib.Core.Path.{◌≡◌, sym, ap, ap₂, ◌∙◌}
+use mathlib.Core.Bool.{Bool, true, false, ◌&&◌}
 use mathlib.Core.List.{List}
-use mathlib.Core.Option.{none, some, some-injective}
+use mathlib.Core.Option.{some, some-injective}
+use Rattle.std.specs.Prelude.{Option}
 use lib.Dec.{eqb}
 use lib.ListN.{length, get_or}
-use borrow.Author.Tests.{eq-eqb, ne_eqb}
+use borrow.Author.Tests.{eq-eqb, ne_eqb, eqb-true}
 use Rattle.model.specs.Notation.{nth}
 use Rattle.model.specs.Limits.{attribute_limit}
 use Rattle.model.specs.Bytes.{Bytes}
 use Rattle.model.specs.Names.{is_name}
-use Rattle.model.specs.Attributes.{Source, same_source}
+use Rattle.model.specs.Attributes.{Source, source_word, sources, same_source}
 use Rattle.model.specs.Declarations.{Declarations, Attribute, same_source_and_name, attribute_number}
-use Rattle.model.proofs.Lists.{nth-lt, lt-nth, place-nth}
+use Rattle.model.proofs.WordTables.{same_refl, same_word, reads-source}
+use Rattle.model.proofs.Lists.{same_truth, nth-lt, place-nth}
 use Rattle.model.proofs.Declared.{named-eq}
 use Rattle.codes.specs.Codes.{source_code}
-use Rattle.codes.proofs.Codes.{source-some}
+use Rattle.codes.proofs.Codes.{source-injective, source-some}
+use Rattle.codes.specs.declared.Source as code
+use Rattle.codes.specs.Enums.{source_number, told}
+use Rattle.codes.proofs.Enums.{source-numbered}
+use Rattle.text.specs.declared.Packed.{Packed}
 use Rattle.text.specs.Packing.{packed_of, packed_at}
 use Rattle.text.proofs.Packing.{named-at}
 use Rattle.model.specs.Standing.{WellDeclared}
-use Rattle.rows.specs.Rows.{row_named, AttributeRows, Numbered, number_or}
-use Rattle.rows.proofs.FirstPlaces.{place_none, place-first}
-
--- a test behind one that was passed
-pub behind-first : (a b : ℕ) (r t : Bool) → a ≡ b → r ≡ t → r ≡ (eqb a b && t)
-behind-first a b r t e f = rw (eq-eqb a b e) f
+use Rattle.rows.specs.Rows.{row_named, AttributeRows, Numbered}
+use Rattle.rows.proofs.FirstPlaces.{First, first-told, first-low}
 
 source-same : (s t : Source) → eqb (source_code s) (source_code t) ≡ same_source s t
-source-same Source.user Source.user = refl
-source-same Source.user Source.object = refl
-source-same Source.user Source.admin = refl
-source-same Source.user Source.env = refl
-source-same Source.user Source.connect = refl
-source-same Source.object Source.user = refl
-source-same Source.object Source.object = refl
-source-same Source.object Source.admin = refl
-source-same Source.object Source.env = refl
-source-same Source.object Source.connect = refl
-source-same Source.admin Source.user = refl
-source-same Source.admin Source.object = refl
-source-same Source.admin Source.admin = refl
-source-same Source.admin Source.env = refl
-source-same Source.admin Source.connect = refl
-source-same Source.env Source.user = refl
-source-same Source.env Source.object = refl
-source-same Source.env Source.admin = refl
-source-same Source.env Source.env = refl
-source-same Source.env Source.connect = refl
-source-same Source.connect Source.user = refl
-source-same Source.connect Source.object = refl
-source-same Source.connect Source.admin = refl
-source-same Source.connect Source.env = refl
-source-same Source.connect Source.connect = refl
+source-same s t =
+    same_truth (eqb (source_code s) (source_code t)) (same_source s t)
+    (λ e. rw (source-injective s t (eqb-true (source_code s) (source_code t) e)) (same_refl (source_word t)))
+    (λ e. eq-eqb (source_code s) (source_code t) (ap source_code (same_word source_word sources reads-source s t e)))
 
 module _ (rows : List ℕ) (D : Declarations) (well : WellDeclared D) (ar : AttributeRows rows D)
-    (s : Source) (n : Bytes) (name : is_name n ≡ true) (source low high : ℕ) (from : source ≡ source_code s) (words : packed_of n ≡ record { low = low; high = high }) where
+    (s : Source) (n : Bytes) (named : is_name n ≡ true) (source : ℕ) (name : Packed) (from : source ≡ source_code s) (words : packed_of n ≡ name) where
+  abbrev at_row : ℕ → Bool
+  at_row = row_named rows source name.low name.high
+
   -- a row has that source and name where its attribute has
-  row_named_lem : (i : ℕ) (a : Attribute) → nth D.attributes i ≡ some a → row_named rows source low high i ≡ same_source_and_name a.source a.name s n
+  row_named_lem : (i : ℕ) (a : Attribute) → nth D.attributes i ≡ some a → at_row i ≡ same_source_and_name a.source a.name s n
   unfolding row_named
   row_named_lem i a e =
       let r = ar.row i a e in
       ap₂ (λ (x y : Bool). x && y)
       (ap₂ eqb r.source from ∙ source-same a.source s)
-      (named-at rows (8 * i + 2) a.name n (well.attributes.named i a e) name words r.low (ap (λ (k : ℕ). get_or rows k 0) next ∙ r.high))
+      (named-at rows (8 * i + 2) a.name n (well.attributes.named i a e) named words r.low (ap (λ (k : ℕ). get_or rows k 0) next ∙ r.high))
     where
       next : 8 * i + 2 + 1 ≡ 8 * i + 3
       next = omega arith
 
   -- a row behind the attributes has no source
-  row_other : (i : ℕ) → length D.attributes ≤ i → i < 32 → row_named rows source low high i ≡ false
+  row_other : (i : ℕ) → length D.attributes ≤ i → i < 32 → at_row i ≡ false
   unfolding row_named
   row_other i h l =
-      ap (λ (t : Bool). t && packed_at rows (8 * i + 2) low high)
+      ap (λ (t : Bool). t && packed_at rows (8 * i + 2) name.low name.high)
       (ne_eqb (get_or rows (8 * i) 0) source (λ e. source-some s (sym (sym (ar.other i h l) ∙ e ∙ from))))
 
-  -- no attribute has that source and name
-  pub number-none : ((i : ℕ) → i < attribute_limit → row_named rows source low high i ≡ false) → attribute_number D s n ≡ none
+  pub attribute-told : (r : Option ℕ) → First at_row attribute_limit r → r ≡ told (attribute_number D s n)
   unfolding attribute_number
-  number-none f =
-      place_none (λ a. same_source_and_name a.source a.name s n) D.attributes
-      (λ i a e. let l = nth-lt D.attributes i e in let w = ar.within in sym (row_named_lem i a e) ∙ f i (omega arith))
+  attribute-told = first-told (λ a. same_source_and_name a.source a.name s n) D.attributes at_row attribute_limit ar.within row_named_lem row_other
 
-  -- or the first of them whose row has
-  pub number-some : (k : ℕ) → k < attribute_limit → row_named rows source low high k ≡ true → ((i : ℕ) → i < k → row_named rows source low high i ≡ false)
-      → attribute_number D s n ≡ some k
-  unfolding attribute_number
-  number-some k h t f = go (dec_lt k (length D.attributes))
-    where
-      go : Dec (k < length D.attributes) → attribute_number D s n ≡ some k
-      go (yes l) =
-          let (a, e) = lt-nth D.attributes k l in
-          place-first (λ a. same_source_and_name a.source a.name s n) D.attributes k a e (sym (row_named_lem k a e) ∙ t) (λ i b l g. sym (row_named_lem i b g) ∙ f i l)
-      go (no l) = absurd (true≢false (sym t ∙ row_other k (omega arith) h))
-
--- the two answers of a search
-module _ (rows : List ℕ) (source low high : ℕ) where
-  pub searched : ((i : ℕ) → i < attribute_limit → row_named rows source low high i ≡ false) → Numbered rows source low high attribute_limit
-  searched f =
-      record {
-        within = omega arith;
-        number = λ D ord ar s n name from words. ap (number_or attribute_limit) (sym (number-none rows D ord ar s n name source low high from words f));
-      }
-
-  pub found : (k : ℕ) → k < attribute_limit → row_named rows source low high k ≡ true → ((i : ℕ) → i < k → row_named rows source low high i ≡ false)
-      → Numbered rows source low high k
-  found k h t f =
-      record {
-        within = omega arith;
-        number = λ D ord ar s n name from words. ap (number_or attribute_limit) (sym (number-some rows D ord ar s n name source low high from words k h t f));
-      }
+-- the first row with that source and name has the attribute's number
+pub first-numbered : (rows : List ℕ) (source : code.Source) (name : Packed) (r : Option ℕ)
+    → First (row_named rows (source_number source) name.low name.high) attribute_limit r → Numbered rows source name r
+first-numbered rows source name r first = record {
+  within = first-low (row_named rows (source_number source) name.low name.high) attribute_limit r first;
+  number = λ D well ar s n named from words.
+      attribute-told rows D well ar s n named (source_number source) name (ap source_number from ∙ source-numbered s) words r first;
+}
 
 -- numbers of attributes are below the limit
 pub number_small : (D : Declarations) (rows : List ℕ) → AttributeRows rows D → (s : Source) (n : Bytes) (k : ℕ) → attribute_number D s n ≡ some k → k < attribute_limit

@@ -1,14 +1,18 @@
 -- The rows of attributes and of pairs, and what they stand for.
-use Rattle.std.specs.Prelude.{ℕ, ◌+◌, ◌*◌, ◌/◌, ◌%◌, ◌≤◌, ◌<◌, ◌≡◌, Bool, true, ◌&&◌, List, eqb, length, get_or}
-use Rattle.std.proofs.Math.Option.{Option, none, some}
+use Rattle.std.specs.Prelude.{ℕ, Option, IfSome, ◌+◌, ◌*◌, ◌/◌, ◌%◌, ◌≤◌, ◌<◌, ◌≡◌, Bool, true, ◌&&◌, List, eqb, length, get_or}
+use Rattle.std.proofs.Math.Option as math
+use Rattle.std.proofs.Math.Option.{none, some}
 use Rattle.model.specs.Notation.{nth, ◌is◌}
 use Rattle.model.specs.Limits.{attribute_limit, pair_limit, word_bits}
 use Rattle.model.specs.Bytes.{Bytes}
 use Rattle.model.specs.Names.{is_name}
-use Rattle.model.specs.Attributes.{Source}
+use Rattle.model.specs.Attributes as attributes
 use Rattle.model.specs.Declarations.{Declarations, Attribute, Pair, attribute_number}
 use Rattle.bits.specs.Bits.{bit}
+use Rattle.codes.specs.declared.Source.{Source}
 use Rattle.codes.specs.Codes.{source_code, type_code}
+use Rattle.codes.specs.Enums.{source_for, told}
+use Rattle.text.specs.declared.Packed.{Packed}
 use Rattle.text.specs.Packing.{packed_of, packed_at}
 use Rattle.text.specs.Values.{atom_words}
 use Rattle.model.specs.Standing.{WellDeclared}
@@ -56,12 +60,12 @@ unfoldable pub row_named : List ℕ → ℕ → ℕ → ℕ → ℕ → Bool
 row_named rows source low high i = eqb (get_or rows (8 * i) 0) source && packed_at rows (8 * i + 2) low high
 
 -- a number, or k where there is none
-abbrev pub number_or : ℕ → Option ℕ → ℕ
+abbrev pub number_or : ℕ → math.Option ℕ → ℕ
 number_or k none = k
 number_or k (some n) = n
 
--- r is the number of the attribute of that source and name, whatever declarations the rows are those of; the limit where there is none
-pub record Numbered (rows : List ℕ) (source low high r : ℕ) : Type 0 where
-  pub within : r ≤ attribute_limit
-  pub number : (D : Declarations) → WellDeclared D → AttributeRows rows D → (s : Source) (n : Bytes) → is_name n ≡ true
-      → source ≡ source_code s → packed_of n ≡ record { low = low; high = high } → r ≡ number_or attribute_limit (attribute_number D s n)
+-- r is the number of the attribute of that source and name, whatever declarations the rows are those of
+pub record Numbered (rows : List ℕ) (source : Source) (name : Packed) (r : Option ℕ) : Type 0 where
+  pub within : IfSome r (λ k. k < attribute_limit)
+  pub number : (D : Declarations) → WellDeclared D → AttributeRows rows D → (s : attributes.Source) (n : Bytes) → is_name n ≡ true
+      → source ≡ source_for s → packed_of n ≡ name → r ≡ told (attribute_number D s n)

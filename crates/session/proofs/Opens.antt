@@ -9,7 +9,7 @@ use mathlib.Core.Option.{Option, none, some}
 use lib.Dec.{eqb, ltb}
 use lib.ListN.{length, get_or, replicate}
 use borrow.Author.Tests.{lt-ltb, le-ltb}
-use Rattle.model.specs.Notation.{if◌then◌otherwise◌, ◌is◌, nth}
+use Rattle.model.specs.Notation.{if◌then◌otherwise◌, ◌is◌, only_if, nth}
 use Rattle.model.specs.Attributes.{Source}
 use Rattle.model.specs.Declarations.{Attribute}
 use Rattle.model.specs.Table.{effective_set}
@@ -23,11 +23,6 @@ use Rattle.codes.specs.Codes.{source_code}
 use Rattle.rows.specs.Rows.{AttributeRows, masked, is_pair_of}
 use Rattle.session.specs.Opened.{reads_pair, may_read, Opened}
 use Rattle.session.specs.Words.{holder_for, in_table, opened_pair, OpenedFirst, SetOf, SetsOf}
-
--- nobody has a set
-no-set : (table : List ℕ) (p : ℕ) → in_table table (length table) p ≡ false
-unfolding in_table
-no-set table p = let h : length table / 4 ≤ length table = omega arith in ap (λ (t : Bool). t && holds table (length table) p) (le-ltb (length table) (length table / 4) h)
 
 -- a holder's set
 pub its-set : (S : State) (table : List ℕ) (k p : ℕ) → SetOf S table k → p < 256 → in_table table k p ≡ effective_set S.declared S.ties k p
@@ -49,22 +44,19 @@ no-attribute xs k e = go (dec_lt k (length xs))
 module _ (S : State) (b : Block) (rows table : List ℕ) (ar : AttributeRows rows S.declared) (sets : SetsOf S b table) (k p : ℕ) (small : k < 32) (h : p < 256) where
   abbrev read : ℕ → Bool
   read source =
-      in_table table
-      (if eqb source 1 then (if bit b.mask k then b.user otherwise length table)
-      otherwise (if eqb source 2 then b.object
-      otherwise (if eqb source 3 then 0 otherwise length table))) p
+      (if eqb source 1 then only_if (bit b.mask k) b.user otherwise (if eqb source 2 then some b.object otherwise only_if (eqb source 3) 0)) is λ h. in_table table h p
 
   by-source : (s : Source) → read (source_code s) ≡ reads_pair S b k p s
   by-source Source.user = go (activated b k) (mask-bit b k)
     where
       go : (t : Bool) → bit b.mask k ≡ t
-          → in_table table (if bit b.mask k then b.user otherwise length table) p ≡ (t && effective_set S.declared S.ties b.user p)
-      go true e = ap (λ (t : Bool). in_table table (if t then b.user otherwise length table) p) e ∙ its-set S table b.user p sets.user-set h
-      go false e = ap (λ (t : Bool). in_table table (if t then b.user otherwise length table) p) e ∙ no-set table p
+          → (only_if (bit b.mask k) b.user is λ i. in_table table i p) ≡ (t && effective_set S.declared S.ties b.user p)
+      go true e = ap (λ (t : Bool). only_if t b.user is λ i. in_table table i p) e ∙ its-set S table b.user p sets.user-set h
+      go false e = ap (λ (t : Bool). only_if t b.user is λ i. in_table table i p) e
   by-source Source.object = its-set S table b.object p sets.object-set h
   by-source Source.admin = its-set S table 0 p sets.admin-set h
-  by-source Source.env = no-set table p
-  by-source Source.connect = no-set table p
+  by-source Source.env = refl
+  by-source Source.connect = refl
 
   opened-pair : opened_pair rows table b.user b.object b.mask k p ≡ may_read S b k p
   unfolding opened_pair holder_for may_read
@@ -74,12 +66,12 @@ module _ (S : State) (b : Block) (rows table : List ℕ) (ar : AttributeRows row
     where
       go : (o : Option Attribute) → nth S.declared.attributes k ≡ o → read (get_or rows (8 * k) 0) ≡ (o is λ a. reads_pair S b k p a.source)
       go (some a) e = ap read (ar.row k a e).source ∙ by-source a.source
-      go none e = ap read (ar.other k (no-attribute S.declared.attributes k e) small) ∙ no-set table p
+      go none e = ap read (ar.other k (no-attribute S.declared.attributes k e) small)
 
   -- what is no attribute reads nothing
   not-declared : length S.declared.attributes ≤ k → may_read S b k p ≡ false
   unfolding opened_pair holder_for
-  not-declared l = sym opened-pair ∙ ap (λ (t : Bool). t && masked rows k p) (ap read (ar.other k l small) ∙ no-set table p)
+  not-declared l = sym opened-pair ∙ ap (λ (t : Bool). t && masked rows k p) (ap read (ar.other k l small))
 
 -- zeros are the words of no pair
 pub zeros-hold : (n k p : ℕ) → holds (replicate n 0) k p ≡ false

@@ -1,6 +1,7 @@
 -- The words of a session, by the rows of attributes and the table.
 use Rattle.std.specs.Prelude.{ℕ, ◌*◌, ◌/◌, ◌<◌, ◌≡◌, Bool, not, ◌&&◌, List, eqb, ltb, length, get_or}
-use Rattle.model.specs.Notation.{if◌then◌otherwise◌}
+use Rattle.std.proofs.Math.Option.{Option, some}
+use Rattle.model.specs.Notation.{if◌then◌otherwise◌, ◌is◌, only_if}
 use Rattle.model.specs.Limits.{pair_limit, mask_bits}
 use Rattle.model.specs.Table.{effective_set}
 use Rattle.model.specs.State.{State}
@@ -8,12 +9,11 @@ use Rattle.model.specs.Block.{Block}
 use Rattle.bits.specs.Bits.{bit, holds, any_below}
 use Rattle.rows.specs.Rows.{masked}
 
--- the holder whose set an attribute's names read, by the source in its row; `nobody` where there is none
-unfoldable pub holder_for : List ℕ → ℕ → ℕ → ℕ → ℕ → ℕ → ℕ
-holder_for rows nobody user object mask k =
-    if eqb (get_or rows (8 * k) 0) 1 then (if bit mask k then user otherwise nobody)
-    otherwise (if eqb (get_or rows (8 * k) 0) 2 then object
-    otherwise (if eqb (get_or rows (8 * k) 0) 3 then 0 otherwise nobody))
+-- the holder whose set an attribute's names read, if there is one, by the source in its row
+unfoldable pub holder_for : List ℕ → ℕ → ℕ → ℕ → ℕ → Option ℕ
+holder_for rows user object mask k =
+    if eqb (get_or rows (8 * k) 0) 1 then only_if (bit mask k) user
+    otherwise (if eqb (get_or rows (8 * k) 0) 2 then some object otherwise only_if (eqb (get_or rows (8 * k) 0) 3) 0)
 
 -- the table has words of holder h, and pair p is in its set
 unfoldable pub in_table : List ℕ → ℕ → ℕ → Bool
@@ -21,7 +21,7 @@ in_table table h p = ltb h (length table / 4) && holds table h p
 
 -- pair p in the words of attribute k
 unfoldable pub opened_pair : List ℕ → List ℕ → ℕ → ℕ → ℕ → ℕ → ℕ → Bool
-opened_pair rows table user object mask k p = in_table table (holder_for rows (length table) user object mask k) p && masked rows k p
+opened_pair rows table user object mask k p = (holder_for rows user object mask k is λ h. in_table table h p) && masked rows k p
 
 -- the words of the first `count` attributes are opened, those of the others as before
 abbrev pub OpenedFirst : List ℕ → List ℕ → ℕ → ℕ → ℕ → ℕ → List ℕ → List ℕ → Type 0

@@ -1,20 +1,19 @@
 -- Which sets changed from one table to another, and how marks of them add up. Assumes nothing.
-use Prim.Native.Nat.{ℕ, suc, ◌+◌, ◌-◌, ◌*◌, ◌/◌, ◌%◌, ◌≤◌, ◌<◌}
+use Prim.Native.Nat.{ℕ, suc, ◌+◌, ◌-◌, ◌*◌, ◌/◌, ◌≤◌, ◌<◌}
 use mathlib.Core.Path.{◌≡◌, refl, sym, ap, ap₂, ◌∙◌}
 use mathlib.Core.Logic.{◌⊎◌, ⊎_elim}
 use mathlib.Core.Bool.{Bool, true, false, not, ◌||◌, beq, or-false, true≢false}
-use mathlib.Core.List.{List, [], ◌∷◌}
+use mathlib.Core.List.{List}
 use native.Mathlib.Nat.{zero-add}
 use native.Mathlib.Decide.{ℕ_discrete, dec_lt}
 use native.Mathlib.Omega.{arith}
 use lib.Dec.{eqb}
-use lib.ListN.{length, get_or, take, drop, set}
+use lib.ListN.{length, get_or, take, drop}
 use borrow.Author.Tests.{eq-eqb, ne_eqb}
 use borrow.Rule.Slice.PartMut.{put_mid}
-use Rattle.model.specs.Notation.{if◌then◌otherwise◌}
-use Rattle.bits.specs.Bits.{bit, member, holds, differ, count_below}
-use Rattle.bits.proofs.Bits.{bit-none}
-use Rattle.bits.proofs.Sets.{member-part, same-beq, four, stored4}
+use Rattle.std.specs.Int.{from_bool}
+use Rattle.bits.specs.Bits.{member, holds, differ, count_below}
+use Rattle.bits.proofs.Sets.{member-part, same-beq}
 use Rattle.bits.proofs.Counts.{num, any-ext, any_at, count-suc, count-rest}
 use Rattle.sets.specs.Settled.{unlike, MarksChanged, Stored}
 use Rattle.sets.proofs.LentSets.{holds-put, holds-past, holds_kept}
@@ -47,19 +46,6 @@ unfolding differ unlike
 unlike-put t s k few long =
     any-ext 256 _ (λ p. not (beq (holds t k p) (holds (put_mid (4 * k) (4 * k + 4 - 4 * k) t s) k p)))
     (λ p h. ap₂ (λ (a b : Bool). not (beq a b)) (member-part t k p h) (sym (holds-put t s k few long p h)))
-
--- four words that are copied one by one
-pub copied : (s n : List ℕ) → length s ≡ 4 → (p : ℕ) → p < 256 → member (set (set (set (set s 0 (get_or n 0 0)) 1 (get_or n 1 0)) 2 (get_or n 2 0)) 3 (get_or n 3 0)) p ≡ member n p
-unfolding member
-copied s n long p h =
-    ap (λ (l : List ℕ). bit (get_or l (p / 64) 0) (p % 64)) (stored4 s (get_or n 0 0) (get_or n 1 0) (get_or n 2 0) (get_or n 3 0) long)
-    ∙ ap (λ (w : ℕ). bit w (p % 64))
-    (four (λ (j : ℕ). get_or (get_or n 0 0 ∷ get_or n 1 0 ∷ get_or n 2 0 ∷ get_or n 3 0 ∷ []) j 0 ≡ get_or n j 0) refl refl refl refl (p / 64) (omega arith))
-
-pub differ_same : (s t u : List ℕ) → ((p : ℕ) → p < 256 → member t p ≡ member u p) → differ 256 s t ≡ differ 256 s u
-unfolding differ
-differ_same s t u e =
-    any-ext 256 (λ p. not (beq (member s p) (member t p))) (λ p. not (beq (member s p) (member u p))) (λ p l. ap (λ (x : Bool). not (beq (member s p) x)) (e p l))
 
 pub or_swap : (a b : Bool) → (a || b) ≡ (b || a)
 or_swap true true = refl
@@ -130,8 +116,10 @@ module _ {own slots t t' : List ℕ} {k mask : ℕ} (stored : Stored own slots k
       let off = unlike-past t t' k (omega arith) long in
       count-rest 0 256 (unlike t t') (omega arith) (λ j a b. unlike-same t t' j (others_same stored j (λ e. omega arith))) ∙ ap num (sym off)
 
-  -- the ones of a word that marks the holder
-  pub counted-alone : (w : ℕ) (b : Bool) → b ≡ unlike t t' k → ((j : ℕ) → bit w j ≡ (if eqb j (k % 64) then b otherwise bit 0 j)) → count_below 64 (bit w) ≡ count_below 256 (unlike t t')
-  counted-alone w b is put =
-      count-one 64 (k % 64) (bit w) (omega arith) (λ j n. put j ∙ ap (λ (x : Bool). if x then b otherwise bit 0 j) (ne_eqb j (k % 64) n) ∙ bit-none j)
-      ∙ ap num (put (k % 64) ∙ ap (λ (x : Bool). if x then b otherwise bit 0 (k % 64)) (eq-eqb (k % 64) (k % 64) refl) ∙ is) ∙ sym (changed-count (dec_lt k 256))
+  -- one where the set changed, which the code has of its answer
+  pub counted-alone : (b : Bool) → b ≡ unlike t t' k → from_bool b ≡ count_below 256 (unlike t t')
+  counted-alone b is = by b ∙ ap num is ∙ sym (changed-count (dec_lt k 256))
+    where
+      by : (b : Bool) → from_bool b ≡ num b
+      by true = refl
+      by false = refl

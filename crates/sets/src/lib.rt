@@ -19,6 +19,14 @@ pub struct Tally {
     pub joins: usize,
 }
 
+// The arrays that keep the ties, as they are lent to a call: own pairs, ties up, and the holder of each slot.
+#[derive(Clone, Copy)]
+struct Arrays<'a> {
+    own: &'a [u64],
+    ups: &'a [u64],
+    slots: &'a [u64],
+}
+
 // Rewrites one set, which is lent by its four words: its own pairs, joined with those that it inherits. Tells whether it changed.
 fn rewrite(set: &mut [u64], own: &[u64], inherited: [u64; 4]) -> bool
     requires { (length set.old ≡ 4) × (length own.now ≡ 4) }
@@ -26,10 +34,7 @@ fn rewrite(set: &mut [u64], own: &[u64], inherited: [u64; 4]) -> bool
 {
     let next = bits::joined(inherited, own);
     let is_changed = bits::differs(set, &next);
-    set[0] = next[0];
-    set[1] = next[1];
-    set[2] = next[2];
-    set[3] = next[3];
+    set.copy_from_slice(&next);
     is_changed
 }
 
@@ -42,8 +47,7 @@ fn inherit(sum: [u64; 4], table: &[u64], k: usize) -> [u64; 4]
         return sum;
     }
     let at = 4 * k;
-    let end = at + 4;
-    bits::joined(sum, &table[at..end])
+    bits::joined(sum, &table[at..at + 4])
 }
 
 // The pairs that stand in the sets of the groups of a mask.
@@ -55,8 +59,7 @@ fn gather(table: &[u64], slots: &[u64], mask: u64) -> [u64; 4]
     let mut above = mask;
     while above != 0 {
         let q = bits::lowest(above);
-        let k = ties::holder_at(slots, q);
-        let next = inherit(sum, table, k);
+        let next = inherit(sum, table, ties::holder_at(slots, q));
         sum = next;
         above = bits::without(above, q);
     }
@@ -64,34 +67,35 @@ fn gather(table: &[u64], slots: &[u64], mask: u64) -> [u64; 4]
 }
 
 // Rewrites holder k's set from its own pairs and the sets of the groups of a mask. Tells whether it changed.
-fn store(table: &mut [u64], own: &[u64], slots: &[u64], k: usize, mask: u64) -> bool
-    requires { (length table.old % 4 ≡ 0) × (length own.now ≡ length table.old) }
-    ensures { Stored own.now slots.now k mask table.old table.new × (result ≡ unlike table.old table.new k) }
+fn store(table: &mut [u64], arrays: &Arrays<'_>, k: usize, mask: u64) -> bool
+    requires { (length table.old % 4 ≡ 0) × (length arrays.now.own.now ≡ length table.old) }
+    ensures { Stored arrays.now.own.now arrays.now.slots.now k mask table.old table.new × (result ≡ unlike table.old table.new k) }
 {
     if k >= table.len() / 4 {
         return false;
     }
-    let sum = gather(table, slots, mask);
+    let sum = gather(table, arrays.slots, mask);
     let at = 4 * k;
-    let end = at + 4;
-    rewrite(&mut table[at..end], &own[at..end], sum)
+    rewrite(&mut table[at..at + 4], &arrays.own[at..at + 4], sum)
 }
 
-// The same, and marks the holder if its set changed.
+// The same, and marks the holder if its set changed. Tells whether it did. Inlined, since edits are slower where it is called.
+#[inline(always)]
 fn store_marked(
     table: &mut [u64],
     marks: &mut [u64],
-    own: &[u64],
-    slots: &[u64],
+    arrays: &Arrays<'_>,
     k: usize,
     mask: u64,
-)
-    requires { (length table.old % 4 ≡ 0) × (length own.now ≡ length table.old) × (length table.old ≤ 256 * length marks.old) }
-    ensures { Stored own.now slots.now k mask table.old table.new × MarksChanged marks.old marks.new table.old table.new }
+) -> bool
+    requires { (length table.old % 4 ≡ 0) × (length arrays.now.own.now ≡ length table.old) × (length table.old ≤ 256 * length marks.old) }
+    ensures { Stored arrays.now.own.now arrays.now.slots.now k mask table.old table.new × MarksChanged marks.old marks.new table.old table.new × (result ≡ unlike table.old table.new k) }
 {
-    if store(table, own, slots, k, mask) {
-        bits::insert(marks, k);
+    if !store(table, arrays, k, mask) {
+        return false;
     }
+    bits::insert(marks, k);
+    true
 }
 
 // The same for the group of a slot; answers the mask `seen` of the settled groups with it. Where its set stays as it was, nothing is marked, and the
@@ -99,22 +103,17 @@ fn store_marked(
 fn store_group(
     table: &mut [u64],
     marks: &mut [u64],
-    own: &[u64],
-    slots: &[u64],
+    arrays: &Arrays<'_>,
     group: usize,
     mask: u64,
     seen: u64,
 ) -> u64
-    requires { (length table.old % 4 ≡ 0) × (length own.now ≡ length table.old) × (length table.old ≤ 256 * length marks.old) × (group < group_limit) }
-    ensures { Stored own.now slots.now (get_or slots.now group 0) mask table.old table.new × MarksChanged marks.old marks.new table.old table.new × Bits result (λ j. bit seen j || eqb j group) }
+    requires { (length table.old % 4 ≡ 0) × (length arrays.now.own.now ≡ length table.old) × (length table.old ≤ 256 * length marks.old) × (group < group_limit) }
+    ensures { Stored arrays.now.own.now arrays.now.slots.now (get_or arrays.now.slots.now group 0) mask table.old table.new × MarksChanged marks.old marks.new table.old table.new × Bits result (λ j. bit seen j || eqb j group) }
 {
-    let k = ties::holder_at(slots, group);
-    let settled = bits::with(seen, group);
-    if !store(table, own, slots, k, mask) {
-        return settled;
-    }
-    bits::insert(marks, k);
-    settled
+    let k = ties::holder_at(arrays.slots, group);
+    store_marked(table, marks, arrays, k, mask);
+    bits::with(seen, group)
 }
 
 // The set of a group: settles the groups one tie up first, then rewrites its own set from theirs, and marks it if it changed. A group of the
@@ -123,59 +122,45 @@ fn store_group(
 fn settle(
     table: &mut [u64],
     marks: &mut [u64],
-    own: &[u64],
-    ups: &[u64],
-    slots: &[u64],
+    arrays: &Arrays<'_>,
     group: usize,
     path: u64,
     done: u64,
     height: usize,
 ) -> u64
-    requires { Shaped ups.now own.now slots.now table.old × (length ups.now ≤ 64 * length marks.old) × (group < group_limit) }
-    ensures { Settled ups.now own.now slots.now table.old table.new marks.old marks.new done result (Deep ups.now slots.now path height group) (λ g. g ≡ group) × Spared path done result }
+    requires { Shaped arrays.now.ups.now arrays.now.own.now arrays.now.slots.now table.old × (length arrays.now.ups.now ≤ 64 * length marks.old) × (group < group_limit) }
+    ensures { Settled arrays.now.ups.now arrays.now.own.now arrays.now.slots.now table.old table.new marks.old marks.new done result (Deep arrays.now.ups.now arrays.now.slots.now path height group) (λ g. g ≡ group) × Spared path done result }
 {
-    if bits::has(done, group) {
+    if bits::has(done, group)
+        || bits::has(path, group)
+        || height == 0
+        || !ties::in_use(arrays.slots, group, arrays.ups.len())
+    {
         return done;
     }
-    if bits::has(path, group) {
-        return done;
-    }
-    if height == 0 {
-        return done;
-    }
-    if !ties::in_use(slots, group, ups.len()) {
-        return done;
-    }
-    let k = ties::holder_at(slots, group);
-    let mask = ties::ties_up(ups, k);
+    let k = ties::holder_at(arrays.slots, group);
+    let mask = ties::ties_up(arrays.ups, k);
     let below = bits::with(path, group);
     let mut seen = done;
     let mut left = ties::still_left(mask, 0, done);
     while left != 0 {
         let q = bits::lowest(left);
-        seen = settle(table, marks, own, ups, slots, q, below, seen, height - 1);
+        seen = settle(table, marks, arrays, q, below, seen, height - 1);
         left = bits::without(left, q);
     }
-    store_group(table, marks, own, slots, group, mask, seen)
+    store_group(table, marks, arrays, group, mask, seen)
 }
 
 // Settles every group that is not in the mask `done`.
-fn settle_groups(
-    table: &mut [u64],
-    marks: &mut [u64],
-    own: &[u64],
-    ups: &[u64],
-    slots: &[u64],
-    done: u64,
-) -> u64
-    requires { Shaped ups.now own.now slots.now table.old × (length ups.now ≤ 64 * length marks.old) }
-    ensures { Settled ups.now own.now slots.now table.old table.new marks.old marks.new done result (AllDeep ups.now slots.now) (λ g. g < group_limit) }
+fn settle_groups(table: &mut [u64], marks: &mut [u64], arrays: &Arrays<'_>, done: u64) -> u64
+    requires { Shaped arrays.now.ups.now arrays.now.own.now arrays.now.slots.now table.old × (length arrays.now.ups.now ≤ 64 * length marks.old) }
+    ensures { Settled arrays.now.ups.now arrays.now.own.now arrays.now.slots.now table.old table.new marks.old marks.new done result (AllDeep arrays.now.ups.now arrays.now.slots.now) (λ g. g < group_limit) }
 {
     let mut seen = done;
     let mut left = !done;
     while left != 0 {
         let g = bits::lowest(left);
-        seen = settle(table, marks, own, ups, slots, g, 0, seen, ups.len());
+        seen = settle(table, marks, arrays, g, 0, seen, arrays.ups.len());
         left = bits::without(left, g);
     }
     seen
@@ -186,48 +171,33 @@ fn settle_groups(
 fn store_under(
     table: &mut [u64],
     marks: &mut [u64],
-    own: &[u64],
-    ups: &[u64],
-    slots: &[u64],
+    arrays: &Arrays<'_>,
     groups: &[u64],
     below: u64,
     edited: usize,
 ) -> usize
-    requires { Shaped ups.now own.now slots.now table.old × (length ups.now ≤ 64 * length marks.old) × (length ups.now ≤ 65536) }
-    ensures { PartiesStored ups.now own.now slots.now groups.now below edited table.old table.new marks.old marks.new (length ups.now) × (result ≡ joins_under ups.now below edited (length ups.now)) }
+    requires { Shaped arrays.now.ups.now arrays.now.own.now arrays.now.slots.now table.old × (length arrays.now.ups.now ≤ 64 * length marks.old) × (length arrays.now.ups.now ≤ 65536) }
+    ensures { PartiesStored arrays.now.ups.now arrays.now.own.now arrays.now.slots.now groups.now below edited table.old table.new marks.old marks.new (length arrays.now.ups.now) × (result ≡ joins_under arrays.now.ups.now below edited (length arrays.now.ups.now)) }
 {
     let mut joins: usize = 0;
-    for k in 0..ups.len() {
-        let added = ties::joins_under(ups, below, edited, k);
-        if added != 0 {
-            if !ties::is_group(groups, k) {
-                store_marked(table, marks, own, slots, k, ups[k]);
-            }
+    for (k, up) in arrays.ups.iter().enumerate() {
+        let added = ties::joins_under(arrays.ups, below, edited, k);
+        if added != 0 && !ties::is_group(groups, k) {
+            store_marked(table, marks, arrays, k, *up);
         }
         joins += added;
     }
     joins
 }
 
-// Every holder's own pairs as its set.
-fn copy_own(table: &mut [u64], own: &[u64])
-    requires { length own.now ≡ length table.old }
-    ensures { (j : ℕ) → get_or table.new j 0 ≡ get_or own.now j 0 }
-{
-    for j in 0..table.len() {
-        table[j] = own[j];
-    }
-}
-
 // Stores the holders that have a tie up, once the groups' sets are right. A group's is stored once more, as it is.
-fn store_tied(table: &mut [u64], own: &[u64], ups: &[u64], slots: &[u64])
-    requires { Shaped ups.now own.now slots.now table.old }
-    ensures { StoredTied ups.now own.now slots.now table.old table.new (length ups.now) }
+fn store_tied(table: &mut [u64], arrays: &Arrays<'_>)
+    requires { Shaped arrays.now.ups.now arrays.now.own.now arrays.now.slots.now table.old }
+    ensures { StoredTied arrays.now.ups.now arrays.now.own.now arrays.now.slots.now table.old table.new (length arrays.now.ups.now) }
 {
-    for k in 0..ups.len() {
-        let up = ups[k];
-        if up != 0 {
-            store(table, own, slots, k, up);
+    for (k, up) in arrays.ups.iter().enumerate() {
+        if *up != 0 {
+            store(table, arrays, k, *up);
         }
     }
 }
@@ -238,23 +208,23 @@ pub fn fill(table: &mut [u64], own: &[u64], ups: &[u64], slots: &[u64])
     requires { Shaped ups.now own.now slots.now table.old × (length ups.now ≤ 64 * mark_words) }
     ensures { Filled ups.now own.now slots.now table.new }
 {
-    copy_own(table, own);
+    table.copy_from_slice(own);
     let mut marks = [0u64; MARK_WORDS];
     let free = !ties::numbered(slots);
-    settle_groups(table, &mut marks, own, ups, slots, free);
-    store_tied(table, own, ups, slots);
+    let arrays = Arrays { own, ups, slots };
+    settle_groups(table, &mut marks, &arrays, free);
+    store_tied(table, &arrays);
 }
 
-// After an edit of a user or an object, below whom nobody is: its own set is all. The sets that changed are the ones of a word in which it is marked.
-fn refresh_alone(table: &mut [u64], own: &[u64], ups: &[u64], slots: &[u64], edited: usize) -> Tally
-    requires { Shaped ups.now own.now slots.now table.old × (length ups.now ≤ 64 * mark_words) }
-    ensures { Stored own.now slots.now edited (get_or ups.now edited 0) table.old table.new × (result.changed ≡ count_below (64 * mark_words) (unlike table.old table.new)) × (result.joins ≡ joins_by (get_or ups.now edited 0)) }
+// After an edit of a user or an object, below whom nobody is: its own set is all.
+fn refresh_alone(table: &mut [u64], arrays: &Arrays<'_>, edited: usize) -> Tally
+    requires { Shaped arrays.now.ups.now arrays.now.own.now arrays.now.slots.now table.old × (length arrays.now.ups.now ≤ 64 * mark_words) }
+    ensures { Stored arrays.now.own.now arrays.now.slots.now edited (get_or arrays.now.ups.now edited 0) table.old table.new × (result.changed ≡ count_below (64 * mark_words) (unlike table.old table.new)) × (result.joins ≡ joins_by (get_or arrays.now.ups.now edited 0)) }
 {
-    let up = ties::ties_up(ups, edited);
-    let changed = store(table, own, slots, edited, up);
-    let mark = bits::put(0, edited % 64, changed);
+    let up = ties::ties_up(arrays.ups, edited);
+    let is_changed = store(table, arrays, edited, up);
     Tally {
-        changed: bits::ones(mark),
+        changed: usize::from(is_changed),
         joins: ties::joins(up),
     }
 }
@@ -264,18 +234,16 @@ fn refresh_alone(table: &mut [u64], own: &[u64], ups: &[u64], slots: &[u64], edi
 fn rewrite_below(
     table: &mut [u64],
     marks: &mut [u64],
-    own: &[u64],
-    ups: &[u64],
-    slots: &[u64],
+    arrays: &Arrays<'_>,
     groups: &[u64],
     edited: usize,
 ) -> usize
-    requires { Shaped ups.now own.now slots.now table.old × (length ups.now ≤ 64 * length marks.old) × (length ups.now ≤ 65536) }
-    ensures { Rewritten ups.now own.now slots.now groups.now edited table.old table.new marks.old marks.new × JoinsBelow ups.now slots.now edited result }
+    requires { Shaped arrays.now.ups.now arrays.now.own.now arrays.now.slots.now table.old × (length arrays.now.ups.now ≤ 64 * length marks.old) × (length arrays.now.ups.now ≤ 65536) }
+    ensures { Rewritten arrays.now.ups.now arrays.now.own.now arrays.now.slots.now groups.now edited table.old table.new marks.old marks.new × JoinsBelow arrays.now.ups.now arrays.now.slots.now edited result }
 {
-    let below = ties::groups_below(ups, slots, edited);
-    settle_groups(table, marks, own, ups, slots, !below);
-    store_under(table, marks, own, ups, slots, groups, below, edited)
+    let below = ties::groups_below(arrays.ups, arrays.slots, edited);
+    settle_groups(table, marks, arrays, !below);
+    store_under(table, marks, arrays, groups, below, edited)
 }
 
 // After an edit of holder `edited`: refreshes the table, and answers how many holders' sets changed, and the set joins, also where none changed. `groups`
@@ -291,11 +259,12 @@ pub fn refresh(
     requires { Shaped ups.now own.now slots.now table.old × (length ups.now ≤ 64 * mark_words) }
     ensures { Refreshed ups.now own.now slots.now groups.now edited table.old table.new result.changed result.joins }
 {
+    let arrays = Arrays { own, ups, slots };
     if !ties::is_group(groups, edited) {
-        return refresh_alone(table, own, ups, slots, edited);
+        return refresh_alone(table, &arrays, edited);
     }
     let mut changed = [0u64; MARK_WORDS];
-    let joins = rewrite_below(table, &mut changed, own, ups, slots, groups, edited);
+    let joins = rewrite_below(table, &mut changed, &arrays, groups, edited);
     Tally {
         changed: bits::count(&changed),
         joins,

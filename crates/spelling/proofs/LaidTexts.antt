@@ -18,7 +18,7 @@ use Rattle.model.proofs.Lists.{each_below}
 use Rattle.spelling.specs.LineTexts.{key_words, bool_words, listed_text, string_text, atom_text, name_of_holder, line_end, holder_line_text}
 
 -- the next of a list's texts
-laid_next : (f : ℕ → Bytes) {b : Bytes} {at i : ℕ} {m : Bytes} {n : ℕ} {a : Bytes} {r : ℕ} → Laid b at (each f (below i)) m n → Laid m n (f i) a r
+pub laid_next : (f : ℕ → Bytes) {b : Bytes} {at i : ℕ} {m : Bytes} {n : ℕ} {a : Bytes} {r : ℕ} → Laid b at (each f (below i)) m n → Laid m n (f i) a r
     → Laid b at (each f (below (i + 1))) a r
 laid_next f {i = i} p q = let z : suc i ≡ i + 1 = omega arith in laid_as (sym (each_below f i) ∙ ap (λ (k : ℕ). each f (below k)) z) (laid_on p q)
 

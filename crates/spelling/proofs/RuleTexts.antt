@@ -1,12 +1,11 @@
 -- The text of rule code, token by token: the arms of a token's text and size, and what is laid while a policy is written. Assumes nothing.
 use Prim.Native.Nat.{ℕ, zero, suc, ◌+◌, ◌-◌, ◌*◌, ◌≤◌, ◌<◌, min}
 use mathlib.Core.Path.{◌≡◌, refl, sym, ap, ap₂, subst, ◌∙◌}
-use mathlib.Core.Bool.{Bool, true, false, not, true≢false}
+use mathlib.Core.Bool.{Bool, true, false, true≢false}
 use mathlib.Core.List.{List, [], ◌∷◌, ◌++◌, append-nil, append_assoc}
 use native.Mathlib.Decide.{dec_lt}
 use native.Mathlib.Omega.{arith}
-use borrow.Author.Tests.{ne_eqb, le-leb, lt-leb}
-use lib.Dec.{eqb}
+use borrow.Author.Tests.{ne_eqb}
 use lib.ListN.{length, get_or, take, drop, length-drop, drop_of_length-le, get_or-eq_default}
 use lib.Seq.{take_all, take-nil, get_or-drop}
 use Rattle.model.specs.Notation.{if◌then◌otherwise◌}
@@ -53,31 +52,18 @@ part-within s a n {x} {y} p q = go (dec_lt (length s) a) (dec_lt (length s) (a +
         let d = length-drop a s in
         ap (λ (j : ℕ). take (y - x) (drop j s)) w ∙ take_all (y - x) (drop a s) (omega arith) ∙ sym (take_all n (drop a s) (omega arith))
 
--- ---- words
-
-module _ (k : ℕ) where
-  pub small-kind : (k ≡ 1 → ⊥) → (k ≡ 4 → ⊥) → k < 10 → false ≡ word_kind k
-  unfolding word_kind
-  small-kind a b l = rw (ne_eqb k 1 a, ne_eqb k 4 b, lt-leb 10 k l, ne_eqb k 17 (λ e. omega arith), ne_eqb k 19 (λ e. omega arith)) refl
-
-  pub middle-kind : (k ≡ 1 → ⊥) → (k ≡ 4 → ⊥) → 10 ≤ k → k ≤ 15 → true ≡ word_kind k
-  unfolding word_kind
-  middle-kind a b l m = rw (ne_eqb k 1 a, ne_eqb k 4 b, le-leb 10 k l, le-leb k 15 m) refl
-
-  pub large-kind : (k ≡ 1 → ⊥) → (k ≡ 4 → ⊥) → 15 < k → (k ≡ 17 → ⊥) → eqb k 19 ≡ word_kind k
-  unfolding word_kind
-  large-kind a b l m = rw (ne_eqb k 1 a, ne_eqb k 4 b, le-leb 10 k (omega arith), lt-leb k 15 l, ne_eqb k 17 m) refl
+-- ---- the space between words
 
 -- behind no word, and behind one
-pub no_gap : (word : Bool) (k : ℕ) → not word ≡ true → [] ≡ gap_text word k
+pub no_gap : (word : Bool) (k : ℕ) → word ≡ false → [] ≡ gap_text word k
 unfolding gap_text
 no_gap false k e = refl
-no_gap true k e = absurd (true≢false (sym e))
+no_gap true k e = absurd (true≢false e)
 
-pub gap_by : (word : Bool) (k : ℕ) {v : Bool} → not word ≡ false → word_kind k ≡ v → (if v then bytes " " otherwise []) ≡ gap_text word k
+pub gap_by : (word : Bool) (k : ℕ) {v : Bool} → word ≡ true → word_kind k ≡ v → (if v then bytes " " otherwise []) ≡ gap_text word k
 unfolding gap_text
 gap_by true k e q = ap (λ (x : Bool). if x then bytes " " otherwise []) (sym q)
-gap_by false k e q = absurd (true≢false e)
+gap_by false k e q = absurd (true≢false (sym e))
 
 -- ---- one token: its text, and how many bytes of code it takes
 

@@ -1,1 +1,2 @@
 pub mod LineTexts
+pub mod Lines

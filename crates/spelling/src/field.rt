@@ -1,15 +1,14 @@
 // What stands in a line: words of the format, names and atoms, as a book has them. Words behind the end of a book or a table count as 0, so that nothing
 // is asked of either.
-ghost use Rattle.std.specs.Prelude.{◌≡◌, ◌+◌, ◌≤◌, min, get_or};
+ghost use Rattle.std.specs.Prelude.{◌≡◌, ◌+◌, ◌≤◌, get_or};
 ghost use Rattle.model.specs.Atoms.{quoted};
+ghost use Rattle.codes.specs.Enums.{key_number};
 ghost use Rattle.output.specs.Laid.{far, Laid, word_text};
 ghost use Rattle.spelling.specs.LineTexts.{listed_text, key_words, source_words, type_words, token_words, name_text, string_text, atom_text, attribute_text};
 
-use codes::{INT, STR};
-use text::{SOURCES, TYPES};
+use codes::{AtomType, Key};
 
-// Words of the format in tables, packed as names are. The number that a book or the code of a rule has for one is its place. Those of sources and types
-// are the tables that read them.
+// Words of the format in tables, packed as names are. The number that a book or the code of a rule has for one is its place.
 
 // The keys, with their `=`.
 const KEYS: [u64; 12] = [
@@ -25,6 +24,22 @@ const KEYS: [u64; 12] = [
     17295753347949933, // `member=`
     67505971028342, // `value=`
     263694611826, // `rule=`
+];
+
+const SOURCES: [u64; 6] = [
+    0, // none
+    1919251317, // `user`
+    127970252055151, // `object`
+    474215179361, // `admin`
+    7761509, // `env`
+    32760384594014051, // `connect`
+];
+
+const TYPES: [u64; 4] = [
+    0, // none
+    7630441, // `int`
+    7500915, // `str`
+    1819242338, // `bool`
 ];
 
 // FALSE and TRUE.
@@ -61,17 +76,11 @@ const TOKENS: [u64; 24] = [
     15678, // `>=`
 ];
 
-pub fn least(a: usize, b: usize) -> usize
-    ensures { result ≡ min a b }
-{
-    if a <= b { a } else { b }
-}
-
 // The word at a place of a book.
 pub fn word(words: &[u64], at: usize) -> u64
     ensures { result ≡ get_or words.now at 0 }
 {
-    if at < words.len() { words[at] } else { 0 }
+    words.get(at).copied().unwrap_or(0)
 }
 
 // A word of the format.
@@ -79,17 +88,14 @@ fn put_listed(out: &mut [u8], at: usize, table: &[u64], number: u64) -> usize
     requires { at + 8 ≤ far }
     ensures { Laid out.old at (listed_text table.now number) out.new result × (result ≤ at + 8) }
 {
-    if number < table.len() as u64 {
-        return output::put_word(out, at, table[number as usize]);
-    }
-    at
+    output::put_word(out, at, word(table, number as usize))
 }
 
-pub fn put_key(out: &mut [u8], at: usize, key: u8) -> usize
+pub fn put_key(out: &mut [u8], at: usize, key: Key) -> usize
     requires { at + 8 ≤ far }
-    ensures { Laid out.old at (listed_text key_words key) out.new result × (result ≤ at + 8) }
+    ensures { Laid out.old at (listed_text key_words (key_number key)) out.new result × (result ≤ at + 8) }
 {
-    put_listed(out, at, &KEYS, key as u64)
+    put_listed(out, at, &KEYS, u64::from(key))
 }
 
 pub fn put_source(out: &mut [u8], at: usize, source: u64) -> usize
@@ -111,7 +117,7 @@ pub fn put_token(out: &mut [u8], at: usize, kind: u8) -> usize
     requires { at + 8 ≤ far }
     ensures { Laid out.old at (listed_text token_words kind) out.new result × (result ≤ at + 8) }
 {
-    put_listed(out, at, &TOKENS, kind as u64)
+    put_listed(out, at, &TOKENS, u64::from(kind))
 }
 
 // The bytes of a packed word that stands behind another: mostly it is 0 and has none.
@@ -120,12 +126,14 @@ fn put_rest(out: &mut [u8], at: usize, word: u64) -> usize
     ensures { Laid out.old at (word_text 8 word) out.new result × (result ≤ at + 8) }
 {
     if word == 0 {
-        return at;
+        at
+    } else {
+        output::put_word(out, at, word)
     }
-    output::put_word(out, at, word)
 }
 
 // The name in the two words from a place on.
+#[inline]
 pub fn put_name(out: &mut [u8], at: usize, book: &[u64], place: usize) -> usize
     requires { (at + 16 ≤ far) × (place + 1 ≤ far) }
     ensures { Laid out.old at (name_text book.now place) out.new result × (result ≤ at + 16) }
@@ -146,18 +154,18 @@ fn put_string(out: &mut [u8], at: usize, book: &[u64], place: usize) -> usize
 }
 
 // The atom in the three words from a place on.
+#[inline]
 pub fn put_atom(out: &mut [u8], at: usize, book: &[u64], ty: u64, place: usize) -> usize
     requires { (at + 26 ≤ far) × (place + 2 ≤ far) }
     ensures { Laid out.old at (atom_text book.now ty place) out.new result × (result ≤ at + 26) }
 {
-    if ty == INT as u64 {
-        let n = word(book, place) % 4294967296;
-        return output::put_decimal(out, at, n as u32);
+    if ty == u64::from(AtomType::Int) {
+        output::put_decimal(out, at, (word(book, place) % 4294967296) as u32)
+    } else if ty == u64::from(AtomType::Str) {
+        put_string(out, at, book, place)
+    } else {
+        put_listed(out, at, &BOOLS, word(book, place))
     }
-    if ty == STR as u64 {
-        return put_string(out, at, book, place);
-    }
-    put_listed(out, at, &BOOLS, word(book, place))
 }
 
 // SRC.NAME of the attribute whose row is at a place.

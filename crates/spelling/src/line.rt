@@ -1,8 +1,11 @@
 // The lines of what is declared, up to the holders.
-ghost use Rattle.std.specs.Prelude.{◌≡◌, ◌+◌, ◌*◌, ◌<◌, ◌≤◌};
+ghost use Rattle.std.specs.Prelude.{ℕ, ◌≡◌, ◌+◌, ◌*◌, ◌<◌, ◌≤◌};
 ghost use Rattle.model.specs.Notation.{each, below};
+ghost use Rattle.model.specs.Bytes.{Bytes};
 ghost use Rattle.model.specs.Limits.{attribute_limit, operation_limit, pair_limit};
+ghost use Rattle.codes.specs.Enums.{key_number};
 ghost use Rattle.output.specs.Laid.{far, Laid};
+ghost use Rattle.spelling.specs.Lines.{PutsWithin, PutsTexts};
 ghost use Rattle.spelling.specs.LineTexts.{counted, attribute_line_text, row_of_pair, pair_atom_text, operation_line_text, pair_line_text, holder_line_text, sort_text, name_of_holder};
 
 use book::find::{HOLDERS, OPERATIONS, PAIRS};
@@ -10,7 +13,7 @@ use book::{
     ATTRIBUTE_COUNT, ATTRIBUTES_AT, HOLDER_COUNT, OPERATION_COUNT, OPERATIONS_AT, PAIR_COUNT,
     PAIR_ROWS_AT, SORTS_AT,
 };
-use codes::{KEY_ATOM, KEY_ATTR, KEY_OP};
+use codes::Key;
 use rows::ATTRIBUTES;
 
 // The names of holders: the second and third word of their rows, which stand behind the chains of their index.
@@ -20,11 +23,26 @@ const HOLDER_NAMES_AT: usize = 2329;
 pub fn count(book: &[u64], place: usize, limit: usize) -> usize
     ensures { (result ≡ counted book.now place limit) × (result ≤ limit) }
 {
-    let n = crate::field::word(book, place);
-    if n < limit as u64 {
-        return n as usize;
+    crate::field::word(book, place).min(limit as u64) as usize
+}
+
+// The lines of the numbers below `count`, one behind another: `put` puts the line of a number, of SIZE bytes at most.
+pub fn put_lines<const SIZE: usize, F: Fn(&mut [u8], usize, usize) -> usize>(
+    out: &mut [u8],
+    at: usize,
+    count: usize,
+    put: F,
+) -> usize
+    requires room { at + SIZE * count ≤ far }
+    requires puts { PutsWithin F.Fn put SIZE count }
+    ensures laid { (text : ℕ → Bytes) → PutsTexts F.Fn put SIZE count text → Laid out.old at (each text (below count)) out.new result }
+    ensures within { result ≤ at + SIZE * count }
+{
+    let mut n = at;
+    for k in 0..count {
+        n = put(out, n, k);
     }
-    limit
+    n
 }
 
 fn put_attribute_line(out: &mut [u8], at: usize, book: &[u64], k: usize) -> usize
@@ -32,7 +50,7 @@ fn put_attribute_line(out: &mut [u8], at: usize, book: &[u64], k: usize) -> usiz
     ensures { Laid out.old at (attribute_line_text book.now k) out.new result × (result ≤ at + 64) }
 {
     let row = ATTRIBUTES_AT + 8 * k;
-    let a = crate::field::put_key(out, at, KEY_ATTR);
+    let a = crate::field::put_key(out, at, Key::Attr);
     let b = crate::field::put_source(out, a, crate::field::word(book, row));
     let c = output::put_byte(out, b, b',');
     let d = crate::field::put_name(out, c, book, row + 2);
@@ -46,18 +64,19 @@ pub fn put_attributes(out: &mut [u8], at: usize, book: &[u64]) -> usize
     ensures { Laid out.old at (each (attribute_line_text book.now) (below (counted book.now 0 attribute_limit))) out.new result × (result ≤ at + 2048) }
 {
     let count = count(book, ATTRIBUTE_COUNT, ATTRIBUTES);
-    let mut n = at;
-    for k in 0..count {
-        n = put_attribute_line(out, n, book, k);
-    }
-    n
+    put_lines::<64, _>(
+        out,
+        at,
+        count,
+        |out, n, k| put_attribute_line(out, n, book, k),
+    )
 }
 
 fn put_operation_line(out: &mut [u8], at: usize, book: &[u64], k: usize) -> usize
     requires { (at + 32 ≤ far) × (k < 256) }
     ensures { Laid out.old at (operation_line_text book.now k) out.new result × (result ≤ at + 32) }
 {
-    let a = crate::field::put_key(out, at, KEY_OP);
+    let a = crate::field::put_key(out, at, Key::Op);
     let b = crate::field::put_name(out, a, book, OPERATIONS_AT + 2 * k);
     output::put_byte(out, b, b'\n')
 }
@@ -67,11 +86,12 @@ pub fn put_operations(out: &mut [u8], at: usize, book: &[u64]) -> usize
     ensures { Laid out.old at (each (operation_line_text book.now) (below (counted book.now 1 operation_limit))) out.new result × (result ≤ at + 256) }
 {
     let count = count(book, OPERATION_COUNT, OPERATIONS);
-    let mut n = at;
-    for k in 0..count {
-        n = put_operation_line(out, n, book, k);
-    }
-    n
+    put_lines::<32, _>(
+        out,
+        at,
+        count,
+        |out, n, k| put_operation_line(out, n, book, k),
+    )
 }
 
 // Where the row of a pair's attribute is: the pair has one more than its number.
@@ -83,7 +103,8 @@ pub fn row_of_pair(book: &[u64], p: usize) -> usize
     ATTRIBUTES_AT + 8 * number as usize - 8
 }
 
-// The atom of a pair, of the type of its attribute.
+// The atom of a pair, of the type of its attribute. Inlined, since the text of a full file takes longer where it is called.
+#[inline(always)]
 pub fn put_pair_atom(out: &mut [u8], at: usize, book: &[u64], p: usize) -> usize
     requires { (at + 26 ≤ far) × (p < 256) }
     ensures { Laid out.old at (pair_atom_text book.now p) out.new result × (result ≤ at + 26) }
@@ -97,7 +118,7 @@ fn put_pair_line(out: &mut [u8], at: usize, book: &[u64], p: usize) -> usize
     requires { (at + 64 ≤ far) × (p < 256) }
     ensures { Laid out.old at (pair_line_text book.now p) out.new result × (result ≤ at + 64) }
 {
-    let a = crate::field::put_key(out, at, KEY_ATOM);
+    let a = crate::field::put_key(out, at, Key::Atom);
     let b = crate::field::put_attribute(out, a, book, row_of_pair(book, p));
     let c = output::put_byte(out, b, b',');
     let d = put_pair_atom(out, c, book, p);
@@ -109,11 +130,7 @@ pub fn put_pairs(out: &mut [u8], at: usize, book: &[u64]) -> usize
     ensures { Laid out.old at (each (pair_line_text book.now) (below (counted book.now 2 pair_limit))) out.new result × (result ≤ at + 16384) }
 {
     let count = count(book, PAIR_COUNT, PAIRS);
-    let mut n = at;
-    for p in 0..count {
-        n = put_pair_line(out, n, book, p);
-    }
-    n
+    put_lines::<64, _>(out, at, count, |out, n, p| put_pair_line(out, n, book, p))
 }
 
 // The name of a holder.
@@ -125,11 +142,11 @@ pub fn put_holder(out: &mut [u8], at: usize, book: &[u64], k: usize) -> usize
 }
 
 // The line of holder k, if it is of that sort: its number is that of the key.
-fn put_holder_line(out: &mut [u8], at: usize, book: &[u64], sort: u8, k: usize) -> usize
+fn put_holder_line(out: &mut [u8], at: usize, book: &[u64], sort: Key, k: usize) -> usize
     requires { (at + 32 ≤ far) × (k < 256) }
-    ensures { Laid out.old at (holder_line_text book.now sort k) out.new result × (result ≤ at + 32) }
+    ensures { Laid out.old at (holder_line_text book.now (key_number sort) k) out.new result × (result ≤ at + 32) }
 {
-    if crate::field::word(book, SORTS_AT + k) != sort as u64 {
+    if crate::field::word(book, SORTS_AT + k) != u64::from(sort) {
         return at;
     }
     let a = crate::field::put_key(out, at, sort);
@@ -137,14 +154,15 @@ fn put_holder_line(out: &mut [u8], at: usize, book: &[u64], sort: u8, k: usize) 
     output::put_byte(out, b, b'\n')
 }
 
-pub fn put_holders(out: &mut [u8], at: usize, book: &[u64], sort: u8) -> usize
+pub fn put_holders(out: &mut [u8], at: usize, book: &[u64], sort: Key) -> usize
     requires { at + 8192 ≤ far }
-    ensures { Laid out.old at (sort_text book.now sort) out.new result × (result ≤ at + 8192) }
+    ensures { Laid out.old at (sort_text book.now (key_number sort)) out.new result × (result ≤ at + 8192) }
 {
     let count = count(book, HOLDER_COUNT, HOLDERS);
-    let mut n = at;
-    for k in 0..count {
-        n = put_holder_line(out, n, book, sort, k);
-    }
-    n
+    put_lines::<32, _>(
+        out,
+        at,
+        count,
+        |out, n, k| put_holder_line(out, n, book, sort, k),
+    )
 }

@@ -7,7 +7,7 @@ ghost use Rattle.book.specs.Sections.{rule_bytes};
 ghost use Rattle.spelling.specs.LineTexts.{word_kind, code_string, token_text, size_at, gap_text, policy_text, rule_line_text, rules_text};
 
 use book::{ATTRIBUTES_AT, CODE_BYTES, OPERATIONS_AT, RULE_COUNT, RULES_AT};
-use codes::{AND, END, IN, INT, KEY_RULE, NAME, STR, SUBSET, TRUE};
+use codes::{AND, END, IN, INT, Key, NAME, STR, SUBSET, TRUE};
 
 // How many rules there can be.
 const RULES: usize = 32;
@@ -16,7 +16,7 @@ const RULES: usize = 32;
 fn byte(code: &[u8], place: usize) -> u8
     ensures { result ≡ get_or code.now place 0 }
 {
-    if place < code.len() { code[place] } else { END }
+    code.get(place).copied().unwrap_or(END)
 }
 
 // The four bytes from a place on, as a number.
@@ -24,33 +24,20 @@ fn four(code: &[u8], place: usize) -> u32
     requires { place + 3 ≤ far }
     ensures { result ≡ value_at code.now place }
 {
-    let a = byte(code, place) as u32;
-    let b = byte(code, place + 1) as u32;
-    let c = byte(code, place + 2) as u32;
-    let d = byte(code, place + 3) as u32;
-    a + 256 * (b + 256 * (c + 256 * d))
+    u32::from_le_bytes([
+        byte(code, place),
+        byte(code, place + 1),
+        byte(code, place + 2),
+        byte(code, place + 3),
+    ])
 }
 
 // Whether the tokens of a kind are words.
+#[tactic(auto, unfolding(crate::specs::LineTexts::word_kind))]
 fn is_word(kind: u8) -> bool
     ensures { result ≡ word_kind kind }
 {
-    if kind == INT {
-        return true;
-    }
-    if kind == NAME {
-        return true;
-    }
-    if kind < AND {
-        return false;
-    }
-    if kind <= TRUE {
-        return true;
-    }
-    if kind == IN {
-        return true;
-    }
-    kind == SUBSET
+    matches!(kind, INT | NAME | AND..=TRUE | IN | SUBSET)
 }
 
 // The space between two neighbouring words.
@@ -58,31 +45,25 @@ fn put_gap(out: &mut [u8], at: usize, word: bool, kind: u8) -> usize
     requires { at < far }
     ensures { Laid out.old at (gap_text word kind) out.new result × (result ≤ at + 1) }
 {
-    if !word {
-        return at;
+    if word && is_word(kind) {
+        output::put_byte(out, at, b' ')
+    } else {
+        at
     }
-    if is_word(kind) {
-        return output::put_byte(out, at, b' ');
-    }
-    at
 }
 
 // How many bytes of code the token at a place takes.
+#[tactic(auto, unfolding(crate::specs::LineTexts::size_at))]
 fn size(code: &[u8], place: usize) -> usize
     requires { place + 1 ≤ far }
     ensures { (result ≡ size_at code.now place) × (1 ≤ result) × (result ≤ 257) }
 {
-    let kind = byte(code, place);
-    if kind == INT {
-        return 5;
+    match byte(code, place) {
+        INT => 5,
+        STR => usize::from(byte(code, place + 1)) + 2,
+        NAME => 2,
+        _ => 1,
     }
-    if kind == STR {
-        return byte(code, place + 1) as usize + 2;
-    }
-    if kind == NAME {
-        return 2;
-    }
-    1
 }
 
 // The string at a place, in its quotes.
@@ -90,8 +71,8 @@ fn put_string(out: &mut [u8], at: usize, code: &[u8], place: usize) -> usize
     requires { (at + 257 ≤ far) × (place + 257 ≤ far) }
     ensures { Laid out.old at (quoted (code_string code.now place)) out.new result × (result ≤ at + 2 + get_or code.now (place + 1) 0) }
 {
-    let start = crate::field::least(place + 2, code.len());
-    let end = crate::field::least(place + 2 + byte(code, place + 1) as usize, code.len());
+    let start = (place + 2).min(code.len());
+    let end = (place + 2 + usize::from(byte(code, place + 1))).min(code.len());
     let a = output::put_byte(out, at, b'"');
     let b = output::put(out, a, &code[start..end]);
     output::put_byte(out, b, b'"')
@@ -102,18 +83,15 @@ fn put_token(out: &mut [u8], at: usize, book: &[u64], code: &[u8], place: usize)
     requires { (at + 257 ≤ far) × (place + 257 ≤ far) }
     ensures { Laid out.old at (token_text book.now code.now place) out.new result × (result ≤ at + 31 * size_at code.now place) }
 {
-    let kind = byte(code, place);
-    if kind == INT {
-        return output::put_decimal(out, at, four(code, place + 1));
+    match byte(code, place) {
+        INT => output::put_decimal(out, at, four(code, place + 1)),
+        STR => put_string(out, at, code, place),
+        NAME => {
+            let row = ATTRIBUTES_AT + 8 * usize::from(byte(code, place + 1));
+            crate::field::put_attribute(out, at, book, row)
+        }
+        kind => crate::field::put_token(out, at, kind),
     }
-    if kind == STR {
-        return put_string(out, at, code, place);
-    }
-    if kind == NAME {
-        let row = ATTRIBUTES_AT + 8 * byte(code, place + 1) as usize;
-        return crate::field::put_attribute(out, at, book, row);
-    }
-    crate::field::put_token(out, at, kind)
 }
 
 // The policy of a rule's code.
@@ -125,6 +103,7 @@ fn put_policy(out: &mut [u8], at: usize, book: &[u64], code: &[u8]) -> usize
     let mut place = 0;
     let mut word = false;
     let mut kind = byte(code, 0);
+    // A token is as long as its kind tells, so that no iterator over bytes fits.
     while kind != END {
         n = put_gap(out, n, word, kind);
         n = put_token(out, n, book, code, place);
@@ -141,7 +120,7 @@ fn put_rule_line(out: &mut [u8], at: usize, book: &[u64], rules: &[u8], k: usize
 {
     let operation = crate::field::word(book, RULES_AT + k) % 8;
     let start = CODE_BYTES * k;
-    let a = crate::field::put_key(out, at, KEY_RULE);
+    let a = crate::field::put_key(out, at, Key::Rule);
     let b = crate::field::put_name(out, a, book, OPERATIONS_AT + 2 * operation as usize);
     let c = output::put_byte(out, b, b',');
     let d = put_policy(out, c, book, &rules[start..start + CODE_BYTES]);
@@ -153,9 +132,10 @@ pub fn put_rules(out: &mut [u8], at: usize, book: &[u64], rules: &[u8]) -> usize
     ensures { Laid out.old at (rules_text book.now rules.now) out.new result × (result ≤ at + 1050624) }
 {
     let count = crate::line::count(book, RULE_COUNT, RULES);
-    let mut n = at;
-    for k in 0..count {
-        n = put_rule_line(out, n, book, rules, k);
-    }
-    n
+    crate::line::put_lines::<32832, _>(
+        out,
+        at,
+        count,
+        |out, n, k| put_rule_line(out, n, book, rules, k),
+    )
 }

@@ -1,105 +1,27 @@
 -- Hex pairs, one after the other.
-use Prim.Native.Nat.{ℕ, ◌+◌, ◌-◌, ◌*◌, ◌/◌, ◌≤◌, ◌<◌}
+use Prim.Native.Nat.{ℕ, ◌+◌, ◌*◌, ◌/◌, ◌≤◌, ◌<◌}
 use mathlib.Core.Path.{◌≡◌, refl, sym, ap, ◌∙◌}
-use mathlib.Core.Bool.{Bool, true, false, not, ◌&&◌}
+use mathlib.Core.Bool.{Bool, true, false, not}
 use mathlib.Core.List.{[], ◌∷◌, ◌++◌, append-nil}
 use mathlib.Core.Option.{Option, none, some, some-injective}
 use native.Mathlib.Numerals.{add-one}
 use native.Mathlib.Omega.{arith}
-use borrow.Author.Tests.{le-leb, lt-leb, leb-true, eqb-true, eqb-false}
+use borrow.Author.Tests.{eqb-true, eqb-false}
 use lib.ListN.{length, get_or, take, drop, set, take-append-drop}
 use lib.Seq.{length-take-le, take-suc-set, append_snoc}
-use lib.Dec.{leb, eqb}
-use Rattle.model.specs.Notation.{◌>>=◌, is_none, only_if}
-use Rattle.model.specs.Bytes.{Bytes, in_range}
+use lib.Dec.{eqb}
+use Rattle.model.specs.Notation.{◌>>=◌, is_none}
+use Rattle.model.specs.Bytes.{Bytes}
 use Rattle.model.specs.Gate.{hex_digit, hex_pairs}
 use Rattle.model.proofs.WordTables.{none-is-some}
-use Rattle.model.proofs.Options.{parts, bound, condition, choice}
-use Rattle.text.specs.Hex.{digit_code, hex_pair_of, pair_code, leading, Unhexed}
+use Rattle.model.proofs.Options.{bound}
+use Rattle.std.proofs.Common.{Result}
+use Rattle.text.specs.declared.NoPair.{NoPair}
+use Rattle.text.specs.Hex.{hex_pair_of, leading, all_pairs, pairs_in, Unhexed}
 use Rattle.text.proofs.LoopPlaces.{next, done}
 
--- the ranges of digits
-module _ (x : ℕ) where
-  pub below-digits : x < 48 → digit_code (hex_digit x) ≡ 16
-  below-digits h = rw (lt-leb 48 x h, lt-leb 97 x (omega arith))
-
-  pub in-digits : 48 ≤ x → x ≤ 57 → digit_code (hex_digit x) ≡ x - 48
-  in-digits h k = rw (le-leb 48 x h, le-leb x 57 k)
-
-  pub between : 57 < x → x < 97 → digit_code (hex_digit x) ≡ 16
-  between h k = rw (le-leb 48 x (omega arith), lt-leb x 57 h, lt-leb 97 x k)
-
-  pub in_letters : 97 ≤ x → x ≤ 102 → digit_code (hex_digit x) ≡ x - 87
-  in_letters h k = rw (le-leb 48 x (omega arith), lt-leb x 57 (omega arith), le-leb 97 x h, le-leb x 102 k) (omega arith)
-
-  pub above-letters : 102 < x → digit_code (hex_digit x) ≡ 16
-  above-letters h = rw (le-leb 48 x (omega arith), lt-leb x 57 (omega arith), le-leb 97 x (omega arith), lt-leb x 102 h)
-
--- a digit is below 16
-range : (a b x : ℕ) → (leb a x && leb x b) ≡ true → (a ≤ x) × (x ≤ b)
-range a b x f = let (p, q) = parts (leb a x) (leb x b) f in (leb-true a x p, leb-true x b q)
-
-digit-below : (x n : ℕ) → hex_digit x ≡ some n → n < 16
-digit-below x n e =
-    choice {o = only_if (in_range "0" "9" x) (x - 48)} e
-    (λ f. let (t, z) = condition {t = in_range "0" "9" x} {a = x - 48} f in omega (arith, range 48 57 x t, z))
-    (λ _ f. let (t, z) = condition {t = in_range "a" "f" x} {a = 10 + (x - 97)} f in omega (arith, range 97 102 x t, z))
-
--- the code of a digit tells whether there is one
-some-code : (x n : ℕ) → digit_code (hex_digit x) ≡ n → (n ≡ 16 → ⊥) → hex_digit x ≡ some n
-some-code x n e k = go (hex_digit x) e
-  where
-    go : (o : Option ℕ) → digit_code o ≡ n → o ≡ some n
-    go none f = absurd (k (sym f))
-    go (some m) f = ap {B = Option ℕ} some f
-
-no_code : (x : ℕ) → digit_code (hex_digit x) ≡ 16 → hex_digit x ≡ none
-no_code x e = go (hex_digit x) refl e
-  where
-    go : (o : Option ℕ) → hex_digit x ≡ o → digit_code o ≡ 16 → hex_digit x ≡ none
-    go none f g = f
-    go (some m) f g = absurd (omega (arith, digit-below x m f, g))
-
-pub code_below : (x : ℕ) → digit_code (hex_digit x) ≤ 16
-code_below x = go (hex_digit x) refl
-  where
-    go : (o : Option ℕ) → hex_digit x ≡ o → digit_code o ≤ 16
-    go none f = omega arith
-    go (some m) f = omega (arith, digit-below x m f)
-
--- pairs
+-- a pair of bytes
 module _ (x y : ℕ) where
-  pub no-first : digit_code (hex_digit x) ≡ 16 → pair_code (hex_pair_of x y) ≡ 256
-  no-first e = ap (λ (o : Option ℕ). pair_code (o >>= λ h. hex_digit y >>= λ l. some (16 * h + l))) (no_code x e)
-
-  pub no_second : digit_code (hex_digit y) ≡ 16 → pair_code (hex_pair_of x y) ≡ 256
-  no_second e = ap (λ (o : Option ℕ). pair_code (hex_digit x >>= λ h. o >>= λ l. some (16 * h + l))) (no_code y e) ∙ go (hex_digit x)
-    where
-      go : (o : Option ℕ) → pair_code (o >>= λ h. none >>= λ l. some (16 * h + l)) ≡ 256
-      go none = refl
-      go (some h) = refl
-
-  pub pair : (h l : ℕ) → digit_code (hex_digit x) ≡ h → digit_code (hex_digit y) ≡ l → (h ≡ 16 → ⊥) → (l ≡ 16 → ⊥) → pair_code (hex_pair_of x y) ≡ 16 * h + l
-  pair h l e f m n = rw (some-code x h e m, some-code y l f n)
-
-  pair-below : (b : ℕ) → hex_pair_of x y ≡ some b → b < 256
-  pair-below b e = bound {o = hex_digit x} e λ h p q. bound {o = hex_digit y} q λ l r z.
-      let k : 16 * h + l ≡ b = some-injective _ _ z in omega (arith, digit-below x h p, digit-below y l r)
-
-  pub pair_code_lem : (b : ℕ) → b ≡ pair_code (hex_pair_of x y) → (b ≡ 256 → ⊥) → (hex_pair_of x y ≡ some b) × (b < 256)
-  pair_code_lem b e n = go (hex_pair_of x y) refl e
-    where
-      go : (o : Option ℕ) → hex_pair_of x y ≡ o → b ≡ pair_code o → (hex_pair_of x y ≡ some b) × (b < 256)
-      go none f g = absurd (n g)
-      go (some d) f g = (f ∙ ap {B = Option ℕ} some (sym g), omega (arith, pair-below d f))
-
-  pub no-pair : 256 ≡ pair_code (hex_pair_of x y) → hex_pair_of x y ≡ none
-  no-pair e = go (hex_pair_of x y) refl e
-    where
-      go : (o : Option ℕ) → hex_pair_of x y ≡ o → 256 ≡ pair_code o → hex_pair_of x y ≡ none
-      go none f g = f
-      go (some d) f g = absurd (omega (arith, pair-below d f))
-
   -- a pair more
   pairs-step : (r : Bytes) → hex_pairs (x ∷ y ∷ r) ≡ (hex_pair_of x y >>= λ b. hex_pairs r >>= λ block. some (b ∷ block))
   unfolding hex_pairs
@@ -165,13 +87,13 @@ module _ (s out : Bytes) (i : ℕ) (h : 2 * i + 1 < length s) where
       )
 
 -- what stands in the output at the end
-pub filled : (s before after : Bytes) (i : ℕ) (ok : Bool) → i ≤ length after → leading s ≡ take i after → drop i after ≡ drop i before
-    → ok ≡ not (is_none (hex_pairs s)) → Unhexed s before after (record { ok = ok; len = i })
-filled s before after i ok h e k o =
+pub filled : (s before after : Bytes) (i : ℕ) (r : Result ℕ NoPair) → pairs_in r ≡ i → i ≤ length after → leading s ≡ take i after → drop i after ≡ drop i before
+    → all_pairs r ≡ not (is_none (hex_pairs s)) → Unhexed s before after r
+filled s before after i r c h e k o =
     let n : length (leading s) ≡ i = ap length e ∙ length-take-le i after h in
     record {
-      ok = o;
-      len = sym n;
+      all = o;
+      count = c ∙ sym n;
       bytes = sym (take-append-drop i after) ∙ ap (λ (d : Bytes). take i after ++ d) k ∙ ap (λ (d : Bytes). d ++ drop i before) (sym e) ∙ ap (λ (m : ℕ). leading s ++ drop m before) (sym n);
     }
 

@@ -1,26 +1,27 @@
--- A table of packed words finds the place of bytes among its words, and so the number that the words have in the specification. Assumes nothing.
-use Prim.Native.Nat.{ℕ, zero, suc, ◌+◌, ◌-◌, ◌*◌, ◌≤◌, ◌<◌}
+-- A table of packed words finds the place of bytes among its words. Assumes nothing.
+use Prim.Native.Nat.{ℕ, zero, suc, ◌+◌, ◌*◌, ◌≤◌, ◌<◌}
 use mathlib.Core.Path.{◌≡◌, refl, sym, ap, ◌∙◌}
 use mathlib.Core.Bool.{Bool, true, false, ◌&&◌}
-use mathlib.Core.List.{List, [], ◌∷◌}
-use mathlib.Core.Option.{Option, none, some}
-use native.Mathlib.Numerals.{unary_clauses}
+use mathlib.Core.List.{List, [], ◌∷◌, ◌++◌}
+use mathlib.Core.Option as math
 use native.Mathlib.Omega.{arith}
 use borrow.Author.Tests.{leb-true, eqb-true, eq-eqb, ne_eqb}
-use lib.ListN.{length, get_or, drop}
-use lib.Seq.{drop-drop, get_or-drop}
+use lib.ListN.{length, get_or, drop, length-append}
+use lib.Seq.{append_snoc, get_or-append-add}
 use lib.Dec.{eqb, leb}
+use Rattle.std.specs.Prelude.{option_map}
+use Rattle.std.proofs.Common.{Option, Some, None}
+use Rattle.std.specs.List.{AllWithin, HoldsAt}
 use Rattle.model.specs.Notation.{if◌then◌otherwise◌, all_of, map}
 use Rattle.model.specs.Bytes.{Bytes, same, one_of}
 use Rattle.model.specs.Block.{number}
-use Rattle.model.proofs.WordTables.{false-is-true, none-is-some, one-of-word, same-eq, same_refl}
+use Rattle.model.proofs.WordTables.{false-is-true, same-eq, same_refl}
 use Rattle.model.proofs.Options.{parts}
 use Rattle.model.proofs.Lists.{all-parts, same_truth}
-use Rattle.codes.specs.Codes.{coded}
-use Rattle.codes.proofs.Codes.{selected, coded-one-of}
+use Rattle.codes.specs.Enums.{told_by}
 use Rattle.text.specs.Packing.{word_bytes, solid}
 use Rattle.text.specs.Keywords.{is_keyword, place_from, Keyword}
-use Rattle.text.proofs.LoopPlaces.{next, done, all-at}
+use Rattle.text.proofs.LoopPlaces.{all-at}
 use Rattle.text.proofs.Packing.{solid-range, number-injective}
 
 -- ---- bytes by their number
@@ -53,6 +54,20 @@ number_word (x ∷ u ∷ s) (y ∷ w) (suc n) l b z q e =
     let t : u ∷ s ≡ w = number_word (u ∷ s) w n (omega arith) (λ k. b (suc k)) z qs r in
     cc
 
+-- ---- the first place of a word in a list of words
+
+module _ (w : ℕ) where
+  missed : (k : ℕ) (l : List ℕ) → AllWithin (λ x. x ≡ w → ⊥) l 0 (length l) → place_from k (λ x. eqb x w) l ≡ None
+  missed k [] f = refl
+  missed k (x ∷ l) f = rw (ne_eqb x w (f 0 0 (omega arith) (omega arith))) (missed (k + 1) l (λ j d a b. f (suc j) d (omega arith) (omega arith)))
+
+  found : (k : ℕ) (l : List ℕ) (i : ℕ) → i < length l → get_or l i 0 ≡ w → AllWithin (λ x. x ≡ w → ⊥) l 0 i → place_from k (λ x. eqb x w) l ≡ Some (k + i)
+  found k [] i h e f = absurd (omega arith)
+  found k (x ∷ l) zero h e f = rw (eq-eqb x w e) (ap Some (omega arith))
+  found k (x ∷ l) (suc i) h e f =
+      rw (ne_eqb x w (f 0 0 (omega arith) (omega arith)))
+      (found (k + 1) l i (omega arith) e (λ j d a b. f (suc j) d (omega arith) (omega arith)) ∙ ap Some (omega arith))
+
 -- ---- places
 
 word-parts : (w : Bytes) → is_keyword w ≡ true → (1 ≤ length w) × (length w ≤ word_bytes) × (all_of solid w ≡ true)
@@ -64,23 +79,23 @@ word-parts w e =
 -- the place of bytes among the words of a table
 module _ (table : List ℕ) (s : Bytes) where
   -- bytes that are no word are none of them
-  no_word : (is_keyword s ≡ true → ⊥) → Keyword table s 0
-  no_word other = record { within = omega arith; place = λ words all e. none_of 1 words all }
+  no_word : (is_keyword s ≡ true → ⊥) → Keyword table s None
+  no_word other = record { within = tt; place = λ words all e. none_of 1 words all }
     where
       differs : (w : Bytes) → is_keyword w ≡ true → same w s ≡ false
       differs w h = same_truth (same w s) false (λ e. absurd (other (ap is_keyword (sym (same-eq w s e)) ∙ h))) false-is-true
 
-      none_of : (k : ℕ) (words : List Bytes) → all_of is_keyword words ≡ true → 0 ≡ place_from k (λ w. same w s) words
+      none_of : (k : ℕ) (words : List Bytes) → all_of is_keyword words ≡ true → None ≡ place_from k (λ w. same w s) words
       none_of k [] e = refl
       none_of k (w ∷ ws) e = let (h, r) = all-parts is_keyword w ws e in rw (differs w h) (none_of (k + 1) ws r)
 
-  pub too_long_lem : word_bytes < length s → Keyword table s 0
+  pub too_long_lem : word_bytes < length s → Keyword table s None
   too_long_lem h = no_word λ e. omega (arith, (word-parts s e).1)
 
-  pub no_bytes : length s < 1 → Keyword table s 0
+  pub no_bytes : length s < 1 → Keyword table s None
   no_bytes h = no_word λ e. omega (arith, (word-parts s e).0)
 
-  pub ends-in-zero : (n : ℕ) → n < length s → get_or s n 0 ≡ 0 → Keyword table s 0
+  pub ends-in-zero : (n : ℕ) → n < length s → get_or s n 0 ≡ 0 → Keyword table s None
   ends-in-zero n h z = no_word λ e. omega (arith, (solid-range (get_or s n 0) (all-at solid s (word-parts s e).2 n h)).0)
 
   -- bytes whose last is not 0 are those of the word that has their number
@@ -93,28 +108,24 @@ module _ (table : List ℕ) (s : Bytes) where
 
     among : (k : ℕ) (words : List Bytes) → all_of is_keyword words ≡ true → place_from k (λ x. eqb x (number s)) (map number words) ≡ place_from k (λ w. same w s) words
     among k [] e = refl
-    among k (w ∷ ws) e =
-        let (h, r) = all-parts is_keyword w ws e in
+    among k (w ∷ words) e =
+        let (h, r) = all-parts is_keyword w words e in
         let a = word_same w h in
-        let b = among (k + 1) ws r in
-        λ i. if a i then k otherwise b i
+        let b = among (k + 1) words r in
+        λ i. if a i then Some k otherwise b i
 
-    pub keyword-at : (r w : ℕ) → r ≤ length table - 1 → w ≡ number s → r ≡ place_from 1 (λ x. eqb x w) (drop 1 table) → Keyword table s r
-    keyword-at r w within n e = record {
-      within = within;
-      place = λ words all f. e ∙ (λ i. place_from 1 (λ x. eqb x (n i)) (drop 1 (f i))) ∙ among 1 words all;
-    }
+    -- behind the place of none
+    module _ (a w : ℕ) (rest : List ℕ) (whole : table ≡ a ∷ rest) (packed : w ≡ number s) where
+      placed : (words : List Bytes) → all_of is_keyword words ≡ true → table ≡ 0 ∷ map number words → place_from 1 (λ x. eqb x w) rest ≡ place_from 1 (λ v. same v s) words
+      placed words all e =
+          ap (λ (n : ℕ). place_from 1 (λ x. eqb x n) rest) packed ∙ ap (λ (l : List ℕ). place_from 1 (λ x. eqb x (number s)) (drop 1 l)) (sym whole ∙ e) ∙ among 1 words all
 
--- what is left of a table from place i on
-module _ (w : ℕ) (table : List ℕ) (i : ℕ) where
-  pub place_here : i < length table → get_or table i 0 ≡ w → place_from i (λ x. eqb x w) (drop i table) ≡ i
-  place_here h e = rw (next table i h, place_from, eq-eqb (get_or table i 0) w e)
+      pub keyword-none : AllWithin (λ x. x ≡ w → ⊥) rest 0 (length rest) → Keyword table s None
+      keyword-none other = record { within = tt; place = λ words all e. sym (missed w 1 rest other) ∙ placed words all e }
 
-  pub place-on : i < length table → (get_or table i 0 ≡ w → ⊥) → place_from i (λ x. eqb x w) (drop i table) ≡ place_from (i + 1) (λ x. eqb x w) (drop (i + 1) table)
-  place-on h e = rw (next table i h, place_from, ne_eqb (get_or table i 0) w e)
-
-  pub place_none : length table ≤ i → place_from i (λ x. eqb x w) (drop i table) ≡ 0
-  place_none h = rw (done table i h)
+      pub keyword-at : (i : ℕ) → (i < length rest) × HoldsAt (λ x. x ≡ w) rest i × AllWithin (λ x. x ≡ w → ⊥) rest 0 i → Keyword table s (Some (1 + i))
+      keyword-at i (h, here, other) =
+          record { within = (omega arith, omega (arith, ap length whole)); place = λ words all e. sym (found w 1 rest i h (here 0) other) ∙ placed words all e }
 
 -- ---- numbers
 
@@ -124,40 +135,38 @@ module _ {A : Type 0} (word : A → Bytes) (code : A → ℕ) where
   counted_from k [] = true
   counted_from k (a ∷ rest) = eqb (code a) k && counted_from (k + 1) rest
 
-  place-number : (s : Bytes) (k : ℕ) (list : List A) → counted_from k list ≡ true → place_from k (λ w. same w s) (map word list) ≡ selected word code list s
+  place-number : (s : Bytes) (k : ℕ) (list : List A) → counted_from k list ≡ true → place_from k (λ w. same w s) (map word list) ≡ told_by code (one_of word list s)
   place-number s k [] e = refl
   place-number s k (a ∷ rest) e =
       let (h, r) = parts (eqb (code a) k) (counted_from (k + 1) rest) e in
-      let b = place-number s (k + 1) rest r in
-      λ i. if same (word a) s then sym (eqb-true (code a) k h) i otherwise b i
-
-  place-code : (s : Bytes) (codes : List ℕ) → get_or codes 0 0 ≡ 0 → (k : ℕ) (list : List A) → drop k codes ≡ map code list
-      → get_or codes (place_from k (λ w. same w s) (map word list)) 0 ≡ selected word code list s
-  place-code s codes z k [] e = z
-  place-code s codes z k (a ∷ rest) e = go (same (word a) s) (place-code s codes z (k + 1) rest (sym (drop-drop 1 k codes) ∙ ap (drop 1) e))
+      go (same (word a) s) (eqb-true (code a) k h) (place-number s (k + 1) rest r)
     where
-      go : (t : Bool) → get_or codes (place_from (k + 1) (λ w. same w s) (map word rest)) 0 ≡ selected word code rest s
-          → get_or codes (if t then k otherwise place_from (k + 1) (λ w. same w s) (map word rest)) 0 ≡ (if t then code a otherwise selected word code rest s)
-      go true r = simp unary_clauses at (sym (get_or-drop k codes 0 0)) ∙ ap (λ (l : List ℕ). get_or l 0 0) e
-      go false r = r
+      go : (t : Bool) → code a ≡ k → place_from (k + 1) (λ w. same w s) (map word rest) ≡ told_by code (one_of word rest s)
+          → (if t then Some k otherwise place_from (k + 1) (λ w. same w s) (map word rest))
+          ≡ told_by code (elim t as (λ _. math.Option A) [ true ↦ math.some a | false ↦ one_of word rest s ])
+      go true n f = ap (λ (j : ℕ). Some j) (sym n)
+      go false n f = f
+
+  -- the numbers of a table's words behind k others
+  place-code : (s : Bytes) (table : List A) (front : List ℕ) (k : ℕ) → length front ≡ k
+      → option_map (λ i. get_or (front ++ map code table) i 0) (place_from k (λ w. same w s) (map word table)) ≡ told_by code (one_of word table s)
+  place-code s [] front k e = refl
+  place-code s (a ∷ rest) front k e = go (same (word a) s) (place-code s rest (front ++ code a ∷ []) (k + 1) (length-append front (code a ∷ []) ∙ omega arith))
+    where
+      here : get_or (front ++ code a ∷ map code rest) k 0 ≡ code a
+      here = ap (λ (j : ℕ). get_or (front ++ code a ∷ map code rest) j 0) {x = k} {y = length front + 0} (omega arith) ∙ get_or-append-add front (code a ∷ map code rest) 0 0
+
+      go : (b : Bool) → option_map (λ i. get_or ((front ++ code a ∷ []) ++ map code rest) i 0) (place_from (k + 1) (λ w. same w s) (map word rest)) ≡ told_by code (one_of word rest s)
+          → option_map (λ i. get_or (front ++ code a ∷ map code rest) i 0) (if b then Some k otherwise place_from (k + 1) (λ w. same w s) (map word rest))
+          ≡ told_by code (elim b as (λ _. math.Option A) [ true ↦ math.some a | false ↦ one_of word rest s ])
+      go true f = ap (λ (j : ℕ). Some j) here
+      go false f = ap (λ (l : List ℕ). option_map (λ i. get_or l i 0) (place_from (k + 1) (λ w. same w s) (map word rest))) (sym (append_snoc front (code a) (map code rest))) ∙ f
 
   -- a table of the words of a list: where their numbers are counted, a place is a number; else a table of the numbers has it at that place
-  module _ {table : List ℕ} {s : Bytes} {r : ℕ} (found : Keyword table s r) (list : List A) (all : all_of is_keyword (map word list) ≡ true)
+  module _ {table : List ℕ} {s : Bytes} {r : Option ℕ} (found : Keyword table s r) (list : List A) (all : all_of is_keyword (map word list) ≡ true)
       (packed : table ≡ 0 ∷ map number (map word list)) where
-    pub keyword-number : counted_from 1 list ≡ true → r ≡ coded code (one_of word list s)
-    keyword-number counted = found.place (map word list) all packed ∙ place-number s 1 list counted ∙ sym (coded-one-of word code list s)
+    pub keyword-number : counted_from 1 list ≡ true → r ≡ told_by code (one_of word list s)
+    keyword-number counted = found.place (map word list) all packed ∙ place-number s 1 list counted
 
-    pub keyword-code : get_or (0 ∷ map code list) r 0 ≡ coded code (one_of word list s)
-    keyword-code =
-        let codes : List ℕ = 0 ∷ map code list in
-        ap (λ (k : ℕ). get_or codes k 0) (found.place (map word list) all packed) ∙ place-code s codes refl 1 list refl ∙ sym (coded-one-of word code list s)
-
--- words found in a list are found in any other list of the same words
-pub in-any-order : {A : Type 0} (word : A → Bytes) (l m : List A) → ((a : A) → one_of word l (word a) ≡ some a) → ((a : A) → one_of word m (word a) ≡ some a)
-    → (s : Bytes) → one_of word l s ≡ one_of word m s
-in-any-order {A = A} word l m in-l in-m s = go (one_of word l s) refl (one_of word m s) refl
-  where
-    go : (x : Option A) → one_of word l s ≡ x → (y : Option A) → one_of word m s ≡ y → x ≡ y
-    go (some a) e y f = sym (in-m a) ∙ ap (one_of word m) (one-of-word word l s a e) ∙ f
-    go none e (some b) f = none-is-some (sym e ∙ ap (one_of word l) (sym (one-of-word word m s b f)) ∙ in-l b)
-    go none e none f = refl
+    pub keyword-code : option_map (λ i. get_or (0 ∷ map code list) i 0) r ≡ told_by code (one_of word list s)
+    keyword-code = ap (option_map (λ i. get_or (0 ∷ map code list) i 0)) (found.place (map word list) all packed) ∙ place-code s list (0 ∷ []) 1 refl

@@ -5,3 +5,4 @@ pub mod Packing
 pub mod Keywords
 pub mod Values
 pub mod HexPairs
+pub mod Told

@@ -1,14 +1,14 @@
 -- Words of eight bytes tell the bytes, for any number of words. Assumes nothing.
-use Prim.Native.Nat.{ℕ, zero, suc, ◌+◌, ◌-◌, ◌*◌, ◌^◌, ◌≤◌, ◌<◌}
+use Prim.Native.Nat.{ℕ, zero, suc, ◌+◌, ◌*◌, ◌^◌, ◌≤◌, ◌<◌}
 use mathlib.Core.Path.{◌≡◌, refl, sym, ap, ap₂, ◌∙◌, subst}
 use mathlib.Core.Bool.{Bool, true, false, ◌&&◌, ◌||◌}
 use mathlib.Core.Logic.{◌⊎◌, inl, inr}
-use mathlib.Core.List.{List, [], ◌∷◌, ◌++◌}
+use mathlib.Core.List.{List, [], ◌∷◌, ◌++◌, append_assoc}
 use native.Mathlib.Omega.{arith}
 use native.Mathlib.Nat.{pow-suc, pow-le-pow_right, lt_of_lt_of_le}
-use borrow.Author.Tests.{leb-true, le-leb, eqb-true, eq-eqb}
+use borrow.Author.Tests.{leb-true, le-leb, eqb-true}
 use lib.ListN.{length, get_or, take, drop, take-append-drop, length-drop}
-use lib.Seq.{get_or-drop}
+use lib.Seq.{get_or-drop, drop_at}
 use lib.Dec.{eqb, leb, lit<}
 use Rattle.model.specs.Notation.{all_of}
 use Rattle.model.specs.Limits.{name_bytes, text_bytes}
@@ -22,7 +22,6 @@ use Rattle.model.proofs.Lists.{all-parts, all_cons, all-by, same_truth, or_cases
 use Rattle.model.proofs.Names.{name-all}
 use Rattle.text.specs.declared.Packed.{Packed}
 use Rattle.text.specs.Packing.{word_bytes, packed, packed_of, packed_at, two_words, three_words, list_of, solid}
-use Rattle.text.proofs.LoopPlaces.{next}
 
 -- the number of bytes, on the way from the end of a list to its front
 number_bound : (s : Bytes) → ((k : ℕ) → get_or s k 0 < 256) → number s < 256 ^ length s
@@ -32,17 +31,20 @@ number_bound (x ∷ xs) f =
     let x0 = f 0 in
     omega (arith, pow-suc 256 (length xs))
 
-module _ (s : Bytes) (i : ℕ) where
-  pub number-back : 0 < i → i ≤ length s → number (drop (i - 1) s) ≡ number (drop i s) * 256 + get_or s (i - 1) 0
-  number-back h k =
-      let e : i - 1 + 1 ≡ i = omega arith in
-      let n : drop (i - 1) s ≡ get_or s (i - 1) 0 ∷ drop (i - 1 + 1) s = next s (i - 1) (omega arith) in
-      ap number n ∙ ap (λ (j : ℕ). get_or s (i - 1) 0 + 256 * number (drop j s)) e ∙ omega arith
+-- what stands behind f is x and what stands behind r, where r is f with x
+pub last-byte : (s r f : Bytes) (x : ℕ) → s ≡ r ++ drop (length r) s → r ≡ f ++ x ∷ [] → drop (length f) s ≡ x ∷ drop (length r) s
+last-byte s r f x e p =
+    let j : s ≡ f ++ x ∷ drop (length r) s = e ∙ ap (λ (l : Bytes). l ++ drop (length r) s) p ∙ append_assoc f (x ∷ []) (drop (length r) s) in
+    ap (drop (length f)) j ∙ drop_at f (x ∷ drop (length r) s) (length f) refl
 
-  pub number_fits : length s ≤ 8 → ((k : ℕ) → get_or s k 0 < 256) → number (drop i s) < 2 ^ 64
-  number_fits h f =
-      lt_of_lt_of_le (number_bound (drop i s) (λ k. subst (λ (x : ℕ). x < 256) (sym (get_or-drop i s k 0)) (f (i + k))))
-      (pow-le-pow_right (lit< tt) {j = 8} (omega (arith, length-drop i s)))
+pub before-last : (s r f : Bytes) (x : ℕ) → s ≡ r ++ drop (length r) s → r ≡ f ++ x ∷ [] → s ≡ f ++ drop (length f) s
+before-last s r f x e p =
+    e ∙ ap (λ (l : Bytes). l ++ drop (length r) s) p ∙ append_assoc f (x ∷ []) (drop (length r) s) ∙ ap (λ (l : Bytes). f ++ l) (sym (last-byte s r f x e p))
+
+pub number_fits : (s : Bytes) (i : ℕ) → length s ≤ 8 → ((k : ℕ) → get_or s k 0 < 256) → number (drop i s) < 2 ^ 64
+number_fits s i h f =
+    lt_of_lt_of_le (number_bound (drop i s) (λ k. subst (λ (x : ℕ). x < 256) (sym (get_or-drop i s k 0)) (f (i + k))))
+    (pow-le-pow_right (lit< tt) {j = 8} (omega (arith, length-drop i s)))
 
 pub solid-range : (x : ℕ) → solid x ≡ true → (1 ≤ x) × (x ≤ 255)
 solid-range x e = let (p, q) = parts _ _ e in (leb-true 1 x p, leb-true x 255 q)
@@ -164,10 +166,7 @@ name-same s t p q =
     let k = name-length t q in
     packed-same 2 s t (name-solid s p) (name-solid t q) (omega arith) (omega arith)
 
--- the last of two tests, behind one that was passed
-pub second-test : (a b c d : ℕ) → a ≡ b → eqb c d ≡ (eqb a b && eqb c d)
-second-test a b c d e = rw (eq-eqb a b e)
-
+-- two tests of words, and the test of the lists
 both_words : (a b c d : ℕ) → (eqb a b && eqb c d) ≡ same (a ∷ c ∷ []) (b ∷ d ∷ [])
 both_words a b c d = go (eqb a b) (eqb c d)
   where

@@ -49,8 +49,8 @@ module _ (s : Bytes) where
   pub too_short : length s < 2 → Quoted s false
   too_short h = refused λ t p q. omega (arith, ap length q, length-quoted t)
 
-  pub no-first : (get_or s 0 0 ≡ 34 → ⊥) → Quoted s false
-  no-first n = refused λ t p q. n (ap (λ (l : Bytes). get_or l 0 0) q)
+  pub no_first : (get_or s 0 0 ≡ 34 → ⊥) → Quoted s false
+  no_first n = refused λ t p q. n (ap (λ (l : Bytes). get_or l 0 0) q)
 
   pub no_last : (get_or s (length s - 1) 0 ≡ 34 → ⊥) → Quoted s false
   no_last n = refused λ t p q. n (ap (λ (l : Bytes). get_or l (length l - 1) 0) q ∙ last-quoted t)

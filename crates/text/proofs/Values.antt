@@ -1,68 +1,25 @@
--- Atoms as numbers: how each is read, and that the numbers tell the atom.
+-- The numbers of an atom tell the atom.
 use Prim.Native.Nat.{ℕ, ◌≤◌}
-use mathlib.Core.Path.{◌≡◌, refl, ap}
+use mathlib.Core.Path.{◌≡◌, refl, sym, ap, ◌∙◌}
 use mathlib.Core.Bool.{Bool, true, false}
-use mathlib.Core.Option.{Option, none, some}
 use native.Mathlib.Omega.{arith}
 use borrow.Author.Tests.{eqb-true, eq-eqb}
 use lib.ListN.{length}
-use Rattle.model.specs.Notation.{◌>>=◌, ◌or_else◌}
 use Rattle.model.specs.Bytes.{Bytes}
-use Rattle.model.specs.Atoms.{Atom, int, str, bool, read_int, read_str, read_bool, read_atom, is_atom, type_of, same_atom, bool_word}
+use Rattle.model.specs.Atoms.{Atom, int, str, bool, is_atom, type_of, same_atom, bool_word}
 use Rattle.model.proofs.WordTables.{same-eq, same_refl, same_word, bools, reads-bool}
 use Rattle.model.proofs.Options.{parts, both}
 use Rattle.model.proofs.Lists.{same_truth}
 use Rattle.model.proofs.Atoms.{str-exact}
-use Rattle.text.specs.declared.Int.TheVariants.{Number, Malformed}
 use Rattle.text.specs.declared.Value.{Value}
-use Rattle.codes.specs.Codes.{coded, type_code, bool_code}
+use Rattle.codes.specs.Codes.{type_code}
+use Rattle.codes.specs.Enums.{type_number}
+use Rattle.codes.proofs.Enums.{type-numbered}
 use Rattle.codes.proofs.Codes.{type-injective}
 use Rattle.text.specs.declared.Words.{Words}
-use Rattle.text.specs.ReadCodes.{bool_number, coded_int}
-use Rattle.text.specs.Values.{words, value, truth_bit, atom_words, atom_value, coded_atom, same_words}
+use Rattle.text.specs.Values.{truth_bit, atom_words, atom_value, same_words}
 use Rattle.text.specs.Parts.{inside, Quoted}
 use Rattle.text.proofs.Packing.{text-injective, text-length}
-
--- the ways of reading, one after the other
-module _ (s : Bytes) where
-  pub read_int_lem : (n : ℕ) → coded_int (read_int s) ≡ Number n → coded_atom (read_atom s) ≡ value 1 (words n 0 0)
-  unfolding read_atom
-  read_int_lem n e = go (read_int s) e
-    where
-      rest : Option Atom
-      rest = (read_str s >>= λ t. some (str t)) or_else (read_bool s >>= λ b. some (bool b))
-
-      go : (o : Option ℕ) → coded_int o ≡ Number n → coded_atom ((o >>= λ m. some (int m)) or_else rest) ≡ value 1 (words n 0 0)
-      go none f = let z : ◌≡◌ {A = ℕ} 0 1 = cc in absurd (omega arith)
-      go (some m) f = let z : m ≡ n = cc in ap (λ (k : ℕ). value 1 (words k 0 0)) z
-
-  pub no-int : coded_int (read_int s) ≡ Malformed → read_int s ≡ none
-  no-int e = go (read_int s) e
-    where
-      go : (o : Option ℕ) → coded_int o ≡ Malformed → o ≡ none
-      go none f = refl
-      go (some m) f = let z : ◌≡◌ {A = ℕ} 0 1 = cc in absurd (omega arith)
-
-  pub read-str : (t : Bytes) → read_int s ≡ none → read_str s ≡ some t → coded_atom (read_atom s) ≡ atom_value (str t)
-  unfolding read_atom
-  read-str t e f = rw (e, f)
-
-  pub read-bool : read_int s ≡ none → read_str s ≡ none → (n : ℕ) → n ≡ bool_number s → (n ≡ 0 → ⊥) → (b : Bool) × (n ≡ bool_code b) × (coded_atom (read_atom s) ≡ value 3 (words (truth_bit b) 0 0))
-  unfolding read_atom bool_number
-  read-bool e f n g k = rw (e, f) (go (read_bool s) g)
-    where
-      go : (o : Option Bool) → n ≡ coded bool_code o → (b : Bool) × (n ≡ bool_code b) × (coded_atom (o >>= λ c. some (bool c)) ≡ value 3 (words (truth_bit b) 0 0))
-      go none h = absurd (k h)
-      go (some b) h = (b, h, refl)
-
-  pub read_none : read_int s ≡ none → read_str s ≡ none → 0 ≡ bool_number s → coded_atom (read_atom s) ≡ value 0 (words 0 0 0)
-  unfolding read_atom bool_number
-  read_none e f g = rw (e, f) (go (read_bool s) g)
-    where
-      go : (o : Option Bool) → 0 ≡ coded bool_code o → coded_atom (o >>= λ c. some (bool c)) ≡ value 0 (words 0 0 0)
-      go none h = refl
-      go (some true) h = absurd (omega arith)
-      go (some false) h = absurd (omega arith)
 
 -- the text inside of a str fits its words
 pub inside-length : (s : Bytes) {r : Bool} → Quoted s r → r ≡ true → length (inside s) ≤ 12
@@ -92,7 +49,7 @@ words-injective a b p q k e = go a b p q (ap type_code k) e
 
 pub value-injective : (a b : Atom) → is_atom a ≡ true → is_atom b ≡ true → atom_value a ≡ atom_value b → a ≡ b
 value-injective a b p q e =
-    words-injective a b p q (type-injective (type_of a) (type_of b) (ap (λ (v : Value). v.ty) e)) (ap (λ (v : Value). v.words) e)
+    words-injective a b p q (type-injective (type_of a) (type_of b) (sym (type-numbered (type_of a)) ∙ ap (λ (v : Value). type_number v.ty) e ∙ type-numbered (type_of b))) (ap (λ (v : Value). v.words) e)
 
 -- a test of the words, and the test of the atoms
 pub same-words-eq : (u v : Words) → same_words u v ≡ true → u ≡ v

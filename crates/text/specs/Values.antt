@@ -1,8 +1,8 @@
--- An atom as numbers: its type's, and three words for its value.
+-- An atom as the code has it: its type, and three words for its value.
 use Rattle.std.specs.Prelude.{ℕ, Bool, true, false, ◌&&◌, eqb}
-use Rattle.std.proofs.Math.Option.{Option, none, some}
 use Rattle.model.specs.Atoms.{Atom, int, str, bool, type_of}
-use Rattle.codes.specs.Codes.{type_code}
+use Rattle.codes.specs.declared.AtomType.{AtomType}
+use Rattle.codes.specs.Enums.{type_for}
 use Rattle.text.specs.declared.Words.{Words}
 use Rattle.text.specs.declared.Value.{Value}
 use Rattle.text.specs.Packing.{three_words}
@@ -10,7 +10,7 @@ use Rattle.text.specs.Packing.{three_words}
 abbrev pub words : ℕ → ℕ → ℕ → Words
 words first second third = record { first = first; second = second; third = third }
 
-abbrev pub value : ℕ → Words → Value
+abbrev pub value : AtomType → Words → Value
 value ty ws = record { ty = ty; words = ws }
 
 abbrev pub truth_bit : Bool → ℕ
@@ -23,12 +23,7 @@ atom_words (str s) = three_words s
 atom_words (bool b) = words (truth_bit b) 0 0
 
 abbrev pub atom_value : Atom → Value
-atom_value a = value (type_code (type_of a)) (atom_words a)
-
--- an atom that was read; zeros where there is none
-abbrev pub coded_atom : Option Atom → Value
-coded_atom none = value 0 (words 0 0 0)
-coded_atom (some a) = atom_value a
+atom_value a = value (type_for (type_of a)) (atom_words a)
 
 abbrev pub same_words : Words → Words → Bool
 same_words a b = eqb a.first b.first && eqb a.second b.second && eqb a.third b.third

@@ -1,8 +1,7 @@
--- Laws about the ties of a book, and about the lines that give them.
+pub mod TieSorts
 pub mod TieSections
 pub mod TieFitting
 pub mod TieEditing
-pub mod TieSorts
 pub mod TieNaming
 pub mod TieLines
 pub mod TieFields

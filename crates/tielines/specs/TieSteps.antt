@@ -1,8 +1,7 @@
 -- Whether a tie stands or closes a circle in a book, what it is refused for, and what it makes of the book, more or less. Assumes nothing: these are definitions.
-use Rattle.std.specs.Prelude.{ℕ, suc, ◌<◌, ◌≡◌, Bool, true, ◌&&◌, not, List, [], ◌∷◌, length, get_or, take, drop}
+use Rattle.std.specs.Prelude.{ℕ, Option, Some, ◌≡◌, Bool, true, ◌&&◌, not, List, [], ◌∷◌, length, get_or, take, drop}
 use Rattle.std.proofs.Math.Option.{some}
 use Rattle.model.specs.Numbers as refusal
-use Rattle.model.specs.Limits.{group_limit}
 use Rattle.model.specs.Bytes.{Bytes}
 use Rattle.model.specs.Declarations.{Sort, sort_of, is_group, holder_numbers_of}
 use Rattle.model.specs.Ties.{Tie}
@@ -30,15 +29,11 @@ UpStands h g book r = (t : Tie) → LeadsUp t h g → TieStands book t r
 abbrev pub ValueStands : ℕ → ℕ → List ℕ → Bool → Type 0
 ValueStands h p book r = TieStands book (Tie.value h p) r
 
--- r is the slot that a holder's word tells, where it tells one
-abbrev pub SlotTold : ℕ → ℕ → Type 0
-SlotTold told r = (q : ℕ) → told ≡ suc q → q < group_limit → r ≡ q
-
 -- r is the slot of the group of number g
-abbrev pub SlotFound : List ℕ → ℕ → ℕ → Type 0
+abbrev pub SlotFound : List ℕ → ℕ → Option ℕ → Type 0
 SlotFound book g r =
     (S : State) (code : Bytes) → Standing S → Holds book code S → (s : Sort) → sort_of S.declared g ≡ some s → is_group s ≡ true
-    → (r < group_limit) × (in_use book_holders (section_words section.slots book) r ≡ true) × (get_or (section_words section.slots book) r 0 ≡ g)
+    → (q : ℕ) × (r ≡ Some q) × (in_use book_holders (section_words section.slots book) q ≡ true) × (get_or (section_words section.slots book) q 0 ≡ g)
 
 -- what a tie is refused for: 10 and 12 behind `+`, 14 behind `-`
 abbrev pub sign_tests : State → Tie → Bool → List Test

@@ -1,208 +1,164 @@
 // Tie lines, of files and of edits: the tie that the fields give, what it is refused for, and one tie more or less in a book.
 #![tactic(auto)]
 
-ghost use Rattle.std.specs.Prelude.{◌≡◌, ◌+◌, length};
-ghost use Rattle.book.specs.Sections.{book_words};
-ghost use Rattle.tielines.specs.TieReading.{tie_by, SortAbove, TwoNamed, SourceOfSort, PairNamed, ValueNamed, KeyTie};
-ghost use Rattle.tielines.specs.TieSteps.{SlotTold, SlotFound, UpStands, ValueStands, TieStands, TieCloses, TieJudged, UpChanged, ValueChanged, TieChanged};
+ghost use Rattle.std.specs.Prelude.{◌≡◌, ◌<◌, IfOk, IfSome, length};
+ghost use Rattle.model.specs.Limits.{group_limit};
+ghost use Rattle.model.specs.Ties.{edited_holder};
+ghost use Rattle.codes.specs.Enums.{number_in};
+ghost use Rattle.book.specs.Sections.{book_words, book_holders};
+ghost use Rattle.tielines.specs.TieReading.{tie_of, HolderNamed, SortAbove, TwoNamed, SourceOfSort, PairNamed, ValueNamed, KeyTie};
+ghost use Rattle.tielines.specs.TieSteps.{SlotFound, UpStands, ValueStands, TieStands, TieCloses, TieJudged, UpChanged, ValueChanged, TieChanged};
 
 use book::find::{HOLDERS, PAIRS};
 use book::{
     ATTRIBUTES_AT, HOLDERS_AT, OPERATIONS_AT, OWN_AT, PAIRS_AT, RULES_AT, SLOT_OF_AT, SLOTS_AT,
     SORTS_AT, UPS_AT,
 };
-use codes::{
-    ADMIN, CIRCULAR, KEY_PARENT, KEY_VALUE, MALFORMED, NOT_STANDING, OBJECT, REPEATED, UNDECLARED,
-    USER, WRONG_SORT,
-};
+use codes::{Key, Refusal, Source};
+use fields::{TwoFields, ValueFields};
 use text::{Packed, Value};
 
-// How many slots there are: the number of none of them.
-const SLOT_NUMBERS: usize = 64;
+// How many slots there are.
+const SLOTS: u64 = 64;
 
-// The codes of sorts in words of the book: a holder's sort has the number of the key that declares it, and admin, which none declares, its own.
+// The sorts in words of the book: a holder's sort has the number of the key that declares it, and admin, which none declares, its own.
 const ADMIN_SORT: u64 = book::declare::ADMIN_SORT as u64;
 
-const UGROUP_SORT: u64 = codes::KEY_UGROUP as u64;
+const UGROUP_SORT: u64 = Key::Ugroup as u64;
 
-const OGROUP_SORT: u64 = codes::KEY_OGROUP as u64;
+const OGROUP_SORT: u64 = Key::Ogroup as u64;
 
-const USER_SORT: u64 = codes::KEY_USER as u64;
+const USER_SORT: u64 = Key::User as u64;
 
-const OBJECT_SORT: u64 = codes::KEY_OBJECT as u64;
+const OBJECT_SORT: u64 = Key::Object as u64;
 
-// What a tie line says: the number that it is refused for, or 0; its key; the number of the edited holder; that of the group or of the pair.
+// The tie that a line gives, by the number of the edited holder and that of the group or of the pair.
 #[derive(Clone, Copy)]
-pub struct Tie {
-    pub number: u8,
-    pub key: u8,
-    pub lower: usize,
-    pub upper: usize,
+pub enum Tie {
+    Parent { child: usize, group: usize },
+    Member { party: usize, group: usize },
+    Value { holder: usize, pair: usize },
 }
 
-// A line that gives no tie.
-pub fn no_tie(number: u8) -> Tie
-    ensures { result.number ≡ number }
-{
-    Tie {
-        number,
-        key: 0,
-        lower: 0,
-        upper: 0,
+impl Tie {
+    // The edited holder.
+    pub fn edited(self) -> usize
+        ensures { result ≡ edited_holder (tie_of self) }
+    {
+        match self {
+            Tie::Parent { child, .. } => child,
+            Tie::Member { party, .. } => party,
+            Tie::Value { holder, .. } => holder,
+        }
     }
 }
 
-// The code of the sort that stands above one in a tie of that key; 0 where none does.
-fn above(key: u8, sort: u64) -> u64
+// The sort that stands above one in a tie of that key.
+fn above(key: Key, sort: u64) -> Option<u64>
     ensures { SortAbove key sort result }
 {
-    if key == KEY_PARENT {
-        if sort == UGROUP_SORT {
-            return UGROUP_SORT;
-        }
-        if sort == OGROUP_SORT {
-            return OGROUP_SORT;
-        }
-        return 0;
+    if key == Key::Parent {
+        return if sort == UGROUP_SORT || sort == OGROUP_SORT {
+            Some(sort)
+        } else {
+            None
+        };
     }
-    if sort == USER_SORT {
-        return UGROUP_SORT;
+    match sort {
+        USER_SORT => Some(UGROUP_SORT),
+        OBJECT_SORT => Some(OGROUP_SORT),
+        _ => None,
     }
-    if sort == OBJECT_SORT {
-        return OGROUP_SORT;
-    }
-    0
+}
+
+// The number of the declared holder of a name.
+fn holder(book: &[u64], name: Packed) -> Result<usize, Refusal>
+    requires { length book.now ≡ book_words }
+    ensures number { HolderNamed book.now name result }
+    ensures few { IfOk result (λ k. k < book_holders) }
+{
+    book::find::holder_number(&book[HOLDERS_AT..SORTS_AT], name).ok_or(Refusal::Undeclared)
 }
 
 // The tie of a parent or member line with these names.
-fn two(book: &[u64], key: u8, lower: Packed, upper: Packed) -> Tie
+fn two(book: &[u64], key: Key, names: TwoFields) -> Result<Tie, Refusal>
     requires { length book.now ≡ book_words }
-    ensures { TwoNamed book.now key lower upper result.number (tie_by result.key result.lower result.upper) }
+    ensures { TwoNamed book.now key names.lower names.upper result }
 {
-    let h = book::find::holder_number(&book[HOLDERS_AT..SORTS_AT], lower.low, lower.high);
-    if h >= HOLDERS {
-        return no_tie(UNDECLARED);
+    let lower = holder(book, names.lower)?;
+    let group = holder(book, names.upper)?;
+    if above(key, book[SORTS_AT + lower]) != Some(book[SORTS_AT + group]) {
+        return Err(Refusal::WrongSort);
     }
-    let g = book::find::holder_number(&book[HOLDERS_AT..SORTS_AT], upper.low, upper.high);
-    if g >= HOLDERS {
-        return no_tie(UNDECLARED);
-    }
-    let wanted = above(key, book[SORTS_AT + h]);
-    if book[SORTS_AT + g] != wanted {
-        return no_tie(WRONG_SORT);
-    }
-    Tie {
-        number: 0,
-        key,
-        lower: h,
-        upper: g,
-    }
+    Ok(match key {
+        Key::Parent => Tie::Parent {
+            child: lower,
+            group,
+        },
+        _ => Tie::Member {
+            party: lower,
+            group,
+        },
+    })
 }
 
 // The source of the attributes whose values a holder of that sort has.
-fn source_for(sort: u64) -> u8
+fn source_for(sort: u64) -> Source
     ensures { SourceOfSort sort result }
 {
-    if sort == ADMIN_SORT {
-        return ADMIN;
+    match sort {
+        ADMIN_SORT => Source::Admin,
+        UGROUP_SORT | USER_SORT => Source::User,
+        _ => Source::Object,
     }
-    if sort == UGROUP_SORT {
-        return USER;
-    }
-    if sort == USER_SORT {
-        return USER;
-    }
-    OBJECT
 }
 
-// The number of the pair of an attribute, by its source and name, and an atom; the number of pairs there can be where there is none.
-fn pair_of(book: &[u64], source: u8, name: Packed, atom: Value) -> usize
+// The number of the pair of an attribute, by its source and name, and an atom.
+fn pair_of(book: &[u64], source: Source, name: Packed, atom: Value) -> Option<usize>
     requires { length book.now ≡ book_words }
     ensures { PairNamed book.now source name atom result }
 {
-    let k = rows::attribute_number(
-        &book[ATTRIBUTES_AT..OPERATIONS_AT],
-        source,
-        name.low,
-        name.high,
-    );
-    if k >= rows::ATTRIBUTES {
-        return PAIRS;
-    }
-    if book[ATTRIBUTES_AT + 8 * k + 1] != atom.ty as u64 {
-        return PAIRS;
+    let k = rows::attribute_number(&book[ATTRIBUTES_AT..OPERATIONS_AT], source, name)?;
+    if book[ATTRIBUTES_AT + 8 * k + 1] != u64::from(atom.ty) {
+        return None;
     }
     book::find::pair_number(&book[PAIRS_AT..HOLDERS_AT], k, atom.words)
 }
 
 // The tie of a value line with these names and this atom.
-fn value(book: &[u64], holder: Packed, name: Packed, atom: Value) -> Tie
+fn value(book: &[u64], named: ValueFields) -> Result<Tie, Refusal>
     requires { length book.now ≡ book_words }
-    ensures { ValueNamed book.now holder name atom result.number (tie_by result.key result.lower result.upper) }
+    ensures { ValueNamed book.now named.holder named.name named.atom result }
 {
-    let h = book::find::holder_number(&book[HOLDERS_AT..SORTS_AT], holder.low, holder.high);
-    if h >= HOLDERS {
-        return no_tie(UNDECLARED);
-    }
-    let source = source_for(book[SORTS_AT + h]);
-    let p = pair_of(book, source, name, atom);
-    if p >= PAIRS {
-        return no_tie(UNDECLARED);
-    }
-    Tie {
-        number: 0,
-        key: KEY_VALUE,
-        lower: h,
-        upper: p,
-    }
+    let holder = holder(book, named.holder)?;
+    let source = source_for(book[SORTS_AT + holder]);
+    let pair = pair_of(book, source, named.name, named.atom).ok_or(Refusal::Undeclared)?;
+    Ok(Tie::Value { holder, pair })
 }
 
 // The tie of a parent, member or value line, from its key and its fields.
-pub fn of_fields(book: &[u64], key: u8, f: &[u8]) -> Tie
+pub fn of_fields(book: &[u64], key: Key, f: &[u8]) -> Result<Tie, Refusal>
     requires { length book.now ≡ book_words }
-    ensures { KeyTie book.now key f.now result.number (tie_by result.key result.lower result.upper) }
+    ensures { KeyTie book.now key f.now result }
 {
-    if key == KEY_VALUE {
-        let v = fields::value_fields(f);
-        if !v.ok {
-            return no_tie(MALFORMED);
-        }
-        let holder = v.holder;
-        let name = v.name;
-        let atom = v.atom;
-        return value(book, holder, name, atom);
+    match key {
+        Key::Value => value(book, fields::value_fields(f).ok_or(Refusal::Malformed)?),
+        _ => two(book, key, fields::two_fields(f).ok_or(Refusal::Malformed)?),
     }
-    let v = fields::two_fields(f);
-    if !v.ok {
-        return no_tie(MALFORMED);
-    }
-    let lower = v.lower;
-    let upper = v.upper;
-    two(book, key, lower, upper)
 }
 
-// The slot that a holder's word tells, which is 1 + the slot of a group; the number of slots for any other word.
-fn slot(told: u64) -> usize
-    ensures { SlotTold told result }
-{
-    if told == 0 {
-        return SLOT_NUMBERS;
-    }
-    if told > SLOT_NUMBERS as u64 {
-        return SLOT_NUMBERS;
-    }
-    told as usize - 1
-}
-
-// The slot of the group of number g; the number of slots where there is none.
-fn slot_of(book: &[u64], g: usize) -> usize
+// The slot of the group of number g: a group's word is 1 + its slot, that of any other holder 0.
+fn slot_of(book: &[u64], g: usize) -> Option<usize>
     requires { length book.now ≡ book_words }
-    ensures { SlotFound book.now g result }
+    ensures found { SlotFound book.now g result }
+    ensures few { IfSome result (λ q. q < group_limit) }
 {
-    if g >= HOLDERS {
-        return SLOT_NUMBERS;
+    let slot = book[SLOT_OF_AT..SLOTS_AT].get(g)?.checked_sub(1)?;
+    if slot < SLOTS {
+        Some(slot as usize)
+    } else {
+        None
     }
-    slot(book[SLOT_OF_AT + g])
 }
 
 // Whether holder h has a tie up to the group of number g.
@@ -210,14 +166,10 @@ fn stands_up(book: &[u64], h: usize, g: usize) -> bool
     requires { length book.now ≡ book_words }
     ensures { UpStands h g book.now result }
 {
-    if h >= HOLDERS {
+    let Some(q) = slot_of(book, g) else {
         return false;
-    }
-    let q = slot_of(book, g);
-    if q >= SLOT_NUMBERS {
-        return false;
-    }
-    bits::has(book[UPS_AT + h], q)
+    };
+    h < HOLDERS && bits::has(book[UPS_AT + h], q)
 }
 
 // Whether holder h has the pair p.
@@ -225,61 +177,54 @@ fn stands_value(book: &[u64], h: usize, p: usize) -> bool
     requires { length book.now ≡ book_words }
     ensures { ValueStands h p book.now result }
 {
-    if h >= HOLDERS {
-        return false;
-    }
-    if p >= PAIRS {
-        return false;
-    }
-    bits::contains(&book[OWN_AT..RULES_AT], PAIRS * h + p)
+    h < HOLDERS && p < PAIRS && bits::contains(&book[OWN_AT..RULES_AT], PAIRS * h + p)
 }
 
 // Whether a tie that fits the declarations stands.
 fn stands(book: &[u64], t: Tie) -> bool
     requires { length book.now ≡ book_words }
-    ensures { TieStands book.now (tie_by t.key t.lower t.upper) result }
+    ensures { TieStands book.now (tie_of t) result }
 {
-    if t.key == KEY_VALUE {
-        return stands_value(book, t.lower, t.upper);
+    match t {
+        Tie::Parent { child: h, group } | Tie::Member { party: h, group } => {
+            stands_up(book, h, group)
+        }
+        Tie::Value { holder, pair } => stands_value(book, holder, pair),
     }
-    stands_up(book, t.lower, t.upper)
 }
 
 // Whether a tie closes a circle: none but a parent tie does.
 fn closes(book: &[u64], t: Tie) -> bool
     requires { length book.now ≡ book_words }
-    ensures { TieCloses book.now (tie_by t.key t.lower t.upper) result }
+    ensures { TieCloses book.now (tie_of t) result }
 {
-    if t.key != KEY_PARENT {
+    let Tie::Parent { child, group } = t else {
         return false;
-    }
-    ties::closes_circle(
-        &book[UPS_AT..OWN_AT],
-        &book[SLOTS_AT..UPS_AT],
-        t.lower,
-        t.upper,
-    )
+    };
+    ties::closes_circle(&book[UPS_AT..OWN_AT], &book[SLOTS_AT..UPS_AT], child, group)
 }
 
-// What a tie is refused for, behind `+` or `-`; 0 for nothing. A line of a file adds its tie, as behind `+`.
-pub fn refusal(book: &[u64], t: Tie, plus: bool) -> u8
+// What a tie is refused for, behind `+` or `-`. A line of a file adds its tie, as behind `+`.
+#[inline]
+pub fn judge(book: &[u64], t: Tie, plus: bool) -> Result<(), Refusal>
     requires { length book.now ≡ book_words }
-    ensures { TieJudged book.now (tie_by t.key t.lower t.upper) plus result }
+    ensures { TieJudged book.now (tie_of t) plus (number_in result) }
 {
     let standing = stands(book, t);
-    if plus {
-        if standing {
-            return REPEATED;
-        }
-        if closes(book, t) {
-            return CIRCULAR;
-        }
-        return 0;
+    if !plus {
+        return if standing {
+            Ok(())
+        } else {
+            Err(Refusal::NotStanding)
+        };
     }
     if standing {
-        return 0;
+        Err(Refusal::Repeated)
+    } else if closes(book, t) {
+        Err(Refusal::Circular)
+    } else {
+        Ok(())
     }
-    NOT_STANDING
 }
 
 // Holder h gets or loses a tie up to the group of number g.
@@ -287,14 +232,12 @@ fn change_up(book: &mut [u64], h: usize, g: usize, plus: bool)
     requires { length book.old ≡ book_words }
     ensures { UpChanged h g plus book.old book.new }
 {
-    if h >= HOLDERS {
+    let Some(q) = slot_of(book, g) else {
         return;
+    };
+    if h < HOLDERS {
+        ties::change_up(&mut book[UPS_AT..OWN_AT], h, q, plus);
     }
-    let q = slot_of(book, g);
-    if q >= SLOT_NUMBERS {
-        return;
-    }
-    ties::change_up(&mut book[UPS_AT..OWN_AT], h, q, plus);
 }
 
 // Holder h gets or loses the pair p.
@@ -302,23 +245,20 @@ fn change_value(book: &mut [u64], h: usize, p: usize, plus: bool)
     requires { length book.old ≡ book_words }
     ensures { ValueChanged h p plus book.old book.new }
 {
-    if h >= HOLDERS {
-        return;
+    if h < HOLDERS && p < PAIRS {
+        ties::change_value(&mut book[OWN_AT..RULES_AT], h, p, plus);
     }
-    if p >= PAIRS {
-        return;
-    }
-    ties::change_value(&mut book[OWN_AT..RULES_AT], h, p, plus);
 }
 
 // One tie more or one less.
 pub fn change(book: &mut [u64], t: Tie, plus: bool)
     requires { length book.old ≡ book_words }
-    ensures { TieChanged (tie_by t.key t.lower t.upper) plus book.old book.new }
+    ensures { TieChanged (tie_of t) plus book.old book.new }
 {
-    if t.key == KEY_VALUE {
-        change_value(book, t.lower, t.upper, plus);
-    } else {
-        change_up(book, t.lower, t.upper, plus);
+    match t {
+        Tie::Parent { child: h, group } | Tie::Member { party: h, group } => {
+            change_up(book, h, group, plus)
+        }
+        Tie::Value { holder, pair } => change_value(book, holder, pair, plus),
     }
 }

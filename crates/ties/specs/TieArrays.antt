@@ -20,11 +20,6 @@ grouped slot_of k = not (eqb (get_or slot_of k 0) 0)
 abbrev pub HasNumbered : List ℕ → ℕ → ℕ → Type 0
 HasNumbered slots n m = (q : ℕ) → q < n → 0 < get_or slots q 0 → bit m q ≡ true
 
--- r has what the mask m has, and slot q if that has a number
-pub record AddsNumbered (slots : List ℕ) (m q r : ℕ) : Type 0 where
-  pub kept : (j : ℕ) → bit m j ≡ true → bit r j ≡ true
-  pub taken : 0 < get_or slots q 0 → bit r q ≡ true
-
 -- holder h has a tie up to the group of slot q
 unfoldable pub tied_up : List ℕ → ℕ → ℕ → Bool
 tied_up ups h q = bit (get_or ups h 0) q

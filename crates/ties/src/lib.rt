@@ -4,7 +4,7 @@
 ghost use Rattle.std.specs.Prelude.{◌≡◌, ◌||◌, ◌&&◌, not, ℕ, ◌+◌, ◌*◌, ◌<◌, ◌≤◌, length, get_or};
 ghost use Rattle.model.specs.Limits.{group_limit, pair_limit};
 ghost use Rattle.bits.specs.Bits.{bit};
-ghost use Rattle.ties.specs.TieArrays.{in_use, grouped, meets, under, HasNumbered, AddsNumbered, Marks, Widened, LeadsTo, ClosesCircle};
+ghost use Rattle.ties.specs.TieArrays.{in_use, grouped, meets, under, HasNumbered, Marks, Widened, LeadsTo, ClosesCircle};
 ghost use Rattle.ties.specs.TieEdits.{MaskChanged, OwnChanged, SlotGiven};
 ghost use Rattle.ties.specs.TieJoins.{joins_by, joins_at};
 
@@ -12,10 +12,7 @@ ghost use Rattle.ties.specs.TieJoins.{joins_by, joins_at};
 pub fn holder_at(slots: &[u64], q: usize) -> usize
     ensures { result ≡ get_or slots.now q 0 }
 {
-    if q >= slots.len() {
-        return 0;
-    }
-    codes::word_to_index(slots[q])
+    slots.get(q).map_or(0, |k| *k as usize)
 }
 
 // Whether slot q is in use, among n holders.
@@ -23,30 +20,21 @@ pub fn in_use(slots: &[u64], q: usize, n: usize) -> bool
     ensures { result ≡ in_use n slots.now q }
 {
     let k = holder_at(slots, q);
-    if k == 0 {
-        return false;
-    }
-    k < n
+    k != 0 && k < n
 }
 
 // Whether holder k is a group: its own word tells a slot then.
 pub fn is_group(groups: &[u64], k: usize) -> bool
     ensures { result ≡ grouped groups.now k }
 {
-    if k >= groups.len() {
-        return false;
-    }
-    groups[k] != 0
+    groups.get(k).is_some_and(|slot| *slot != 0)
 }
 
 // Holder k's ties up: none where there is no such holder.
 pub fn ties_up(ups: &[u64], k: usize) -> u64
     ensures { result ≡ get_or ups.now k 0 }
 {
-    if k >= ups.len() {
-        return 0;
-    }
-    ups[k]
+    ups.get(k).copied().unwrap_or(0)
 }
 
 // Whether two masks have a slot in common.
@@ -60,22 +48,14 @@ pub fn meet(a: u64, b: u64) -> bool
 pub fn is_under(ups: &[u64], m: u64, e: usize, k: usize) -> bool
     ensures { result ≡ under ups.now m e k }
 {
-    if k == e {
-        return true;
-    }
-    let up = ties_up(ups, k);
-    meet(up, m)
+    k == e || meet(ties_up(ups, k), m)
 }
 
 // Whether the group of slot q is e, or has a tie up to a group of the mask m.
 fn slot_is_under(ups: &[u64], slots: &[u64], m: u64, e: usize, q: usize) -> bool
     ensures { result ≡ (in_use (length ups.now) slots.now q && under ups.now m e (get_or slots.now q 0)) }
 {
-    if !in_use(slots, q, ups.len()) {
-        return false;
-    }
-    let k = holder_at(slots, q);
-    is_under(ups, m, e, k)
+    in_use(slots, q, ups.len()) && is_under(ups, m, e, holder_at(slots, q))
 }
 
 // The set joins that a holder takes with these ties up: one, and one for each of them.
@@ -89,22 +69,11 @@ pub fn joins(up: u64) -> usize
 pub fn joins_under(ups: &[u64], m: u64, e: usize, k: usize) -> usize
     ensures { (result ≡ joins_at ups.now m e k) × (result ≤ group_limit + 1) }
 {
-    if !is_under(ups, m, e, k) {
-        return 0;
+    if is_under(ups, m, e, k) {
+        joins(ties_up(ups, k))
+    } else {
+        0
     }
-    let up = ties_up(ups, k);
-    joins(up)
-}
-
-// The mask with slot q, if that has a number.
-fn with_numbered(mask: u64, slots: &[u64], q: usize) -> u64
-    requires { q < group_limit }
-    ensures { AddsNumbered slots.now mask q result }
-{
-    if holder_at(slots, q) == 0 {
-        return mask;
-    }
-    bits::with(mask, q)
 }
 
 // The slots that have a number: no other is in use, and most areas have few groups.
@@ -113,8 +82,10 @@ pub fn numbered(slots: &[u64]) -> u64
     ensures { HasNumbered slots.now group_limit result }
 {
     let mut mask: u64 = 0;
-    for q in 0..slots.len() {
-        mask = with_numbered(mask, slots, q);
+    for (q, k) in slots.iter().enumerate() {
+        if *k != 0 {
+            mask = bits::with(mask, q);
+        }
     }
     mask
 }
@@ -150,9 +121,7 @@ fn widened_down(ups: &[u64], slots: &[u64], m: u64, e: usize) -> u64
     ensures { Widened ups.now slots.now e m result }
 {
     let mut next = m;
-    let mut q = slots.len();
-    while q > 0 {
-        q -= 1;
+    for q in (0..slots.len()).rev() {
         if slot_is_under(ups, slots, next, e, q) {
             next = bits::with(next, q);
         }
@@ -167,12 +136,15 @@ fn widened_both_ways(ups: &[u64], slots: &[u64], used: u64, m: u64, e: usize) ->
 {
     let up = widened(ups, slots, used, m, e);
     if up == m {
-        return up;
+        up
+    } else {
+        widened_down(ups, slots, up, e)
     }
-    widened_down(ups, slots, up, e)
 }
 
-// The slots of holder e, if it is a group, and of the groups below it: the mask is widened until nothing is new.
+// The slots of holder e, if it is a group, and of the groups below it: the mask is widened until nothing is new. Not inlined: its loops are
+// slower where they share the registers of a caller.
+#[inline(never)]
 pub fn groups_below(ups: &[u64], slots: &[u64], e: usize) -> u64
     requires { length slots.now ≤ group_limit }
     ensures { Marks ups.now slots.now e result }
@@ -210,10 +182,7 @@ fn leads_up(ups: &[u64], slots: &[u64], k: usize, e: usize) -> bool
 pub fn closes_circle(ups: &[u64], slots: &[u64], child: usize, group: usize) -> bool
     ensures { ClosesCircle ups.now slots.now child group result }
 {
-    if child == group {
-        return true;
-    }
-    leads_up(ups, slots, group, child)
+    child == group || leads_up(ups, slots, group, child)
 }
 
 // Holder h gets or loses a tie up to the group of slot q.
@@ -221,9 +190,7 @@ pub fn change_up(ups: &mut [u64], h: usize, q: usize, plus: bool)
     requires { (h < length ups.old) × (q < group_limit) }
     ensures { MaskChanged ups.old h q plus ups.new }
 {
-    let word = ups[h];
-    let next = bits::put(word, q, plus);
-    ups[h] = next;
+    ups[h] = bits::put(ups[h], q, plus);
 }
 
 // Holder h gets or loses the pair p.
@@ -232,9 +199,7 @@ pub fn change_value(own: &mut [u64], h: usize, p: usize, plus: bool)
     ensures { OwnChanged own.old h p plus own.new }
 {
     let at = 4 * h + p / 64;
-    let word = own[at];
-    let next = bits::put(word, p % 64, plus);
-    own[at] = next;
+    own[at] = bits::put(own[at], p % 64, plus);
 }
 
 // The group of holder number k gets slot q.

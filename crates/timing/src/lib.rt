@@ -1,7 +1,8 @@
 // What the timing program calls. A truth value is a number: 0 FALSE, 1 UNDEF, 2 TRUE.
 #![tactic(auto)]
 
-use truth::Truth;
+use codes::Refusal;
+use session::Activation;
 
 // A policy's bytes become a program, rule code and rows: 6, 7 or 8 where it is refused, 0 where it is not.
 #[unsafe(no_mangle)]
@@ -12,11 +13,10 @@ pub extern "C" fn zhul_time_load(
     rows: &mut [u8; 256],
 ) -> u8 {
     if 255 < policy.len() {
-        return 6;
+        return Refusal::Malformed as u8;
     }
-    let number = policy::judge(policy, attributes, code);
-    if number != 0 {
-        return number;
+    if let Err(refusal) = policy::judge(policy, attributes, code) {
+        return refusal as u8;
     }
     compile::compile(code, attributes, rows);
     0
@@ -33,13 +33,17 @@ pub extern "C" fn zhul_time_open(
     count: usize,
     session: &mut [u64; 128],
 ) -> bool {
-    if 32 < count {
+    let activation = Activation {
+        attributes,
+        table,
+        user,
+        object,
+        mask,
+    };
+    if 32 < count || activation.unheld() {
         return true;
     }
-    if session::unheld(attributes, table, user, mask) {
-        return true;
-    }
-    session::open(attributes, table, user, object, mask, count, session);
+    activation.open(count, session);
     false
 }
 
@@ -52,11 +56,5 @@ pub extern "C" fn zhul_time_run(
     session: &[u64; 128],
     entries: &[u8],
 ) -> u8 {
-    let verdict = program::run(code, rows, pairs, session, entries);
-    let value = verdict.value;
-    match value {
-        Truth::False => 0,
-        Truth::Undef => 1,
-        Truth::True => 2,
-    }
+    program::run(code, rows, pairs, session, entries).value as u8
 }

@@ -13,11 +13,11 @@ use Rattle.model.specs.Tokens.{Token, str, word_byte, tokens_within, tokens_of}
 use Rattle.model.specs.Declarations.{Declarations}
 use Rattle.model.specs.Refusals.{unknown_name}
 use Rattle.model.proofs.WordTables.{none-is-some}
-use Rattle.codes.proofs.TokenKinds.{kind-range}
 use Rattle.model.specs.Standing.{WellDeclared}
 use Rattle.rows.specs.Rows.{AttributeRows}
-use Rattle.tokens.specs.declared.Token.{Token as Placed}
-use Rattle.tokens.specs.declared.Written.{Written}
+use Rattle.std.specs.Prelude.{Some, None, Ok, Err}
+use Rattle.tokens.specs.declared.Placed.{Placed}
+use Rattle.tokens.specs.declared.Encoded.{Encoded}
 use Rattle.tokens.specs.RuleCode.{encode_token, rule_code, size, Encodes, CodeOf}
 use Rattle.tokens.specs.TokenAt.{code_of, placed, token_at, lead}
 use Rattle.tokens.specs.Writing.{TokenStands, Given, Wrote}
@@ -54,9 +54,12 @@ pub record Passed (s : Bytes) (attributes : List ℕ) (before code : Bytes) (at 
   pub behind : drop len code ≡ drop len before
   pub written : (D : Declarations) → WellDeclared D → AttributeRows attributes D → (take len code ≡ each (encode_token D) tokens) × (unknown ≡ any_of (unknown_name D) tokens)
 
-pub passed-as : {s : Bytes} {attributes : List ℕ} {before code : Bytes} {at len : ℕ} {a b : Bool} → a ≡ b
-    → Passed s attributes before code at len a → Passed s attributes before code at len b
-passed-as {s} {attributes} {before} {code} {at} {len} e p = subst (Passed s attributes before code at len) e p
+-- what stands at a place is one thing
+some-none : {A B : Type 0} {x : A} → Some x ≡ None → B
+some-none e = cc
+
+the-placed : {a b : Placed} → Some a ≡ Some b → a ≡ b
+the-placed {a} {b} e = let z : a ≡ b = cc in z
 
 -- of more bytes behind those that are as they were
 drop_more : (a b : Bytes) (n k : ℕ) → drop n a ≡ drop n b → drop (n + k) a ≡ drop (n + k) b
@@ -85,11 +88,11 @@ module _ {s : Bytes} {attributes : List ℕ} {before code : Bytes} {at len : ℕ
   unfolding tokens_of
   all_left o e = p.left (length s) (length (drop at s)) (omega arith) (omega arith) ∙ ap (λ (o : Option (List Token)). o >>= λ ts. some (p.tokens ++ ts)) e
 
-  pub passed-bad : (token_at s at).code.kind ≡ 24 → Encodes s attributes before code (record { bad = true; unknown = unknown; len = len })
+  pub passed-bad : token_at s at ≡ None → Encodes s attributes before code (Err (record { len = len }))
   passed-bad k = go (seen s at)
     where
-      go : Seen s at → Encodes s attributes before code (record { bad = true; unknown = unknown; len = len })
-      go (ended e f) = let z = sym k ∙ ap (λ (t : Placed). t.code.kind) e in absurd (omega arith)
+      go : Seen s at → Encodes s attributes before code (Err (record { len = len }))
+      go (ended e f) = some-none (sym e ∙ k)
       go (refused e f) =
           let z : tokens_of s ≡ none = all_left none (f (length (drop at s)) (omega arith)) in
           let w = p.within in
@@ -101,21 +104,21 @@ module _ {s : Bytes} {attributes : List ℕ} {before code : Bytes} {at len : ℕ
             behind = p.behind;
             tokens = λ D ord ar ts g. none-is-some (sym z ∙ g);
           }
-      go (read t next r) = absurd (omega (arith, kind-range t, sym k ∙ ap (λ (t : Placed). t.code.kind) r.code))
+      go (read t next r) = some-none (sym r.code ∙ k)
 
   -- what is read there is a token of the policy
-  stands : (t : Placed) (u : Token) (next : ℕ) → t ≡ token_at s at → ReadAt s at u next → TokenStands s t u
+  stands : (t : Placed) (u : Token) (next : ℕ) → Some t ≡ token_at s at → ReadAt s at u next → TokenStands s t u
   stands t u next e r =
-      let f : t ≡ placed (code_of u) next = e ∙ r.code in
+      let f : t ≡ placed (Some (code_of u)) next = the-placed (e ∙ r.code) in
       let n : t.next ≡ next = ap (λ (v : Placed). v.next) f in
       record {
         well = r.well;
-        code = ap (λ (v : Placed). v.code) f;
+        code = ap (λ (v : Placed). v.token) f;
         within = subst (λ (k : ℕ). k ≤ length s) (sym n) r.within;
         text = subst (λ (k : ℕ). (v : Bytes) → u ≡ str v → (length v + 1 ≤ k) × (take (length v) (drop (k - 1 - length v) s) ≡ v)) (sym n) r.text;
       }
 
-  module _ (enough : 3 * length s + 3 ≤ length before) (t : Placed) (here : t ≡ token_at s at) (good : t.code.kind ≡ 24 → ⊥) where
+  module _ (enough : 3 * length s + 3 ≤ length before) (t : Placed) (here : Some t ≡ token_at s at) where
     pub passed-given : Given s t len (length code)
     passed-given = go (seen s at)
       where
@@ -123,19 +126,19 @@ module _ {s : Bytes} {attributes : List ℕ} {before code : Bytes} {at len : ℕ
         fits next k h r = let f = r.few in let l = p.long in omega arith
 
         go : Seen s at → Given s t len (length code)
-        go (ended e f) = Given.ended (ap (λ (v : Placed). v.code) (here ∙ e)) (fits at len p.within p.room)
-        go (refused e f) = absurd (good (ap (λ (v : Placed). v.code.kind) (here ∙ e)))
+        go (ended e f) = Given.ended (ap (λ (v : Placed). v.token) (the-placed (here ∙ e))) (fits at len p.within p.room)
+        go (refused e f) = some-none (here ∙ e)
         go (read u next r) = Given.token u (stands t u next here r) (fits next (len + size u) r.within (r.room len p.room))
 
     pub passed-further : at < length s → at < t.next
     passed-further h = go (seen s at)
       where
         go : Seen s at → at < t.next
-        go (ended e f) = omega (arith, ap (λ (v : Placed). v.next) (here ∙ e))
-        go (refused e f) = absurd (good (ap (λ (v : Placed). v.code.kind) (here ∙ e)))
-        go (read u next r) = let a = r.after in omega (arith, ap (λ (v : Placed). v.next) (here ∙ r.code))
+        go (ended e f) = omega (arith, ap (λ (v : Placed). v.next) (the-placed (here ∙ e)))
+        go (refused e f) = some-none (here ∙ e)
+        go (read u next r) = let a = r.after in omega (arith, ap (λ (v : Placed). v.next) (the-placed (here ∙ r.code)))
 
-    module _ {after : Bytes} {w : Written} (put : Wrote s attributes t code len after w) where
+    module _ {after : Bytes} {w : Encoded} (put : Wrote s attributes t code len after w) where
       -- what is written fits, and what is known of it
       step : (next : ℕ) (more : List Token) → t.next ≡ next → next ≤ length s → CodeRoom s next w.len
           → ((n m : ℕ) → length s ≤ n → length (drop next s) ≤ m → tokens_within n s ≡ (tokens_within m (drop next s) >>= λ ts. some (p.tokens ++ more ++ ts)))
@@ -171,22 +174,22 @@ module _ {s : Bytes} {attributes : List ℕ} {before code : Bytes} {at len : ℕ
 
           go : Seen s at → Passed s attributes before after t.next w.len (unknown || w.unknown)
           go (ended e f) =
-              let (b, v) = put.end (ap (λ (v : Placed). v.code) (here ∙ e)) in
+              let (b, v) = put.end (ap (λ (v : Placed). v.token) (the-placed (here ∙ e))) in
               let l : w.len ≡ len = put.laid.behind ∙ omega (arith, ap length b) in
               let few = p.room.few in
               let h = p.within in
               let nil : drop (length s) s ≡ [] = drop_of_length-le s {i = length s} (omega arith) in
-              step (length s) [] (ap (λ (v : Placed). v.next) (here ∙ e)) (omega arith)
+              step (length s) [] (ap (λ (v : Placed). v.next) (the-placed (here ∙ e))) (omega arith)
               (record { few = omega arith; fewer = λ i. absurd (omega (arith, ap (lead word_byte) nil)) })
               (λ n m i j. p.left n (length (drop at s)) i (omega arith) ∙ ap (λ (o : Option (List Token)). o >>= λ ts. some (p.tokens ++ ts)) (f (length (drop at s)) (omega arith))
               ∙ ap {B = Option (List Token)} (λ (l : List Token). some (l ++ [])) (sym (append-nil p.tokens))
               ∙ ap (λ (o : Option (List Token)). o >>= λ ts. some (p.tokens ++ [] ++ ts)) (sym (ap (tokens_within m) nil ∙ within-nil m)))
               (λ D ord ar. (b, ap (any_of (unknown_name D)) (append-nil p.tokens) ∙ or-false (any_of (unknown_name D) p.tokens) ∙ ap (λ (x : Bool). any_of (unknown_name D) p.tokens || x) (sym v)))
-          go (refused e f) = absurd (good (ap (λ (v : Placed). v.code.kind) (here ∙ e)))
+          go (refused e f) = some-none (here ∙ e)
           go (read u next r) =
               let st = stands t u next here r in
               let l : len + size u ≡ w.len = sym (put.laid.behind ∙ ap (λ (k : ℕ). len + k) (put.long u st)) in
-              step next (u ∷ []) (ap (λ (v : Placed). v.next) (here ∙ r.code)) r.within
+              step next (u ∷ []) (ap (λ (v : Placed). v.next) (the-placed (here ∙ r.code))) r.within
               (subst (CodeRoom s next) l (r.room len p.room))
               (λ n m i j. p.left n (length (drop at s)) i (omega arith)
               ∙ ap (λ (o : Option (List Token)). o >>= λ ts. some (p.tokens ++ ts)) (r.tokens (length (drop at s)) m (omega arith) j)
@@ -196,7 +199,7 @@ module _ {s : Bytes} {attributes : List ℕ} {before code : Bytes} {at len : ℕ
               (x ∙ sym (append-nil (encode_token D u)), any_append (unknown_name D) p.tokens u ∙ ap (λ (v : Bool). any_of (unknown_name D) p.tokens || v) (sym y)))
 
   -- at the end, the byte that ends the code
-  pub passed-all : 3 * length s + 3 ≤ length before → length s ≤ at → Encodes s attributes before (set code len 0) (record { bad = false; unknown = unknown; len = len + 1 })
+  pub passed-all : 3 * length s + 3 ≤ length before → length s ≤ at → Encodes s attributes before (set code len 0) (Ok (record { len = len + 1; unknown = unknown }))
   passed-all enough h =
       let w = p.within in
       let few = p.room.few in
@@ -216,7 +219,7 @@ module _ {s : Bytes} {attributes : List ℕ} {before code : Bytes} {at len : ℕ
             let (a, b) = p.written D ord ar in
             let front : length (each (encode_token D) p.tokens) ≡ len = ap length (sym a) ∙ length-take-le len code (omega arith) in
             let size : length (rule_code D p.tokens) ≡ suc len = length-append (each (encode_token D) p.tokens) (0 ∷ []) ∙ omega arith in
-            subst (λ (ts : List Token). CodeOf D ts before (set code len 0) (record { bad = false; unknown = unknown; len = len + 1 })) same
+            subst (λ (ts : List Token). CodeOf D ts before (set code len 0) (record { len = len + 1; unknown = unknown })) same
             (record {
               code = set_split code len 0 (omega arith) ∙ ap₂ (λ (x y : Bytes). x ++ (0 ∷ y)) a (rest ∙ ap (λ (k : ℕ). drop k before) (sym size))
                   ∙ sym (append_snoc (each (encode_token D) p.tokens) 0 (drop (length (rule_code D p.tokens)) before));

@@ -14,7 +14,8 @@ use Rattle.model.specs.Tokens.{Token, str, Read, word_byte, read_token, tokens_w
 use Rattle.model.proofs.Options.{bound, condition}
 use Rattle.model.proofs.Lists.{all_cons}
 use Rattle.tokens.specs.RuleCode.{size}
-use Rattle.tokens.specs.TokenAt.{plain_code, code_of, placed, coded_read, unspaced, token_in, token_at, lead, in_run}
+use Rattle.std.specs.Prelude.{Some, None}
+use Rattle.tokens.specs.TokenAt.{code_of, placed, end_at, coded_read, unspaced, token_in, token_at, lead}
 use Rattle.tokens.proofs.ByteRuns.{unspaced-lead}
 use Rattle.tokens.proofs.Taken.{Taken, taken, Cost, word, other}
 
@@ -51,7 +52,7 @@ within-enough (suc m) (suc n) (x ∷ s) h k = go (is_byte " " x) (λ r. within-e
 
 -- spaces at the front do not matter, and none is left
 unspaced-le : (s : Bytes) → length (unspaced s) ≤ length s
-unspaced-le s = omega (arith, ap length (unspaced-lead s), length-drop (lead (in_run 0) s) s)
+unspaced-le s = omega (arith, ap length (unspaced-lead s), length-drop (lead (is_byte " ") s) s)
 
 within-unspaced : (n : ℕ) (s : Bytes) → length s ≤ n → tokens_within n s ≡ tokens_within n (unspaced s)
 within-unspaced zero [] h = refl
@@ -99,7 +100,7 @@ pub record CodeRoom (s : Bytes) (at len : ℕ) : Type 0 where
 -- a token that is read at a place
 pub record ReadAt (s : Bytes) (at : ℕ) (t : Token) (next : ℕ) : Type 0 where
   pub well : is_token t ≡ true
-  pub code : token_at s at ≡ placed (code_of t) next
+  pub code : token_at s at ≡ Some (placed (Some (code_of t)) next)
   pub after : at < next
   pub within : next ≤ length s
   pub text : (u : Bytes) → t ≡ str u → (length u + 1 ≤ next) × (take (length u) (drop (next - 1 - length u) s) ≡ u)
@@ -108,14 +109,14 @@ pub record ReadAt (s : Bytes) (at : ℕ) (t : Token) (next : ℕ) : Type 0 where
 
 -- what the token at a place says of the tokens from there on
 pub data Seen (s : Bytes) (at : ℕ) : Type 0 where
-  ended : token_at s at ≡ placed (plain_code 0) (length s) → ((n : ℕ) → length (drop at s) ≤ n → tokens_within n (drop at s) ≡ some []) → Seen s at
-  refused : token_at s at ≡ placed (plain_code 24) (length s) → ((n : ℕ) → length (drop at s) ≤ n → tokens_within n (drop at s) ≡ none) → Seen s at
+  ended : token_at s at ≡ end_at (length s) → ((n : ℕ) → length (drop at s) ≤ n → tokens_within n (drop at s) ≡ some []) → Seen s at
+  refused : token_at s at ≡ None → ((n : ℕ) → length (drop at s) ≤ n → tokens_within n (drop at s) ≡ none) → Seen s at
   read : (t : Token) (next : ℕ) → ReadAt s at t next → Seen s at
 
 -- where the token ends that is read behind the spaces
 module _ (s : Bytes) (at x : ℕ) (u : Bytes) (e : unspaced (drop at s) ≡ x ∷ u) (t : Token) (rest : Bytes) (k : Taken (x ∷ u) t rest) where
   spaces : ℕ
-  spaces = lead (in_run 0) (drop at s)
+  spaces = lead (is_byte " ") (drop at s)
 
   start : ℕ
   start = at + spaces
@@ -125,7 +126,7 @@ module _ (s : Bytes) (at x : ℕ) (u : Bytes) (e : unspaced (drop at s) ≡ x �
 
   from_start : x ∷ u ≡ drop start s
   unfolding start spaces
-  from_start = sym e ∙ unspaced-lead (drop at s) ∙ drop-drop (lead (in_run 0) (drop at s)) at s
+  from_start = sym e ∙ unspaced-lead (drop at s) ∙ drop-drop (lead (is_byte " ") (drop at s)) at s
 
   from_next : rest ≡ drop next s
   unfolding next
@@ -191,7 +192,7 @@ seen s at = go (unspaced (drop at s)) refl
         read p.0 (next s at x u e p.0 p.1 k)
         (record {
           well = k.well;
-          code = ap (token_in (length s)) e ∙ ap (coded_read (length s)) f ∙ ap (placed (code_of p.0)) c;
+          code = ap (token_in (length s)) e ∙ ap (coded_read (length s)) f ∙ ap (λ (l : ℕ). Some (placed (Some (code_of p.0)) l)) c;
           after = a;
           within = b;
           text = text-there s at x u e p.0 p.1 k;

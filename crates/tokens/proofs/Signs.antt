@@ -12,40 +12,52 @@ use Rattle.model.specs.Notation.{◌>>=◌, ◌or_else◌, is_empty, if◌then�
 use Rattle.model.specs.Bytes.{Bytes, bytes, behind}
 use Rattle.model.specs.Tokens.{Token, Read, run, read_word, read_text, read_sign, signs, read_token, read_attribute_name, operator, mark, unequal, at_most, at_least, equal, less, greater, lparen, rparen, lbrace, rbrace, comma}
 use Rattle.model.specs.Atoms.{read_int}
-use Rattle.tokens.specs.declared.Code.{Code}
-use Rattle.tokens.specs.declared.Token.{Token as Placed}
-use Rattle.tokens.specs.TokenAt.{plain_code, code_of, placed, coded_read, token_in, word_token}
+use Rattle.std.specs.Prelude.{Some}
+use Rattle.std.specs.Prelude as std
+use Rattle.tokens.specs.declared.Placed.{Placed}
+use Rattle.tokens.specs.TokenAt.{code_of, placed, end_at, sign_at, coded_read, token_in, word_token}
 
 module _ (n : ℕ) where
-  pub at-end : (s : Bytes) → length s < 1 → token_in n s ≡ placed (plain_code 0) n
+  pub at-end : (s : Bytes) → length s < 1 → token_in n s ≡ end_at n
   unfolding token_in
   at-end [] h = refl
   at-end (x ∷ s) h = absurd (omega arith)
 
   -- a sign of one byte
-  pub at_sign : (s : Bytes) (x : ℕ) (v : Code) → 1 ≤ length s → get_or s 0 0 ≡ x → ((r : Bytes) → token_in n (x ∷ r) ≡ placed v (n - length r)) → token_in n s ≡ placed v (n - (length s - 1))
+  pub at_sign : (s : Bytes) (x v : ℕ) → 1 ≤ length s → get_or s 0 0 ≡ x → ((r : Bytes) → token_in n (x ∷ r) ≡ sign_at v (n - length r)) → token_in n s ≡ sign_at v (n - (length s - 1))
   at_sign [] x v h e f = absurd (omega arith)
   at_sign (y ∷ r) x v h e f =
       let m : length r ≡ suc (length r) - 1 = omega arith in
-      ap (λ (z : ℕ). token_in n (z ∷ r)) e ∙ f r ∙ ap (λ (l : ℕ). placed v (n - l)) m
+      ap (λ (z : ℕ). token_in n (z ∷ r)) e ∙ f r ∙ ap (λ (l : ℕ). sign_at v (n - l)) m
 
   -- a sign of two bytes where `=` is the second, else what is read without it
   pub at-equals : (s : Bytes) (x : ℕ) (t : Token) (other : Bytes → Read) → 1 ≤ length s → get_or s 0 0 ≡ x
       → ((r : Bytes) → token_in n (x ∷ r) ≡ coded_read n ((behind (61 ∷ []) r >>= λ rest. some (t, rest)) or_else other r))
-      → (e : Bool) → e ≡ eqb (get_or s 1 0) 61 → (two : ℕ) → two ≡ n - (length s - 2) → (w : Placed) → w ≡ coded_read n (other (drop 1 s))
-      → token_in n s ≡ (if e then placed (code_of t) two otherwise w)
+      → (e : Bool) → e ≡ eqb (get_or s 1 0) 61 → (two : ℕ) → two ≡ n - (length s - 2) → (w : std.Option Placed) → w ≡ coded_read n (other (drop 1 s))
+      → token_in n s ≡ (if e then Some (placed (Some (code_of t)) two) otherwise w)
   at-equals [] x t other h i f e p two q w l = absurd (omega arith)
   at-equals (a ∷ []) x t other h i f e p two q w l =
-      ap (λ (z : ℕ). token_in n (z ∷ [])) i ∙ f [] ∙ sym l ∙ ap (λ (b : Bool). if b then placed (code_of t) two otherwise w) (sym p)
+      ap (λ (z : ℕ). token_in n (z ∷ [])) i ∙ f [] ∙ sym l ∙ ap (λ (b : Bool). if b then Some (placed (Some (code_of t)) two) otherwise w) (sym p)
   at-equals (a ∷ y ∷ r) x t other h i f e p two q w l =
-      ap (λ (z : ℕ). token_in n (z ∷ y ∷ r)) i ∙ f (y ∷ r) ∙ go (eqb y 61) ∙ ap (λ (b : Bool). if b then placed (code_of t) two otherwise w) (sym p)
+      ap (λ (z : ℕ). token_in n (z ∷ y ∷ r)) i ∙ f (y ∷ r) ∙ go (eqb y 61) ∙ ap (λ (b : Bool). if b then Some (placed (Some (code_of t)) two) otherwise w) (sym p)
     where
       go : (b : Bool) → coded_read n (((elim b as (λ _. Option Bytes) [ true ↦ some r | false ↦ none ]) >>= λ rest. some (t, rest)) or_else other (y ∷ r))
-          ≡ (if b then placed (code_of t) two otherwise w)
+          ≡ (if b then Some (placed (Some (code_of t)) two) otherwise w)
       go true =
           let m : length r ≡ suc (suc (length r)) - 2 = omega arith in
-          ap (λ (l : ℕ). placed (code_of t) (n - l)) m ∙ ap (placed (code_of t)) (sym q)
+          ap (λ (l : ℕ). Some (placed (Some (code_of t)) (n - l))) (m) ∙ ap (λ (l : ℕ). Some (placed (Some (code_of t)) l)) (sym q)
       go false = sym l
+
+  -- whether `=` is the second is known
+  pub with-equals : (s : Bytes) (x : ℕ) (t : Token) (other : Bytes → Read) → 1 ≤ length s → get_or s 0 0 ≡ x
+      → ((r : Bytes) → token_in n (x ∷ r) ≡ coded_read n ((behind (61 ∷ []) r >>= λ rest. some (t, rest)) or_else other r))
+      → eqb (get_or s 1 0) 61 ≡ true → token_in n s ≡ Some (placed (Some (code_of t)) (n - (length s - 2)))
+  with-equals s x t other h i f e = at-equals s x t other h i f true (sym e) (n - (length s - 2)) refl (coded_read n (other (drop 1 s))) refl
+
+  pub without-equals : (s : Bytes) (x : ℕ) (t : Token) (other : Bytes → Read) → 1 ≤ length s → get_or s 0 0 ≡ x
+      → ((r : Bytes) → token_in n (x ∷ r) ≡ coded_read n ((behind (61 ∷ []) r >>= λ rest. some (t, rest)) or_else other r))
+      → eqb (get_or s 1 0) 61 ≡ false → token_in n s ≡ coded_read n (other (drop 1 s))
+  without-equals s x t other h i f e = at-equals s x t other h i f false (sym e) (n - (length s - 2)) refl (coded_read n (other (drop 1 s))) refl
 
   pub at-text : (s : Bytes) → 1 ≤ length s → get_or s 0 0 ≡ 34 → token_in n s ≡ coded_read n (read_text (drop 1 s))
   unfolding token_in read_token

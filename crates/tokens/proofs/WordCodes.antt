@@ -1,116 +1,125 @@
--- Words as numbers: those in capitals, ints and names.
-use Prim.Native.Nat.{ℕ, ◌+◌, ◌≤◌, ◌<◌}
+-- Words as the code has them: those in capitals, ints and names.
+use Prim.Native.Nat.{ℕ, ◌+◌}
 use mathlib.Core.Path.{◌≡◌, refl, sym, ap, ◌∙◌}
-use mathlib.Core.Bool.{Bool, true, false, ◌&&◌}
+use mathlib.Core.Bool.{Bool, true, false}
 use mathlib.Core.List.{List, [], ◌∷◌}
-use mathlib.Core.Option.{Option, none, some, some-injective}
-use native.Mathlib.Omega.{arith}
-use borrow.Author.Tests.{eqb-true}
-use lib.ListN.{length, take, drop}
-use lib.Dec.{eqb}
+use mathlib.Core.Option as math
+use mathlib.Core.Option.{none, some, some-injective}
+use Rattle.std.specs.Prelude.{Option, Some, None}
+use lib.ListN.{take, drop}
 use Rattle.model.specs.Notation.{◌>>=◌, ◌or_else◌, all_of}
 use Rattle.model.specs.Bytes.{Bytes, one_of, same}
 use Rattle.model.specs.Names.{is_name, read_name}
-use Rattle.model.specs.Attributes.{Source, read_source, user, object, admin, env, connect}
+use Rattle.model.specs.Attributes as attributes
+use Rattle.model.specs.Attributes.{read_source}
 use Rattle.model.specs.Atoms.{read_int}
-use Rattle.model.specs.Tokens.{Token, name, int, spelling, capitals, read_attribute_name, read_word}
-use Rattle.model.proofs.WordTables.{none-is-some}
-use Rattle.model.proofs.Options.{parts}
+use Rattle.model.specs.Tokens as model
+use Rattle.model.specs.Tokens.{name, int, str, truth, operator, mark, spelling, capitals, read_attribute_name, read_word}
+use Rattle.model.proofs.WordTables.{none-is-some, false-is-true}
 use Rattle.model.proofs.Lists.{all-parts}
-use Rattle.text.specs.declared.Int.TheVariants.{Number}
+use Rattle.codes.specs.Codes.{kind_of}
+use Rattle.codes.specs.Enums.{told, told_by, source_for}
+use Rattle.codes.specs.declared.Source.{Source}
 use Rattle.text.specs.Parts.{FirstAt}
-use Rattle.codes.specs.Codes.{coded, kind_of, source_code}
-use Rattle.codes.proofs.TokenKinds.{kind-range}
-use Rattle.text.specs.ReadCodes.{source_number, coded_int}
 use Rattle.text.specs.Packing.{packed_of}
-use Rattle.tokens.specs.TokenAt.{code_with, plain_code, source_in, low_in, high_in, code_of, coded_token, capital_kind}
+use Rattle.tokens.specs.declared.Token.{Token}
+use Rattle.tokens.specs.declared.Token.TheVariants.{Name, Int, Sign}
+use Rattle.tokens.specs.TokenAt.{code_of}
 
 -- what is read among the words of a table passes what all of the table pass
 pub one_of_all : {A : Type 0} (word : A → Bytes) (p : A → Bool) (table : List A) (s : Bytes) (a : A) → all_of p table ≡ true → one_of word table s ≡ some a → p a ≡ true
 one_of_all word p [] s a h e = none-is-some e
 one_of_all {A} word p (b ∷ rest) s a h e = let (i, j) = all-parts p b rest h in go (same (word b) s) i e (one_of_all word p rest s a j)
   where
-    go : (t : Bool) → p b ≡ true → elim t as (λ _. Option A) [ true ↦ some b | false ↦ one_of word rest s ] ≡ some a → (one_of word rest s ≡ some a → p a ≡ true) → p a ≡ true
+    go : (t : Bool) → p b ≡ true → elim t as (λ _. math.Option A) [ true ↦ some b | false ↦ one_of word rest s ] ≡ some a → (one_of word rest s ≡ some a → p a ≡ true) → p a ≡ true
     go true i f more = ap p (sym (some-injective b a f)) ∙ i
     go false i f more = more f
 
 -- a token that its kind tells
-abbrev plain : Token → Bool
-plain t = eqb (source_in t) 0 && eqb (low_in t) 0 && eqb (high_in t) 0
+abbrev plain : model.Token → Bool
+plain (name s n) = false
+plain (int n) = false
+plain (str s) = false
+plain (truth t) = true
+plain (operator o) = true
+plain (mark m) = true
 
-plain_code_lem : (t : Token) → plain t ≡ true → code_of t ≡ plain_code (kind_of t)
-plain_code_lem t e =
-    let (p, h) = parts _ _ e in
-    let (k, l) = parts _ _ p in
-    let a = eqb-true (source_in t) 0 k in
-    let b = eqb-true (low_in t) 0 l in
-    let c = eqb-true (high_in t) 0 h in
-    λ i. code_with (kind_of t) (a i) (b i) (c i)
+plain-code : (t : model.Token) → plain t ≡ true → code_of t ≡ Sign (kind_of t)
+plain-code (name s n) e = false-is-true e
+plain-code (int n) e = false-is-true e
+plain-code (str s) e = false-is-true e
+plain-code (truth t) e = refl
+plain-code (operator o) e = refl
+plain-code (mark m) e = refl
 
 module _ (w : Bytes) where
-  pub capital : (k : ℕ) → k ≡ capital_kind w → (k ≡ 0 → ⊥) → coded_token (read_word w) ≡ plain_code k
-  unfolding capital_kind read_word
-  capital k e n = go (one_of spelling capitals w) refl e
+  pub capital : (k : ℕ) → Some k ≡ told_by kind_of (one_of spelling capitals w) → Some (Sign k) ≡ told_by code_of (read_word w)
+  unfolding read_word
+  capital k e = go (one_of spelling capitals w) refl e
     where
-      rest : Option Token
+      rest : math.Option model.Token
       rest = (read_int w >>= λ n. some (int n)) or_else read_attribute_name w
 
-      go : (o : Option Token) → one_of spelling capitals w ≡ o → k ≡ coded kind_of o → coded_token (o or_else rest) ≡ plain_code k
-      go none f g = absurd (n g)
-      go (some t) f g = plain_code_lem t (one_of_all spelling plain capitals w t refl f) ∙ ap (λ (j : ℕ). plain_code j) (sym g)
+      go : (o : math.Option model.Token) → one_of spelling capitals w ≡ o → Some k ≡ told_by kind_of o → Some (Sign k) ≡ told_by code_of (o or_else rest)
+      go none f g = cc
+      go (some t) f g =
+          let z : k ≡ kind_of t = cc in
+          ap (λ (j : ℕ). Some (Sign j)) z ∙ ap (λ (c : Token). Some c) (sym (plain-code t (one_of_all spelling plain capitals w t refl f)))
 
-  pub no-capital : 0 ≡ capital_kind w → one_of spelling capitals w ≡ none
-  unfolding capital_kind
+  pub no-capital : None ≡ told_by kind_of (one_of spelling capitals w) → one_of spelling capitals w ≡ none
   no-capital e = go (one_of spelling capitals w) e
     where
-      go : (o : Option Token) → 0 ≡ coded kind_of o → o ≡ none
+      go : (o : math.Option model.Token) → None ≡ told_by kind_of o → o ≡ none
       go none g = refl
-      go (some t) g = absurd (omega (arith, kind-range t))
+      go (some t) g = cc
 
-  pub number : one_of spelling capitals w ≡ none → (v : ℕ) → coded_int (read_int w) ≡ Number v → coded_token (read_word w) ≡ code_with 1 0 v 0
-  unfolding read_word
-  number e v f = rw e (go (read_int w) f)
-    where
-      go : (o : Option ℕ) → coded_int o ≡ Number v → coded_token ((o >>= λ n. some (int n)) or_else read_attribute_name w) ≡ code_with 1 0 v 0
-      go none g = let z : ◌≡◌ {A = ℕ} 0 1 = cc in absurd (omega arith)
-      go (some m) g = let z : m ≡ v = cc in ap (λ (j : ℕ). code_with 1 0 j 0) z
+  module _ (none_there : one_of spelling capitals w ≡ none) where
+    pub number : (v : ℕ) → Some v ≡ told (read_int w) → Some (Int v) ≡ told_by code_of (read_word w)
+    unfolding read_word
+    number v f = rw none_there (go (read_int w) f)
+      where
+        go : (o : math.Option ℕ) → Some v ≡ told o → Some (Int v) ≡ told_by code_of ((o >>= λ n. some (int n)) or_else read_attribute_name w)
+        go none g = cc
+        go (some m) g = let z : v ≡ m = cc in ap (λ (j : ℕ). Some (Int j)) z
 
-  pub attribute : one_of spelling capitals w ≡ none → read_int w ≡ none → coded_token (read_word w) ≡ coded_token (read_attribute_name w)
-  unfolding read_word
-  attribute e f = rw (e, f)
+    pub attribute : None ≡ told (read_int w) → told_by code_of (read_attribute_name w) ≡ told_by code_of (read_word w)
+    unfolding read_word
+    attribute f = rw none_there (go (read_int w) f)
+      where
+        go : (o : math.Option ℕ) → None ≡ told o
+            → told_by code_of (read_attribute_name w) ≡ told_by code_of ((o >>= λ n. some (int n)) or_else read_attribute_name w)
+        go none g = refl
+        go (some m) g = cc
 
 -- names of attributes, by the place of their dot
-module _ (w : Bytes) (d : ℕ) (first : FirstAt 46 w d) where
-  pub no-dot : length w ≤ d → coded_token (read_attribute_name w) ≡ plain_code 24
+module _ (w : Bytes) (r : Option ℕ) (first : FirstAt 46 w r) where
+  pub no-dot : r ≡ None → None ≡ told_by code_of (read_attribute_name w)
   unfolding read_attribute_name
-  no-dot h = rw (first.absent h)
+  no-dot e = rw (first.absent e)
 
-  pub no_source : d < length w → 0 ≡ source_number (take d w) → coded_token (read_attribute_name w) ≡ plain_code 24
-  unfolding read_attribute_name source_number
-  no_source h e = rw (first.found h) (go (read_source (take d w)) e)
-    where
-      go : (o : Option Source) → 0 ≡ coded source_code o → coded_token (o >>= λ source. read_name (drop (d + 1) w) >>= λ n. some (name source n)) ≡ plain_code 24
-      go none f = refl
-      go (some user) f = absurd (omega arith)
-      go (some object) f = absurd (omega arith)
-      go (some admin) f = absurd (omega arith)
-      go (some env) f = absurd (omega arith)
-      go (some connect) f = absurd (omega arith)
+  module _ (d : ℕ) (e : r ≡ Some d) where
+    pub no_source : None ≡ told_by source_for (read_source (take d w)) → None ≡ told_by code_of (read_attribute_name w)
+    unfolding read_attribute_name
+    no_source f = rw ((first.found d e).1) (go (read_source (take d w)) f)
+      where
+        go : (o : math.Option attributes.Source) → None ≡ told_by source_for o → None ≡ told_by code_of (o >>= λ source. read_name (drop (d + 1) w) >>= λ n. some (name source n))
+        go none g = refl
+        go (some s) g = cc
 
-  pub no_name_lem : d < length w → is_name (drop (d + 1) w) ≡ false → coded_token (read_attribute_name w) ≡ plain_code 24
-  unfolding read_attribute_name
-  no_name_lem h e = rw (first.found h, e) (go (read_source (take d w)))
-    where
-      go : (o : Option Source) → coded_token (o >>= λ source. none >>= λ n. some (name source n)) ≡ plain_code 24
-      go none = refl
-      go (some s) = refl
+    pub no_name_lem : is_name (drop (d + 1) w) ≡ false → None ≡ told_by code_of (read_attribute_name w)
+    unfolding read_attribute_name
+    no_name_lem f = rw ((first.found d e).1, f) (go (read_source (take d w)))
+      where
+        go : (o : math.Option attributes.Source) → None ≡ told_by code_of (o >>= λ source. none >>= λ n. some (name source n))
+        go none = refl
+        go (some s) = refl
 
-  pub named : d < length w → (k : ℕ) → k ≡ source_number (take d w) → (k ≡ 0 → ⊥) → is_name (drop (d + 1) w) ≡ true
-      → coded_token (read_attribute_name w) ≡ code_with 4 k (packed_of (drop (d + 1) w)).low (packed_of (drop (d + 1) w)).high
-  unfolding read_attribute_name source_number
-  named h k e n f = rw (first.found h, f) (go (read_source (take d w)) e)
-    where
-      go : (o : Option Source) → k ≡ coded source_code o → coded_token (o >>= λ source. some (name source (drop (d + 1) w)))
-          ≡ code_with 4 k (packed_of (drop (d + 1) w)).low (packed_of (drop (d + 1) w)).high
-      go none g = absurd (n g)
-      go (some s) g = ap (λ (j : ℕ). code_with 4 j (packed_of (drop (d + 1) w)).low (packed_of (drop (d + 1) w)).high) (sym g)
+    pub named : (k : Source) → Some k ≡ told_by source_for (read_source (take d w)) → is_name (drop (d + 1) w) ≡ true
+        → Some (Name k (packed_of (drop (d + 1) w))) ≡ told_by code_of (read_attribute_name w)
+    unfolding read_attribute_name
+    named k f g = rw ((first.found d e).1, g) (go (read_source (take d w)) f)
+      where
+        go : (o : math.Option attributes.Source) → Some k ≡ told_by source_for o
+            → Some (Name k (packed_of (drop (d + 1) w))) ≡ told_by code_of (o >>= λ source. some (name source (drop (d + 1) w)))
+        go none h = cc
+        go (some s) h = let z : k ≡ source_for s = cc in ap (λ (j : Source). Some (Name j (packed_of (drop (d + 1) w)))) z

@@ -1,80 +1,101 @@
--- What is written for a token, by its kind.
+-- What is written for a token, as the code has it.
 use Prim.Native.Nat.{ℕ, ◌+◌, ◌-◌, ◌≤◌}
 use mathlib.Core.Path.{◌≡◌, refl, sym, ap, ap₂, ◌∙◌}
 use mathlib.Core.Bool.{false}
 use mathlib.Core.List.{List, [], ◌∷◌}
 use native.Mathlib.Omega.{arith}
+use Rattle.std.specs.Prelude.{Option, Some, None}
 use lib.ListN.{length, take, drop}
 use Rattle.model.specs.Bytes.{Bytes}
-use Rattle.model.specs.Tokens.{Token, name, int, str, truth, operator, mark, is_token}
+use Rattle.model.specs.Attributes as attributes
+use Rattle.model.specs.Tokens as model
+use Rattle.model.specs.Tokens.{name, int, str, truth, operator, mark, is_token}
 use Rattle.model.specs.Declarations.{Declarations}
 use Rattle.model.specs.Refusals.{unknown_name}
 use Rattle.codes.specs.Codes.{kind_of}
-use Rattle.codes.proofs.TokenKinds.{kind-range, int-kind, str-kind, name-kind}
+use Rattle.codes.specs.Enums.{source_for}
+use Rattle.codes.specs.declared.Source.{Source}
+use Rattle.text.specs.declared.Packed.{Packed}
 use Rattle.text.specs.Packing.{packed_of}
 use Rattle.text.proofs.Packing.{text-length}
-use Rattle.tokens.specs.declared.Code.{Code}
-use Rattle.tokens.specs.declared.Token.{Token as Placed}
-use Rattle.tokens.specs.declared.Written.{Written}
+use Rattle.tokens.specs.declared.Token.{Token}
+use Rattle.tokens.specs.declared.Token.TheVariants.{Name, Int, Str, Sign}
+use Rattle.tokens.specs.declared.Placed.{Placed}
+use Rattle.tokens.specs.declared.Encoded.{Encoded}
 use Rattle.tokens.specs.RuleCode.{low_bytes, encode_token, size}
-use Rattle.tokens.specs.TokenAt.{plain_code, source_in, low_in, high_in}
+use Rattle.tokens.specs.TokenAt.{code_of}
 use Rattle.output.specs.Laid.{Laid}
-use Rattle.output.proofs.Laying.{laid_none}
 use Rattle.tokens.specs.Writing.{NamePut, TokenStands, Given, ended, token, Wrote}
 
--- tokens take a byte at least
-size-some : (u : Token) → 1 ≤ size u
-size-some (name s n) = omega arith
-size-some (int n) = omega arith
-size-some (str s) = omega arith
-size-some (truth t) = omega arith
-size-some (operator o) = omega arith
-size-some (mark m) = omega arith
+-- the token that the code has so
+int-is : (u : model.Token) (n : ℕ) → code_of u ≡ Int n → u ≡ int n
+int-is (name a m) n e = cc
+int-is (int m) n e = let z : m ≡ n = cc in ap int z
+int-is (str m) n e = cc
+int-is (truth m) n e = cc
+int-is (operator m) n e = cc
+int-is (mark m) n e = cc
 
--- a token of no other kinds than those that tell it
-fixed-code : (u : Token) → (kind_of u ≡ 1 → ⊥) → (kind_of u ≡ 2 → ⊥) → (kind_of u ≡ 4 → ⊥)
-    → (1 ≡ size u) × ((D : Declarations) → (kind_of u ∷ [] ≡ encode_token D u) × (false ≡ unknown_name D u))
-fixed-code (name s n) a b c = absurd (c refl)
-fixed-code (int n) a b c = absurd (a refl)
-fixed-code (str s) a b c = absurd (b refl)
-fixed-code (truth t) a b c = (refl, λ D. (refl, refl))
-fixed-code (operator o) a b c = (refl, λ D. (refl, refl))
-fixed-code (mark m) a b c = (refl, λ D. (refl, refl))
+str-is : (u : model.Token) (n : ℕ) → code_of u ≡ Str n → (w : Bytes) × (u ≡ str w) × (n ≡ length w)
+str-is (name a m) n e = cc
+str-is (int m) n e = cc
+str-is (str m) n e = let z : n ≡ length m = cc in (m, refl, z)
+str-is (truth m) n e = cc
+str-is (operator m) n e = cc
+str-is (mark m) n e = cc
 
--- the token by its numbers
-module _ {s : Bytes} {t : Placed} {u : Token} (st : TokenStands s t u) where
-  kind-is : kind_of u ≡ t.code.kind
-  kind-is = sym (ap (λ (v : Code). v.kind) st.code)
+name-is : (u : model.Token) (s : Source) (p : Packed) → code_of u ≡ Name s p → (a : attributes.Source) × (m : Bytes) × (u ≡ name a m) × (s ≡ source_for a) × (packed_of m ≡ p)
+name-is (name a m) s p e =
+    let x : s ≡ source_for a = cc in
+    let y : packed_of m ≡ p = cc in
+    (a, m, refl, x, y)
+name-is (int m) s p e = cc
+name-is (str m) s p e = cc
+name-is (truth m) s p e = cc
+name-is (operator m) s p e = cc
+name-is (mark m) s p e = cc
 
-  low-is : t.code.low ≡ low_in u
-  low-is = ap (λ (v : Code). v.low) st.code
+sign-is : (u : model.Token) (k : ℕ) → code_of u ≡ Sign k → (1 ≡ size u) × ((D : Declarations) → (k ∷ [] ≡ encode_token D u) × (false ≡ unknown_name D u))
+sign-is (name a m) k e = cc
+sign-is (int m) k e = cc
+sign-is (str m) k e = cc
+sign-is (truth m) k e = let z : k ≡ kind_of (truth m) = cc in (refl, λ D. (ap (λ (j : ℕ). j ∷ []) z, refl))
+sign-is (operator m) k e = let z : k ≡ kind_of (operator m) = cc in (refl, λ D. (ap (λ (j : ℕ). j ∷ []) z, refl))
+sign-is (mark m) k e = let z : k ≡ kind_of (mark m) = cc in (refl, λ D. (ap (λ (j : ℕ). j ∷ []) z, refl))
 
-not_end : (v : Code) → v ≡ plain_code 0 → (v.kind ≡ 0 → ⊥) → ⊥
-not_end v e f = f (ap (λ (v : Code). v.kind) e)
+-- the token that stands there, by what the code has
+module _ {s : Bytes} {t : Placed} {u : model.Token} (st : TokenStands s t u) where
+  code-is : (c : Token) → t.token ≡ Some c → code_of u ≡ c
+  code-is c e = let f = st.code in let z : Some (code_of u) ≡ Some c = sym f ∙ e in cc
+
+  no-end : {A : Type 0} → t.token ≡ None → A
+  no-end e = let f = st.code in let z : None ≡ Some (code_of u) = sym e ∙ f in cc
+
+not_end : {A : Type 0} {o : Option Token} (c : Token) → o ≡ None → o ≡ Some c → A
+not_end c e f = let z : None ≡ Some c = sym e ∙ f in cc
 
 -- what there is room for
 module _ {s : Bytes} {t : Placed} {at n : ℕ} where
-  pub room-end : Given s t at n → t.code.kind ≡ 0 → at ≤ n
+  pub room-end : Given s t at n → t.token ≡ None → at ≤ n
   room-end (ended e h) k = h
-  room-end (token u st h) k = absurd (omega (arith, kind-range u, kind-is st))
+  room-end (token u st h) k = no-end st k
 
-  pub room-some : Given s t at n → (t.code.kind ≡ 0 → ⊥) → at + 1 ≤ n
-  room-some (ended e h) k = absurd (not_end t.code e k)
-  room-some (token u st h) k = omega (arith, size-some u)
+  pub room-sign : (k : ℕ) → Given s t at n → t.token ≡ Some (Sign k) → at + 1 ≤ n
+  room-sign k (ended e h) f = not_end (Sign k) e f
+  room-sign k (token u st h) f = omega (arith, (sign-is u k (code-is st (Sign k) f)).0)
 
-  pub room_int : Given s t at n → t.code.kind ≡ 1 → at + 5 ≤ n
-  room_int (ended e h) k = absurd (not_end t.code e (λ z. omega arith))
-  room_int (token u st h) k = let (m, e) = int-kind u (kind-is st ∙ k) in omega (arith, ap size e)
+  pub room_int : (k : ℕ) → Given s t at n → t.token ≡ Some (Int k) → at + 5 ≤ n
+  room_int k (ended e h) f = not_end (Int k) e f
+  room_int k (token u st h) f = omega (arith, ap size (int-is u k (code-is st (Int k) f)))
 
-  pub room-name : Given s t at n → t.code.kind ≡ 4 → at + 2 ≤ n
-  room-name (ended e h) k = absurd (not_end t.code e (λ z. omega arith))
-  room-name (token u st h) k = let (a, m, e) = name-kind u (kind-is st ∙ k) in omega (arith, ap size e)
+  pub room-name : (a : Source) (p : Packed) → Given s t at n → t.token ≡ Some (Name a p) → at + 2 ≤ n
+  room-name a p (ended e h) f = not_end (Name a p) e f
+  room-name a p (token u st h) f = let (b, m, e, x, y) = name-is u a p (code-is st (Name a p) f) in omega (arith, ap size e)
 
-  pub room-text : Given s t at n → t.code.kind ≡ 2 → (t.code.low + 1 ≤ t.next) × (t.next ≤ length s) × (at + (t.code.low + 2) ≤ n) × (t.code.low ≤ 255)
-  room-text (ended e h) k = absurd (not_end t.code e (λ z. omega arith))
-  room-text (token u st h) k =
-      let (w, e) = str-kind u (kind-is st ∙ k) in
-      let l : t.code.low ≡ length w = low-is st ∙ ap low_in e in
+  pub room-text : (k : ℕ) → Given s t at n → t.token ≡ Some (Str k) → (k + 1 ≤ t.next) × (t.next ≤ length s) × (at + (k + 2) ≤ n) × (k ≤ 255)
+  room-text k (ended e h) f = not_end (Str k) e f
+  room-text k (token u st h) f =
+      let (w, e, l) = str-is u k (code-is st (Str k) f) in
       let a = (st.text w e).0 in
       let b = st.within in
       let z = text-length w (ap is_token (sym e) ∙ st.well) in
@@ -83,79 +104,67 @@ module _ {s : Bytes} {t : Placed} {at n : ℕ} where
 
 -- what is written
 module _ {s : Bytes} {attributes : List ℕ} {t : Placed} {before : Bytes} {at : ℕ} where
-  pub wrote-end : t.code.kind ≡ 0 → Wrote s attributes t before at before (record { len = at; unknown = false })
-  wrote-end k =
+  pub wrote-end : {r : Encoded} → t.token ≡ None → r.len ≡ at → r.unknown ≡ false → Wrote s attributes t before at before r
+  wrote-end k l e =
       record {
         bytes = [];
-        laid = laid_none before at;
-        end = λ _. (refl, refl);
-        long = λ u st. absurd (omega (arith, kind-range u, kind-is st));
-        token = λ D ord ar u st. absurd (omega (arith, kind-range u, kind-is st));
+        laid = record { is = refl; behind = l ∙ omega arith };
+        end = λ _. (refl, e);
+        long = λ u st. no-end st k;
+        token = λ D ord ar u st. no-end st k;
       }
 
-  pub wrote-int : {after : Bytes} {r : Written} → t.code.kind ≡ 1 → Laid before at (1 ∷ low_bytes 4 t.code.low) after r.len → r.unknown ≡ false
-      → Wrote s attributes t before at after r
-  wrote-int k p e =
-      record {
-        bytes = 1 ∷ low_bytes 4 t.code.low;
-        laid = p;
-        end = λ f. absurd (not_end t.code f (λ z. omega arith));
-        long = λ u st. let (m, f) = int-kind u (kind-is st ∙ k) in sym (ap size f);
-        token = λ D ord ar u st.
-            let (m, f) = int-kind u (kind-is st ∙ k) in (
-              ap (λ (l : ℕ). 1 ∷ low_bytes 4 l) (low-is st ∙ ap low_in f) ∙ sym (ap (encode_token D) f),
-              e ∙ sym (ap (unknown_name D) f),
-            );
-      }
+  module _ {after : Bytes} {r : Encoded} where
+    pub wrote-int : (n : ℕ) → t.token ≡ Some (Int n) → Laid before at (1 ∷ low_bytes 4 n) after r.len → r.unknown ≡ false → Wrote s attributes t before at after r
+    wrote-int n k p e =
+        record {
+          bytes = 1 ∷ low_bytes 4 n;
+          laid = p;
+          end = λ f. not_end (Int n) f k;
+          long = λ u st. sym (ap size (int-is u n (code-is st (Int n) k)));
+          token = λ D ord ar u st. let f = int-is u n (code-is st (Int n) k) in (sym (ap (encode_token D) f), e ∙ sym (ap (unknown_name D) f));
+        }
 
-  pub wrote-text : {after : Bytes} {r : Written} → t.code.kind ≡ 2 → (v : Bytes) → v ≡ take (t.next - 1 - (t.next - 1 - t.code.low)) (drop (t.next - 1 - t.code.low) s)
-      → Laid before at (2 ∷ length v ∷ v) after r.len → r.unknown ≡ false → Wrote s attributes t before at after r
-  wrote-text k v q p e =
-      record {
-        bytes = 2 ∷ length v ∷ v;
-        laid = p;
-        end = λ f. absurd (not_end t.code f (λ z. omega arith));
-        long = λ u st. let (w, f, g) = spelt u st in omega (arith, ap length g, ap size f);
-        token = λ D ord ar u st.
-            let (w, f, g) = spelt u st in
-            (ap (λ (l : Bytes). 2 ∷ length l ∷ l) g ∙ sym (ap (encode_token D) f), e ∙ sym (ap (unknown_name D) f));
-      }
-    where
-      spelt : (u : Token) → TokenStands s t u → (w : Bytes) × (u ≡ str w) × (v ≡ w)
-      spelt u st =
-          let (w, f) = str-kind u (kind-is st ∙ k) in
-          let l : t.code.low ≡ length w = low-is st ∙ ap low_in f in
-          let (a, b) = st.text w f in
-          let z : t.next - 1 - (t.next - 1 - t.code.low) ≡ length w = omega arith in
-          let y : t.next - 1 - t.code.low ≡ t.next - 1 - length w = omega arith in
-          (w, f, q ∙ ap₂ (λ (i j : ℕ). take i (drop j s)) z y ∙ b)
+    pub wrote-text : (n : ℕ) → t.token ≡ Some (Str n) → (v : Bytes) → v ≡ take (t.next - 1 - (t.next - 1 - n)) (drop (t.next - 1 - n) s)
+        → Laid before at (2 ∷ length v ∷ v) after r.len → r.unknown ≡ false → Wrote s attributes t before at after r
+    wrote-text n k v q p e =
+        record {
+          bytes = 2 ∷ length v ∷ v;
+          laid = p;
+          end = λ f. not_end (Str n) f k;
+          long = λ u st. let (w, f, g) = spelt u st in omega (arith, ap length g, ap size f);
+          token = λ D ord ar u st.
+              let (w, f, g) = spelt u st in
+              (ap (λ (l : Bytes). 2 ∷ length l ∷ l) g ∙ sym (ap (encode_token D) f), e ∙ sym (ap (unknown_name D) f));
+        }
+      where
+        spelt : (u : model.Token) → TokenStands s t u → (w : Bytes) × (u ≡ str w) × (v ≡ w)
+        spelt u st =
+            let (w, f, l) = str-is u n (code-is st (Str n) k) in
+            let (a, b) = st.text w f in
+            let z : t.next - 1 - (t.next - 1 - n) ≡ length w = omega arith in
+            let y : t.next - 1 - n ≡ t.next - 1 - length w = omega arith in
+            (w, f, q ∙ ap₂ (λ (i j : ℕ). take i (drop j s)) z y ∙ b)
 
-  pub wrote-name : {after : Bytes} {r : Written} → t.code.kind ≡ 4 → NamePut attributes t.code before at after r → Wrote s attributes t before at after r
-  wrote-name k p =
-      record {
-        bytes = 4 ∷ p.byte ∷ [];
-        laid = p.laid;
-        end = λ f. absurd (not_end t.code f (λ z. omega arith));
-        long = λ u st. let (a, m, f) = name-kind u (kind-is st ∙ k) in sym (ap size f);
-        token = λ D ord ar u st.
-            let (a, m, f) = name-kind u (kind-is st ∙ k) in
-            let h = low-is st ∙ ap low_in f in
-            let i = ap (λ (v : Code). v.high) st.code ∙ ap high_in f in
-            let packs : packed_of m ≡ record { low = t.code.low; high = t.code.high } = sym (λ j. record { low = h j; high = i j }) in
-            let (x, y) = p.number D ord ar a m (ap is_token (sym f) ∙ st.well) (ap (λ (v : Code). v.source) st.code ∙ ap source_in f) packs in
-            (ap (λ (b : ℕ). 4 ∷ b ∷ []) x ∙ sym (ap (encode_token D) f), y ∙ sym (ap (unknown_name D) f));
-      }
+    pub wrote-name : (a : Source) (m : Packed) → t.token ≡ Some (Name a m) → NamePut attributes a m before at after r → Wrote s attributes t before at after r
+    wrote-name a m k p =
+        record {
+          bytes = 4 ∷ p.byte ∷ [];
+          laid = p.laid;
+          end = λ f. not_end (Name a m) f k;
+          long = λ u st. let (b, w, f, x, y) = name-is u a m (code-is st (Name a m) k) in sym (ap size f);
+          token = λ D ord ar u st.
+              let (b, w, f, x, y) = name-is u a m (code-is st (Name a m) k) in
+              let (g, h) = p.number D ord ar b w (ap is_token (sym f) ∙ st.well) x y in
+              (ap (λ (c : ℕ). 4 ∷ c ∷ []) g ∙ sym (ap (encode_token D) f), h ∙ sym (ap (unknown_name D) f));
+        }
 
-  pub wrote-kind : {after : Bytes} {r : Written} → (t.code.kind ≡ 0 → ⊥) → (t.code.kind ≡ 1 → ⊥) → (t.code.kind ≡ 2 → ⊥) → (t.code.kind ≡ 4 → ⊥)
-      → Laid before at (t.code.kind ∷ []) after r.len → r.unknown ≡ false → Wrote s attributes t before at after r
-  wrote-kind a b c d p e =
-      record {
-        bytes = t.code.kind ∷ [];
-        laid = p;
-        end = λ f. absurd (not_end t.code f a);
-        long = λ u st. let k = kind-is st in (fixed-code u (λ z. b (sym k ∙ z)) (λ z. c (sym k ∙ z)) (λ z. d (sym k ∙ z))).0;
-        token = λ D ord ar u st.
-            let k = kind-is st in
-            let (x, y) = (fixed-code u (λ z. b (sym k ∙ z)) (λ z. c (sym k ∙ z)) (λ z. d (sym k ∙ z))).1 D in
-            (ap (λ (j : ℕ). j ∷ []) (sym k) ∙ x, e ∙ y);
-      }
+    pub wrote-sign : (n : ℕ) → t.token ≡ Some (Sign n) → Laid before at (n ∷ []) after r.len → r.unknown ≡ false → Wrote s attributes t before at after r
+    wrote-sign n k p e =
+        record {
+          bytes = n ∷ [];
+          laid = p;
+          end = λ f. not_end (Sign n) f k;
+          long = λ u st. (sign-is u n (code-is st (Sign n) k)).0;
+          token = λ D ord ar u st. let (x, y) = (sign-is u n (code-is st (Sign n) k)).1 D in (x, e ∙ y);
+        }

@@ -1,5 +1,5 @@
 -- Rule code: the tokens of a policy as bytes, each its kind and what it carries, and a byte that ends them.
-use Rattle.std.specs.Prelude.{ℕ, zero, suc, ◌+◌, ◌*◌, ◌/◌, ◌%◌, ◌≤◌, ◌≡◌, List, [], ◌∷◌, ◌++◌, length, drop}
+use Rattle.std.specs.Prelude.{ℕ, zero, suc, ◌+◌, ◌*◌, ◌/◌, ◌%◌, ◌≤◌, ◌≡◌, Result, Ok, Err, is_err, IfOk, List, [], ◌∷◌, ◌++◌, length, drop}
 use Rattle.std.proofs.Math.Option.{some}
 use Rattle.model.specs.Notation.{is_none, any_of, each}
 use Rattle.model.specs.Bytes.{Bytes}
@@ -10,6 +10,7 @@ use Rattle.codes.specs.Codes.{end_code, kind_of}
 use Rattle.model.specs.Standing.{WellDeclared}
 use Rattle.rows.specs.Rows.{AttributeRows, number_or}
 use Rattle.tokens.specs.declared.Encoded.{Encoded}
+use Rattle.tokens.specs.declared.BadToken.{BadToken}
 
 -- the number of no attribute
 abbrev pub unknown_number : ℕ
@@ -55,10 +56,16 @@ pub record CodeOf (D : Declarations) (ts : List Token) (before after : Bytes) (r
   pub len : r.len ≡ length (rule_code D ts)
   pub unknown : r.unknown ≡ any_of (unknown_name D) ts
 
+-- how far the code reaches that was written
+abbrev pub code_length : Result Encoded BadToken → ℕ
+code_length (Ok r) = r.len
+code_length (Err r) = r.len
+
 -- r is what is found in the policy s; where it has tokens, their code is written, whatever declarations the rows are those of
-pub record Encodes (s : Bytes) (attributes : List ℕ) (before after : Bytes) (r : Encoded) : Type 0 where
-  pub bad : r.bad ≡ is_none (tokens_of s)
-  pub within : r.len ≤ 3 * length s + 3
+pub record Encodes (s : Bytes) (attributes : List ℕ) (before after : Bytes) (r : Result Encoded BadToken) : Type 0 where
+  pub bad : is_err r ≡ is_none (tokens_of s)
+  pub within : code_length r ≤ 3 * length s + 3
   pub long : length after ≡ length before
-  pub behind : drop r.len after ≡ drop r.len before
-  pub tokens : (D : Declarations) → WellDeclared D → AttributeRows attributes D → (ts : List Token) → tokens_of s ≡ some ts → CodeOf D ts before after r
+  pub behind : drop (code_length r) after ≡ drop (code_length r) before
+  pub tokens : (D : Declarations) → WellDeclared D → AttributeRows attributes D → (ts : List Token) → tokens_of s ≡ some ts
+      → IfOk r (λ e. CodeOf D ts before after e)

@@ -1,61 +1,42 @@
 -- The token at a place of a policy.
-use Rattle.std.specs.Prelude.{ℕ, zero, suc, ◌-◌, Bool, true, false, [], ◌∷◌, length, drop}
-use Rattle.std.proofs.Math.Option.{Option, none, some}
+use Rattle.std.specs.Prelude.{ℕ, suc, ◌-◌, Bool, true, false, Option, Some, None, [], ◌∷◌, length, drop}
+use Rattle.std.proofs.Math.Option.{none, some}
 use Rattle.model.specs.Notation.{◌>>=◌}
-use Rattle.model.specs.Bytes.{Bytes, is_byte, one_of}
-use Rattle.model.specs.Tokens.{Token, name, int, str, truth, operator, mark, Read, word_byte, run, read_word, read_token, capitals, spelling}
-use Rattle.codes.specs.Codes.{coded, end_code, bad_code, kind_of, source_code}
+use Rattle.model.specs.Bytes.{Bytes, is_byte}
+use Rattle.model.specs.Tokens as model
+use Rattle.model.specs.Tokens.{name, int, str, truth, operator, mark, Read, run, read_word, read_token}
+use Rattle.codes.specs.Codes.{kind_of}
+use Rattle.codes.specs.Enums.{source_for}
 use Rattle.text.specs.Packing.{packed_of}
-use Rattle.tokens.specs.declared.Code.{Code}
-use Rattle.tokens.specs.declared.Token.{Token as Placed}
+use Rattle.tokens.specs.declared.Token.{Token}
+use Rattle.tokens.specs.declared.Token.TheVariants.{Name, Int, Str, Sign}
+use Rattle.tokens.specs.declared.Placed.{Placed}
 
--- a token's numbers: its kind, the source and the packed bytes of a name, the value of an int, the length of a str
-abbrev pub code_with : ℕ → ℕ → ℕ → ℕ → Code
-code_with kind source low high = record { kind = kind; source = source; low = low; high = high }
+-- a token as the code has it: the source and the packed bytes of a name, the value of an int, the length of a str, the kind of any other
+abbrev pub code_of : model.Token → Token
+code_of (name s n) = Name (source_for s) (packed_of n)
+code_of (int n) = Int n
+code_of (str s) = Str (length s)
+code_of (truth t) = Sign (kind_of (truth t))
+code_of (operator o) = Sign (kind_of (operator o))
+code_of (mark m) = Sign (kind_of (mark m))
 
-abbrev pub plain_code : ℕ → Code
-plain_code kind = code_with kind 0 0 0
+-- a token or none, and the place behind it
+abbrev pub placed : Option Token → ℕ → Placed
+placed t next = record { token = t; next = next }
 
-abbrev pub source_in : Token → ℕ
-source_in (name s n) = source_code s
-source_in (int n) = 0
-source_in (str s) = 0
-source_in (truth t) = 0
-source_in (operator o) = 0
-source_in (mark m) = 0
+-- the end of n bytes
+abbrev pub end_at : ℕ → Option Placed
+end_at n = Some (placed None n)
 
-abbrev pub low_in : Token → ℕ
-low_in (name s n) = (packed_of n).low
-low_in (int n) = n
-low_in (str s) = length s
-low_in (truth t) = 0
-low_in (operator o) = 0
-low_in (mark m) = 0
+-- a token that its kind tells
+abbrev pub sign_at : ℕ → ℕ → Option Placed
+sign_at kind next = Some (placed (Some (Sign kind)) next)
 
-abbrev pub high_in : Token → ℕ
-high_in (name s n) = (packed_of n).high
-high_in (int n) = 0
-high_in (str s) = 0
-high_in (truth t) = 0
-high_in (operator o) = 0
-high_in (mark m) = 0
-
-abbrev pub code_of : Token → Code
-code_of t = code_with (kind_of t) (source_in t) (low_in t) (high_in t)
-
--- a token that was read
-abbrev pub coded_token : Option Token → Code
-coded_token none = plain_code bad_code
-coded_token (some t) = code_of t
-
--- a token's numbers, and the place behind it
-abbrev pub placed : Code → ℕ → Placed
-placed c next = record { code = c; next = next }
-
--- what is read in the last bytes of n; the end where it is no token
-abbrev pub coded_read : ℕ → Read → Placed
-coded_read n none = placed (plain_code bad_code) n
-coded_read n (some r) = placed (code_of r.0) (n - length r.1)
+-- what is read in the last bytes of n
+abbrev pub coded_read : ℕ → Read → Option Placed
+coded_read n none = None
+coded_read n (some r) = Some (placed (Some (code_of r.0)) (n - length r.1))
 
 -- without the spaces at the front
 abbrev pub unspaced : Bytes → Bytes
@@ -63,27 +44,19 @@ unspaced [] = []
 unspaced (x ∷ xs) = elim (is_byte " " x) [ true ↦ unspaced xs | false ↦ x ∷ xs ]
 
 -- the token at the front of the last bytes of n
-unfoldable pub token_in : ℕ → Bytes → Placed
-token_in n [] = placed (plain_code end_code) n
+unfoldable pub token_in : ℕ → Bytes → Option Placed
+token_in n [] = end_at n
 token_in n (x ∷ xs) = coded_read n (read_token (x ∷ xs))
 
 -- the token from a place on; places past the end are the end
-unfoldable pub token_at : Bytes → ℕ → Placed
+unfoldable pub token_at : Bytes → ℕ → Option Placed
 token_at s at = token_in (length s) (unspaced (drop at s))
 
--- runs of bytes: of class 0 spaces, of any other class the bytes of words; how many stand at the front
-abbrev pub in_run : ℕ → ℕ → Bool
-in_run zero b = is_byte " " b
-in_run (suc k) b = word_byte b
-
+-- how many bytes at the front pass
 abbrev pub lead : (ℕ → Bool) → Bytes → ℕ
 lead p [] = 0
 lead p (x ∷ xs) = elim (p x) [ true ↦ suc (lead p xs) | false ↦ 0 ]
 
--- a word in capitals
-unfoldable pub capital_kind : Bytes → ℕ
-capital_kind w = coded kind_of (one_of spelling capitals w)
-
 -- the word at the front of the last bytes of n
-unfoldable pub word_token : ℕ → Bytes → Placed
+unfoldable pub word_token : ℕ → Bytes → Option Placed
 word_token n s = coded_read n (read_word (run s).0 >>= λ t. some (t, (run s).1))

@@ -7,7 +7,7 @@ ghost use Rattle.std.specs.Prelude.{◌≡◌};
 ghost use Rattle.model.specs.Truth.{truth, NOT, ◌AND◌, ◌OR◌};
 ghost use Rattle.truth.specs.Truths.{truth_of};
 
-#[derive(Clone, Copy)]
+#[derive(Clone, Copy, PartialEq, Eq)]
 pub enum Truth {
     False,
     Undef,

@@ -9,7 +9,7 @@ ghost use Rattle.truth.specs.Verdicts.{verdict, verdict_of, both, either, signed
 use crate::Truth;
 
 // A value, and whether it is UNDEF for lack of values.
-#[derive(Clone, Copy)]
+#[derive(Clone, Copy, PartialEq, Eq)]
 pub struct Verdict {
     pub value: Truth,
     pub absent: bool,
@@ -28,11 +28,7 @@ pub fn plain(value: Truth) -> Verdict
 pub fn is_undef(value: Truth) -> bool
     ensures { result ≡ is_undef (truth_of value) }
 {
-    match value {
-        Truth::False => false,
-        Truth::Undef => true,
-        Truth::True => false,
-    }
+    value == Truth::Undef
 }
 
 // "An UNDEF built by AND, OR or NOT is absent if one of its UNDEF operands is": a and b say it of the operands. Nothing is asked where the value is no
@@ -40,21 +36,13 @@ pub fn is_undef(value: Truth) -> bool
 fn built(value: Truth, a: bool, b: bool) -> bool
     ensures { result ≡ built (truth_of value) a b }
 {
-    if !is_undef(value) {
-        return false;
-    }
-    if a {
-        return true;
-    }
-    b
+    is_undef(value) && (a || b)
 }
 
 pub fn and(v: Verdict, w: Verdict) -> Verdict
     ensures { verdict_of result ≡ both (verdict_of v) (verdict_of w) }
 {
-    let left = v.value;
-    let right = w.value;
-    let value = crate::and(left, right);
+    let value = crate::and(v.value, w.value);
     Verdict {
         value,
         absent: built(value, v.absent, w.absent),
@@ -64,9 +52,7 @@ pub fn and(v: Verdict, w: Verdict) -> Verdict
 pub fn or(v: Verdict, w: Verdict) -> Verdict
     ensures { verdict_of result ≡ either (verdict_of v) (verdict_of w) }
 {
-    let left = v.value;
-    let right = w.value;
-    let value = crate::or(left, right);
+    let value = crate::or(v.value, w.value);
     Verdict {
         value,
         absent: built(value, v.absent, w.absent),
@@ -80,27 +66,16 @@ pub fn signed(negated: bool, v: Verdict) -> Verdict
     if !negated {
         return v;
     }
-    let value = v.value;
     Verdict {
-        value: crate::not(value),
-        absent: v.absent,
+        value: crate::not(v.value),
+        ..v
     }
 }
 
 pub fn flag_number(flag: bool) -> u64
     ensures { (result ≡ flag_number flag) × (result ≤ 1) }
 {
-    if flag { 1 } else { 0 }
-}
-
-fn truth_number(t: Truth) -> u64
-    ensures { (result ≡ truth_number (truth_of t)) × (result ≤ 2) }
-{
-    match t {
-        Truth::False => 0,
-        Truth::Undef => 1,
-        Truth::True => 2,
-    }
+    u64::from(flag)
 }
 
 fn truth_of(n: u64) -> Truth
@@ -117,8 +92,7 @@ fn truth_of(n: u64) -> Truth
 pub fn number_of(v: Verdict) -> u64
     ensures { (result ≡ verdict_number (verdict_of v)) × (result ≤ 7) }
 {
-    let value = v.value;
-    truth_number(value) + 4 * flag_number(v.absent)
+    v.value as u64 + 4 * u64::from(v.absent)
 }
 
 pub fn of_number(n: u64) -> Verdict

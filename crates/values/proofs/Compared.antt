@@ -1,7 +1,6 @@
 -- A comparison of values is the one of the atoms that they stand for. Assumes nothing.
 use Prim.Native.Nat.{ℕ, ◌≤◌, ◌<◌}
 use mathlib.Core.Path.{◌≡◌, refl, sym, ap, ap₂, subst, ◌∙◌}
-use mathlib.Core.Logic.{◌⊎◌, inl, inr}
 use mathlib.Core.Bool.{Bool, true, false, not, ◌&&◌, and-false, beq}
 use mathlib.Core.List.Memᴰ.{head as here}
 use mathlib.Core.List.{List, [], ◌∷◌}
@@ -9,6 +8,7 @@ use native.Mathlib.Omega.{arith}
 use native.Mathlib.Decide.{dec_lt}
 use lib.Dec.{eqb, leb, ltb}
 use borrow.Author.Tests.{eq-eqb, ne_eqb, eqb-true, eqb-false}
+use Rattle.std.specs.Prelude.{Option, Some, None}
 use Rattle.model.specs.Notation.{if◌then◌otherwise◌, any_of, map, is_empty}
 use Rattle.model.specs.Attributes.{same_type}
 use Rattle.model.specs.Atoms.{Atom, int, str, bool, type_of, is_atom}
@@ -19,7 +19,6 @@ use Rattle.model.specs.Comparison.{ordered, order, compare_like, compare_sets, l
 use Rattle.model.proofs.Lists.{all_in}
 use Rattle.codes.specs.Codes.{type_code, operator_code}
 use Rattle.codes.proofs.Codes.{operator-injective}
-use Rattle.codes.proofs.TokenKinds.{operator-range}
 use Rattle.truth.specs.declared.Truth.{Truth}
 use Rattle.truth.specs.declared.Truth.TheVariants.{Undef}
 use Rattle.truth.specs.Truths.{truth_of}
@@ -27,7 +26,7 @@ use Rattle.text.specs.declared.Words.{Words}
 use Rattle.text.specs.Values.{words, same_words, atom_words}
 use Rattle.values.specs.declared.Operand.{Operand}
 use Rattle.values.specs.Operands.{Lent, operand_values, Stands}
-use Rattle.values.specs.Compared.{greatest_of, least_of, least_below_greatest, or_next, sought_from, among_of, asked, found_of, of_present, order_of, below_of, Compared, Lone}
+use Rattle.values.specs.Compared.{extreme_from, worst, extreme_of, greatest_of, least_of, least_below_greatest, or_next, sought_from, among_of, asked, found_of, of_present, order_of, below_of, Compared, Lone}
 use Rattle.values.proofs.Orders.{below-so, not-above-so}
 use Rattle.values.proofs.ComparedAtoms.{among_values, some_found, int_small, Typed, among-atoms, common-turned, common-atoms, subset-atoms, before-atoms, after-atoms}
 
@@ -87,22 +86,28 @@ not-inside l r t = go (not (is_empty l) && not (is_empty r))
     go true = refl
     go false = refl
 
--- by what was found out of each side
-module _ (l r : List Words) (t : model.Truth) (a : Bool) (ea : a ≡ not (is_empty l)) where
-  pub without-left : a ≡ false → model.UNDEF ≡ of_present l r t
-  unfolding of_present
-  without-left fa = sym (ap (λ (x : Bool). if (x && not (is_empty r)) then t otherwise model.UNDEF) (sym ea ∙ fa))
+-- by the greatest or the least of each side
+module _ (greatest : Bool) where
+  pub without-left : (l r : List Words) (t : model.Truth) → ◌≡◌ {A = Option ℕ} None (extreme_of greatest l) → model.UNDEF ≡ of_present l r t
+  unfolding extreme_of
+  without-left [] r t e = sym (absent-left r t)
+  without-left (w ∷ l) r t e = cc
 
-  module _ (ta : a ≡ true) (b : Bool) (eb : b ≡ not (is_empty r)) where
-    tested-both : of_present l r t ≡ (if b then t otherwise model.UNDEF)
-    unfolding of_present
-    tested-both = ap₂ (λ (x y : Bool). if (x && y) then t otherwise model.UNDEF) (sym ea ∙ ta) (sym eb)
+  pub without-right : (l r : List Words) (t : model.Truth) → ◌≡◌ {A = Option ℕ} None (extreme_of greatest r) → model.UNDEF ≡ of_present l r t
+  unfolding extreme_of
+  without-right l [] t e = sym (absent-right l t)
+  without-right l (w ∷ r) t e = cc
 
-    pub without-right : b ≡ false → model.UNDEF ≡ of_present l r t
-    without-right fb = sym (tested-both ∙ ap (λ (x : Bool). if x then t otherwise model.UNDEF) fb)
+  pub extreme-is : (l : List Words) (a : ℕ) → ◌≡◌ {A = Option ℕ} (Some a) (extreme_of greatest l) → a ≡ extreme_from greatest (worst greatest) l
+  unfolding extreme_of
+  extreme-is [] a e = cc
+  extreme-is (w ∷ l) a e = cc
 
-    pub with-both : b ≡ true → t ≡ of_present l r t
-    with-both tb = sym (tested-both ∙ ap (λ (x : Bool). if x then t otherwise model.UNDEF) tb)
+pub with-both : (l r : List Words) (t : model.Truth) (a b : ℕ) → ◌≡◌ {A = Option ℕ} (Some a) (extreme_of false l) → ◌≡◌ {A = Option ℕ} (Some b) (extreme_of true r) → t ≡ of_present l r t
+unfolding extreme_of
+with-both [] r t a b e f = cc
+with-both (w ∷ l) [] t a b e f = cc
+with-both (w ∷ l) (v ∷ r) t a b e f = sym (both-there w l v r t)
 
 -- the ways through the tests before it
 module _ (o : Operator) (k k' : ℕ) (l r : List Words) where
@@ -281,13 +286,6 @@ module _ (L : Lent) (n : ℕ) (left right : Operand) where
             ∙ compare-atoms o left.ty right.ty l m (stands-typed L left s) (stands-typed L right t);
         by-none = λ g. refl;
       }
-
-  pub by-nothing : (n < 16) ⊎ (23 < n) → Compared L n left right Undef
-  by-nothing h = record { by-operator = λ o l m d s t. outside o d h; by-none = λ g. refl }
-    where
-      outside : {t : model.Truth} (o : Operator) → n ≡ operator_code o → (n < 16) ⊎ (23 < n) → model.UNDEF ≡ t
-      outside o d (inl a) = let (low, high) = operator-range o in absurd (omega arith)
-      outside o d (inr b) = let (low, high) = operator-range o in absurd (omega arith)
 
   module _ (same : left.ty ≡ right.ty) (r : Truth) where
     -- by what the operator says of present values

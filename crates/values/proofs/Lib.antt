@@ -1,6 +1,6 @@
 pub mod Chosen
-pub mod AttributeValues
 pub mod Constants
+pub mod AttributeValues
 pub mod ValueWalks
 pub mod AttributeOperands
 pub mod Orders

@@ -26,8 +26,8 @@ use Rattle.text.specs.Packing.{three_words}
 use Rattle.text.specs.Values.{words, atom_words}
 use Rattle.text.proofs.Packing.{text-length}
 use Rattle.tokens.specs.RuleCode.{low_bytes, encode_token}
-use Rattle.values.specs.declared.Found.{Found}
-use Rattle.values.specs.Operands.{Lent, Stands, operand, values_from, first_of, found, nothing, constant_at, constants_from}
+use Rattle.std.specs.Prelude.{None}
+use Rattle.values.specs.Operands.{Lent, Stands, operand, values_from, first_of, found, constant_at, constants_from}
 use Rattle.values.proofs.Constants.{int-short, int-whole, str-short, str-whole, as_int, as-str, constants-find}
 
 -- four bytes of an int
@@ -66,7 +66,7 @@ module _ (D : Declarations) (ty : ℕ) (code : Bytes) (end : ℕ) (within : end 
       let past : i + 2 + byte_at code (i + 1) ≤ end = omega arith in
       let next : i + 2 + byte_at code (i + 1) + 1 ≡ i + suc (suc (length s)) + 1 = omega arith in
       sym (as-str ty code end i t)
-      ∙ sym (str-whole code end i (three_words (take (i + 2 + byte_at code (i + 1) - (i + 2)) (drop (i + 2) code))) within l fits past refl)
+      ∙ sym (str-whole code end i (byte_at code (i + 1)) refl (three_words (take (i + 2 + byte_at code (i + 1) - (i + 2)) (drop (i + 2) code))) within l fits past refl)
       ∙ ap₂ found (ap three_words text ∙ ap atom_words q) next
   one (Token.name s n) a e k w i tail d h = none-is-some e
   one (Token.truth t) a e k w i tail d h = none-is-some e
@@ -77,8 +77,8 @@ module _ (D : Declarations) (ty : ℕ) (code : Bytes) (end : ℕ) (within : end 
   pub none-behind : (i : ℕ) → end < i → constants_from ty code end i ≡ []
   none-behind i h = go (ℕ_discrete ty 2)
     where
-      no_more : constant_at ty code end i ≡ nothing → constants_from ty code end i ≡ []
-      no_more e = (constants-find ty code end i (constant_at ty code end i) refl).none (ap (λ (r : Found). r.here) e)
+      no_more : constant_at ty code end i ≡ None → constants_from ty code end i ≡ []
+      no_more e = (constants-find ty code end i None (sym e)).so
 
       go : Dec (ty ≡ 2) → constants_from ty code end i ≡ []
       go (yes e) = no_more (sym (as-str ty code end i e) ∙ sym (str-short code end i within (omega arith)))
@@ -89,7 +89,7 @@ module _ (D : Declarations) (ty : ℕ) (code : Bytes) (end : ℕ) (within : end 
       → drop i code ≡ encode_token D t ++ tail → i + length (encode_token D t) ≤ end
       → constants_from ty code end i ≡ atom_words a ∷ constants_from ty code end (i + length (encode_token D t) + 1)
   step t a e k w i tail d h =
-      (constants-find ty code end i (found (atom_words a) (i + length (encode_token D t) + 1)) (sym (one t a e k w i tail d h))).more refl
+      (constants-find ty code end i (found (atom_words a) (i + length (encode_token D t) + 1)) (sym (one t a e k w i tail d h))).so
 
   -- constants parted by commas
   items : {ts : List Token} {l : List Atom} → Items ts l → all_of (λ a. eqb (type_code (type_of a)) ty) l ≡ true → all_of is_atom l ≡ true → (i : ℕ) (rest : Bytes)

@@ -1,14 +1,14 @@
 -- What operands stand for. Assumes nothing.
 use Prim.Native.Nat.{ℕ, ◌<◌}
 use native.Mathlib.Omega.{arith}
-use mathlib.Core.Path.{◌≡◌, refl, sym, ap, ◌∙◌}
-use mathlib.Core.Bool.{Bool, false}
+use mathlib.Core.Path.{◌≡◌, refl, ap, ◌∙◌}
+use mathlib.Core.Bool.{Bool}
 use mathlib.Core.List.{[]}
 use borrow.Author.Tests.{lt-ltb}
 use Rattle.model.specs.Notation.{if◌then◌otherwise◌}
 use Rattle.bits.specs.Bits.{holds}
-use Rattle.values.specs.declared.Found.{Found}
-use Rattle.values.specs.Operands.{Lent, chosen, pair_words, words_from, entries_from, constant_at, values_from, first_of, operand_values, Stands, operand, no_values}
+use Rattle.std.specs.Prelude.{None}
+use Rattle.values.specs.Operands.{Lent, chosen, pair_words, words_from, entries_from, values_from, first_of, operand_values, Stands, operand, no_values}
 use Rattle.values.proofs.Constants.{int-short, as_int, constants-find}
 
 -- the values of an attribute's words, and of its entries
@@ -25,6 +25,4 @@ module _ (L : Lent) (ty k : ℕ) where
 pub none-stand : (L : Lent) → Stands L no_values []
 unfolding values_from first_of
 none-stand L =
-    let e : (constant_at 0 L.code 0 0).here ≡ false =
-    ap (λ (r : Found). r.here) (sym (int-short L.code 0 0 (omega arith) (omega arith) ∙ as_int 0 L.code 0 0 (λ z. omega arith))) in
-    record { coded = (constants-find 0 L.code 0 0 (constant_at 0 L.code 0 0) refl).none e; typed = refl; written = refl }
+    record { coded = (constants-find 0 L.code 0 0 None (int-short L.code 0 0 (omega arith) (omega arith) ∙ as_int 0 L.code 0 0 (λ z. omega arith))).so; typed = refl; written = refl }

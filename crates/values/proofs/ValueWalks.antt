@@ -1,91 +1,109 @@
 -- Walks from one value to the next. Assumes nothing.
-use Prim.Native.Nat.{ℕ, ◌<◌}
-use native.Mathlib.Omega.{arith}
+use Prim.Native.Nat.{ℕ}
 use mathlib.Core.Path.{◌≡◌, refl, sym, ap, ◌∙◌}
-use mathlib.Core.Bool.{Bool, true, false, not, ◌||◌, or-true, or-false, true≢false}
-use mathlib.Core.List.{List}
-use lib.ListN.{length}
-use Rattle.model.specs.Notation.{is_empty}
+use mathlib.Core.Bool.{Bool, true, false, not, true≢false}
+use denote.Enum.Bare.{sameb}
+use Rattle.truth.specs.contracts.Truth.{the_type}
+use Rattle.truth.specs.declared.Truth.{Truth}
+use Rattle.truth.specs.declared.Truth.TheVariants.{False, Undef, True}
+use Rattle.truth.specs.Truths.{truth_of}
+use mathlib.Core.List.{List, [], ◌∷◌}
+use Rattle.std.specs.Prelude.{Option, Some, None}
+use Rattle.std.specs.Option.{unwrap_or}
 use Rattle.model.specs.Truth as model
 use Rattle.model.specs.Truth.{truth}
+use Rattle.codes.specs.Enums.{number_or}
 use Rattle.text.specs.declared.Words.{Words}
 use Rattle.text.specs.Values.{same_words}
-use Rattle.values.specs.declared.Found.{Found}
-use Rattle.values.specs.Operands.{Finds}
-use Rattle.values.specs.Compared.{further, extreme_from, worst, Extreme, or_next, is_false, at_end, sought_from, among_of, asked, found_of}
-
--- fewer values are left
-pub fewer : {from : ℕ → List Words} {i : ℕ} {r : Found} → Finds from i r → r.here ≡ true → length (from r.next) < length (from i)
-fewer finds t = omega (arith, ap length (finds.more t))
+use Rattle.values.specs.Compared.{further, extreme_from, worst, extreme_of, or_next, at_end, sought_from, among_of, asked, found_of}
 
 -- ---- a search
 
--- the search among the values from position i on, with a value before them or not, comes to `said`
-pub record Seeking (from : ℕ → List Words) (answer : Words → model.Truth) (said : model.Truth) (some : Bool) (i : ℕ) : Type 0 where
-  pub comes-to : sought_from answer some (from i) ≡ said
+-- the search among the values that are left, with a value before them or not, comes to `said`
+pub record Seeking (answer : Words → model.Truth) (said : model.Truth) (some : Bool) (left : List Words) : Type 0 where
+  pub comes-to : sought_from answer some left ≡ said
 
-module _ {from : ℕ → List Words} {i : ℕ} {r : Found} (finds : Finds from i r) {answer : Words → model.Truth} {said : model.Truth} {some : Bool} (so_far : Seeking from answer said some i) where
+module _ {answer : Words → model.Truth} {said : model.Truth} {some : Bool} {left : List Words} (so_far : Seeking answer said some left) where
   -- no value is left
-  pub seeking-end : r.here ≡ false → {t : model.Truth} → t ≡ at_end some → t ≡ said
+  pub seeking-end : left ≡ [] → {t : model.Truth} → t ≡ at_end some → t ≡ said
   unfolding sought_from
-  seeking-end h e = e ∙ sym (ap (sought_from answer some) (finds.none h)) ∙ so_far.comes-to
+  seeking-end h e = e ∙ sym (ap (sought_from answer some) h) ∙ so_far.comes-to
 
   -- a value, and the answer for it
-  module _ (h : r.here ≡ true) {t : model.Truth} (e : t ≡ answer r.words) where
+  module _ {next : List Words} {w : Words} (h : left ≡ w ∷ next) {t : model.Truth} (e : t ≡ answer w) where
     abbrev rest : model.Truth
-    rest = sought_from answer true (from r.next)
+    rest = sought_from answer true next
 
     seeking-more : or_next t rest ≡ said
     unfolding sought_from
-    seeking-more = ap (λ (u : model.Truth). or_next u rest) e ∙ sym (ap (sought_from answer some) (finds.more h)) ∙ so_far.comes-to
+    seeking-more = ap (λ (u : model.Truth). or_next u rest) e ∙ sym (ap (sought_from answer some) h) ∙ so_far.comes-to
 
-    pub seeking-met : is_false t ≡ false → t ≡ said
+    pub seeking-met : (t ≡ model.FALSE → ⊥) → t ≡ said
     seeking-met f = sym (go t f) ∙ seeking-more
       where
-        go : (u : model.Truth) → is_false u ≡ false → or_next u rest ≡ u
-        go model.FALSE f = absurd (true≢false f)
+        go : (u : model.Truth) → (u ≡ model.FALSE → ⊥) → or_next u rest ≡ u
+        go model.FALSE f = absurd (f refl)
         go model.UNDEF f = refl
         go model.TRUE f = refl
 
-    pub seeking-on : is_false t ≡ true → Seeking from answer said true r.next
-    seeking-on f = record { comes-to = sym (go t f) ∙ seeking-more }
-      where
-        go : (u : model.Truth) → is_false u ≡ true → or_next u rest ≡ rest
-        go model.FALSE f = refl
-        go model.UNDEF f = absurd (true≢false (sym f))
-        go model.TRUE f = absurd (true≢false (sym f))
+    pub seeking-on : t ≡ model.FALSE → Seeking answer said true next
+    seeking-on f = record { comes-to = ap (λ (u : model.Truth). or_next u rest) (sym f) ∙ seeking-more }
+
+-- whether an answer is FALSE, as the code asks it
+pub not_false : (t : Truth) → not (sameb the_type t False) ≡ true → truth_of t ≡ model.FALSE → ⊥
+not_false False e z = true≢false (sym e)
+not_false Undef e z = cc
+not_false True e z = cc
+
+pub was_false : (t : Truth) → not (sameb the_type t False) ≡ false → truth_of t ≡ model.FALSE
+was_false False e = refl
+was_false Undef e = absurd (true≢false e)
+was_false True e = absurd (true≢false e)
 
 -- a search for a value
-abbrev pub Searching : (ℕ → List Words) → Words → ℕ → Bool → ℕ → Type 0
-Searching from wanted start some i = Seeking from (λ v. truth (same_words wanted v)) (among_of (from start) wanted) some i
+abbrev pub Searching : Words → List Words → Bool → List Words → Type 0
+Searching wanted all some left = Seeking (λ v. truth (same_words wanted v)) (among_of all wanted) some left
 
--- a search for a left value that is among others, or with `wanted` false, for one that is not
-abbrev pub Finding : (ℕ → List Words) → Bool → List Words → ℕ → Bool → ℕ → Type 0
-Finding from wanted right start some i = Seeking from (λ w. asked wanted (among_of right w)) (found_of wanted (from start) right) some i
+-- a search for a value that is among others, or with `wanted` false, for one that is not
+abbrev pub Finding : Bool → List Words → List Words → Bool → List Words → Type 0
+Finding wanted others all some left = Seeking (λ w. asked wanted (among_of others w)) (found_of wanted all others) some left
 
 -- ---- a walk to the greatest or the least
 
--- what was seen before position i, and the values from there on, give what all from `start` on give
-pub record Nearing (from : ℕ → List Words) (greatest : Bool) (start : ℕ) (some : Bool) (best i : ℕ) : Type 0 where
-  pub there : (some || not (is_empty (from i))) ≡ not (is_empty (from start))
-  pub comes-to : extreme_from greatest best (from i) ≡ extreme_from greatest (worst greatest) (from start)
+-- the greatest, or the least, of `best` and the values behind it
+unfoldable pub extreme_after : Bool → Option ℕ → List Words → Option ℕ
+extreme_after greatest best [] = best
+extreme_after greatest best (w ∷ values) = extreme_after greatest (Some (further greatest (number_or (worst greatest) best) w.first)) values
 
-pub nearing-start : {from : ℕ → List Words} {greatest : Bool} {start best : ℕ} → best ≡ worst greatest → Nearing from greatest start false best start
-nearing-start {from} {greatest} {start} e = record { there = refl; comes-to = ap (λ (b : ℕ). extreme_from greatest b (from start)) e }
+-- what was seen, and the values that are left, give what all give
+pub record Nearing (greatest : Bool) (all : List Words) (best : Option ℕ) (left : List Words) : Type 0 where
+  pub comes-to : extreme_after greatest best left ≡ extreme_of greatest all
 
-module _ {from : ℕ → List Words} {i : ℕ} {r : Found} (finds : Finds from i r) {greatest : Bool} {start : ℕ} {some : Bool} {best : ℕ} (so_far : Nearing from greatest start some best i) where
-  pub nearing-end : r.here ≡ false → Extreme greatest (from start) (record { here = some; number = best })
-  unfolding extreme_from
-  nearing-end t =
+after-some : (greatest : Bool) (b : ℕ) (values : List Words) → extreme_after greatest (Some b) values ≡ Some (extreme_from greatest b values)
+unfolding extreme_after extreme_from
+after-some greatest b [] = refl
+after-some greatest b (w ∷ values) = after-some greatest (further greatest b w.first) values
+
+pub nearing-start : (greatest : Bool) (all : List Words) → Nearing greatest all None all
+unfolding extreme_after extreme_from extreme_of
+nearing-start greatest [] = record { comes-to = refl }
+nearing-start greatest (w ∷ values) = record { comes-to = after-some greatest (further greatest (worst greatest) w.first) values }
+
+module _ {greatest : Bool} {all : List Words} {best : Option ℕ} {left : List Words} (so_far : Nearing greatest all best left) where
+  pub nearing-end : left ≡ [] → best ≡ extreme_of greatest all
+  unfolding extreme_after
+  nearing-end h = sym (ap (extreme_after greatest best) h) ∙ so_far.comes-to
+
+  -- a value, and the number to go on from
+  pub nearing-on : {next : List Words} {w : Words} → left ≡ w ∷ next → {d b u : ℕ} → d ≡ worst greatest → b ≡ unwrap_or best d → u ≡ further greatest b w.first
+      → Nearing greatest all (Some u) next
+  unfolding extreme_after
+  nearing-on {next} {w} h p q e =
       record {
-        there = sym (ap (λ (l : List Words). some || not (is_empty l)) (finds.none t) ∙ or-false some) ∙ so_far.there;
-        number_is = sym (ap (extreme_from greatest best) (finds.none t)) ∙ so_far.comes-to;
+        comes-to = ap (λ (b : ℕ). extreme_after greatest (Some b) next) (e ∙ ap (λ (b : ℕ). further greatest b w.first) (q ∙ ap (unwrap_or best) p ∙ go best))
+            ∙ sym (ap (extreme_after greatest best) h) ∙ so_far.comes-to;
       }
-
-  pub nearing-on : r.here ≡ true → {next : ℕ} → next ≡ further greatest best r.words.first → Nearing from greatest start true next r.next
-  unfolding extreme_from
-  nearing-on t e =
-      record {
-        there = sym (ap (λ (l : List Words). some || not (is_empty l)) (finds.more t) ∙ or-true some) ∙ so_far.there;
-        comes-to = ap (λ (b : ℕ). extreme_from greatest b (from r.next)) e ∙ sym (ap (extreme_from greatest best) (finds.more t)) ∙ so_far.comes-to;
-      }
+    where
+      go : (o : Option ℕ) → unwrap_or o (worst greatest) ≡ number_or (worst greatest) o
+      go None = refl
+      go (Some b) = refl

@@ -1,5 +1,5 @@
 -- What a comparison asks of the values of two operands.
-use Rattle.std.specs.Prelude.{ℕ, ◌≡◌, Bool, true, false, not, ◌&&◌, List, [], ◌∷◌, eqb, leb, ltb}
+use Rattle.std.specs.Prelude.{ℕ, ◌≡◌, Bool, true, false, not, ◌&&◌, Option, Some, None, List, [], ◌∷◌, eqb, leb, ltb}
 use Rattle.model.specs.Notation.{is_empty, if◌then◌otherwise◌}
 use Rattle.model.specs.Limits.{largest_int}
 use Rattle.model.specs.Bytes.{Bytes}
@@ -14,7 +14,6 @@ use Rattle.truth.specs.Truths.{truth_of}
 use Rattle.text.specs.declared.Words.{Words}
 use Rattle.text.specs.Values.{same_words}
 use Rattle.values.specs.declared.Operand.{Operand}
-use Rattle.values.specs.declared.Bound.{Bound}
 use Rattle.values.specs.Operands.{Lent, lent, operand_values, Stands}
 
 -- the greater of two numbers, or the less
@@ -38,10 +37,10 @@ greatest_of values = extreme_from true (worst true) values
 abbrev pub least_of : List Words → ℕ
 least_of values = extreme_from false (worst false) values
 
--- r says whether there is a value, and has the greatest, or the least, of those that are there
-pub record Extreme (greatest : Bool) (values : List Words) (r : Bound) : Type 0 where
-  pub there : r.here ≡ not (is_empty values)
-  pub number_is : r.number ≡ extreme_from greatest (worst greatest) values
+-- the greatest, or the least, of values, if there is one
+unfoldable pub extreme_of : Bool → List Words → Option ℕ
+extreme_of greatest [] = None
+extreme_of greatest (w ∷ values) = Some (extreme_from greatest (worst greatest) (w ∷ values))
 
 -- the least of some values is below the greatest of others, or with `equal` not above it
 unfoldable pub least_below_greatest : Bool → List Words → List Words → Bool
@@ -54,11 +53,6 @@ abbrev pub or_next : model.Truth → model.Truth → model.Truth
 or_next model.FALSE u = u
 or_next model.UNDEF u = model.UNDEF
 or_next model.TRUE u = model.TRUE
-
-abbrev pub is_false : model.Truth → Bool
-is_false model.FALSE = true
-is_false model.UNDEF = false
-is_false model.TRUE = false
 
 -- what a search says that met no other answer than FALSE: UNDEF where it met no value
 abbrev pub at_end : Bool → model.Truth

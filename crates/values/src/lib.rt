@@ -2,16 +2,21 @@
 // values are found one after another where they are lent.
 #![tactic(auto)]
 
-ghost use Rattle.std.specs.Prelude.{◌≡◌, true, false, ◌+◌, ◌*◌, ◌/◌, ◌<◌, ◌≤◌, eqb, length};
+mod lent;
+
+ghost use Rattle.std.specs.Prelude.{◌≡◌, true, false, Option, ℕ, ◌+◌, ◌*◌, ◌/◌, ◌<◌, ◌≤◌, List, eqb, length};
+ghost use Rattle.std.specs.Iterator.{YieldsFirst};
 ghost use Rattle.model.specs.Block.{byte_at, value_at};
 ghost use Rattle.model.specs.Truth.{NOT};
 ghost use Rattle.truth.specs.Truths.{truth_of};
-ghost use Rattle.text.specs.Values.{words, same_words};
-ghost use Rattle.values.specs.Operands.{lent, First, words_from, entry_words, entries_from, FirstPair, int_at, str_at, constants_from};
-ghost use Rattle.values.specs.Operands.{operand_values, Finds, nothing, operand, no_values, row_type, attribute_operand};
-ghost use Rattle.values.specs.Compared.{further, worst, Extreme, is_false, at_end, among_of, asked, found_of, below_of, Compared, Lone, Lacks};
+ghost use Rattle.text.specs.declared.Words.{Words};
+ghost use Rattle.text.specs.Values.{words};
+ghost use Rattle.values.specs.Operands.{lent, lent_by, First, words_from, pair_words, entry_words, entries_from, FirstPair, int_at, str_at, constants_from};
+ghost use Rattle.values.specs.Operands.{operand_values, operand, no_values, row_type, attribute_operand};
+ghost use Rattle.values.specs.Compared.{further, worst, extreme_of, at_end, among_of, asked, found_of, below_of, Compared, Lone, Lacks};
 
-use codes::{AT_LEAST, AT_MOST, BOOL, EQUAL, GREATER, IN, INT, LESS, STR, SUBSET, UNEQUAL};
+use codes::{AT_LEAST, AT_MOST, AtomType, EQUAL, GREATER, IN, INT, LESS, STR, SUBSET, UNEQUAL};
+use lent::Lent;
 use text::Words;
 use truth::Truth;
 
@@ -22,13 +27,15 @@ const ENTRIES: u8 = 1;
 
 const CONSTANTS: u8 = 2;
 
-// How many pairs there are.
+// How many pairs and attributes there are.
 const PAIRS: usize = 256;
+
+const ATTRIBUTES: usize = 32;
 
 // The largest int.
 const LARGEST: u64 = 4294967295;
 
-// The values beside an operator, all of one type.
+// The values beside an operator, all of one type. Programs keep type and place as bytes of a row.
 #[derive(Clone, Copy)]
 pub struct Operand {
     // The type; 0 where there is no value.
@@ -39,33 +46,11 @@ pub struct Operand {
     pub end: usize,
 }
 
-// The constant at a position, if one is there, and the position behind it.
+// A constant, and the position behind it.
 #[derive(Clone, Copy)]
-pub struct Found {
-    pub here: bool,
-    pub words: Words,
-    pub next: usize,
-}
-
-// The greatest of some numbers, or the least, if there is one.
-#[derive(Clone, Copy)]
-struct Bound {
-    here: bool,
-    number: u64,
-}
-
-fn nothing() -> Found
-    ensures { result ≡ nothing }
-{
-    Found {
-        here: false,
-        words: Words {
-            first: 0,
-            second: 0,
-            third: 0,
-        },
-        next: 0,
-    }
+struct Found {
+    words: Words,
+    next: usize,
 }
 
 fn one_word(first: u64) -> Words
@@ -79,129 +64,232 @@ fn one_word(first: u64) -> Words
 }
 
 // The number of four bytes, low byte first.
+#[inline]
 pub fn four(s: &[u8], at: usize) -> u64
     requires { at + 4 ≤ length s.now }
     ensures { result ≡ value_at s.now at }
 {
-    let a = codes::byte_to_word(s[at]);
-    let b = codes::byte_to_word(s[at + 1]);
-    let c = codes::byte_to_word(s[at + 2]);
-    let d = codes::byte_to_word(s[at + 3]);
+    let a = u64::from(s[at]);
+    let b = u64::from(s[at + 1]);
+    let c = u64::from(s[at + 2]);
+    let d = u64::from(s[at + 3]);
     a + 256 * (b + 256 * (c + 256 * d))
 }
 
-// The number of the first pair from number i on that the session has of attribute k, 256 where there is none.
-fn pair_number(session: &[u64; 128], k: usize, i: usize) -> usize
+// The number of the first pair from number i on that the session has of attribute k.
+#[inline]
+fn pair_number(session: &[u64; 128], k: usize, i: usize) -> Option<usize>
     ensures { FirstPair session.now k i result }
 {
-    if 32 <= k {
-        return PAIRS;
+    if ATTRIBUTES <= k {
+        return None;
     }
-    let all = &session[..];
-    let start = 4 * k;
-    let end = 4 * k + 4;
-    bits::first_from(&all[start..end], i)
+    let p = bits::first_from(&session[4 * k..4 * k + 4], i);
+    if p < PAIRS { Some(p) } else { None }
+}
+
+// The words of a pair's atom.
+fn pair_words(pairs: &[u64], p: usize) -> Words
+    requires { 4 * p + 4 ≤ length pairs.now }
+    ensures { result ≡ pair_words pairs.now p }
+{
+    Words {
+        first: pairs[4 * p + 1],
+        second: pairs[4 * p + 2],
+        third: pairs[4 * p + 3],
+    }
 }
 
 // The number of the first entry from number i on that is one of attribute k.
-fn entry_number(entries: &[u8], k: usize, i: usize) -> usize
+#[inline]
+fn entry_number(entries: &[u8], k: usize, i: usize) -> Option<usize>
     ensures { First (λ j. eqb (byte_at entries.now (5 * j)) k) (length entries.now / 5) i result }
 {
-    let n = entries.len() / 5;
-    let mut j = i;
-    while j < n {
-        if codes::byte_to_word(entries[5 * j]) == k as u64 {
-            return j;
+    for j in i..entries.len() / 5 {
+        if usize::from(entries[5 * j]) == k {
+            return Some(j);
         }
-        j += 1;
     }
-    n
+    None
 }
 
 // "a 32-bit value, low byte first (bool 0 or 1)", by its type: the first of its words, the others are 0.
 fn entry_word(ty: u8, v: u64) -> u64
     ensures { words result 0 0 ≡ entry_words ty v }
 {
-    if ty != BOOL {
-        return v;
+    if ty == AtomType::Bool as u8 {
+        u64::from(v == 1)
+    } else {
+        v
     }
-    if v == 1 {
-        return 1;
-    }
-    0
 }
 
 // The int constant at byte i, if it ends before `end`.
-fn int_at(code: &[u8], end: usize, i: usize) -> Found
+#[inline]
+fn int_at(code: &[u8], end: usize, i: usize) -> Option<Found>
     ensures { result ≡ int_at code.now end i }
 {
-    if code.len() < end {
-        return nothing();
+    if code.len() < end || end < 5 || end - 5 < i {
+        return None;
     }
-    if end < 5 {
-        return nothing();
-    }
-    if end - 5 < i {
-        return nothing();
-    }
-    Found {
-        here: true,
+    Some(Found {
         words: one_word(four(code, i + 1)),
         next: i + 6,
-    }
+    })
 }
 
 // The str constant at byte i, if it ends before `end`.
-fn str_at(code: &[u8], end: usize, i: usize) -> Found
+fn str_at(code: &[u8], end: usize, i: usize) -> Option<Found>
     ensures { result ≡ str_at code.now end i }
 {
-    if code.len() < end {
-        return nothing();
-    }
-    if end < 2 {
-        return nothing();
-    }
-    if end - 2 < i {
-        return nothing();
+    if code.len() < end || end < 2 || end - 2 < i {
+        return None;
     }
     let start = i + 2;
-    let n = code[i + 1] as usize;
-    if 24 < n {
-        return nothing();
+    let n = usize::from(code[i + 1]);
+    if 24 < n || end < start + n {
+        return None;
     }
     let past = start + n;
-    if end < past {
-        return nothing();
-    }
-    Found {
-        here: true,
+    Some(Found {
         words: text::words_of(&code[start..past]),
         next: past + 1,
+    })
+}
+
+// Values, one after another. Each place has a type of its own, so that each search is a loop over that place alone; `next` is `inline`, so that a
+// value need not go through memory.
+trait Values: Drop {
+    // those that come
+    ghost left: { Self → List Words };
+
+    fn next(&mut self) -> Option<Words>
+        ensures { YieldsFirst left self.old result self.new };
+}
+
+// Those that a session has of attribute k, from pair `at` on.
+#[derive(Drop)]
+struct PairValues<'a> {
+    lent: &'a Lent<'a>,
+    k: usize,
+    at: usize,
+}
+
+impl Values for PairValues<'_> {
+    ghost left = { λ s. words_from s.lent.now.pairs.now s.lent.now.session.now s.k s.at };
+
+    #[inline]
+    fn next(&mut self) -> Option<Words> {
+        let lent = self.lent;
+        let p = pair_number(lent.session, self.k, self.at)?;
+        self.at = p + 1;
+        Some(pair_words(lent.pairs, p))
     }
 }
 
-// The constant at byte i.
-fn constant_from(code: &[u8], ty: u8, end: usize, i: usize) -> Found
-    ensures { Finds (constants_from ty code.now end) i result }
-{
-    if ty == STR {
-        str_at(code, end, i)
-    } else {
-        int_at(code, end, i)
+// Those that the entries have of attribute k, from entry `at` on.
+#[derive(Drop)]
+struct EntryValues<'a> {
+    entries: &'a [u8],
+    ty: u8,
+    k: usize,
+    at: usize,
+}
+
+impl Values for EntryValues<'_> {
+    ghost left = { λ s. entries_from s.entries.now s.ty s.k s.at };
+
+    #[inline]
+    fn next(&mut self) -> Option<Words> {
+        let entries = self.entries;
+        let j = entry_number(entries, self.k, self.at)?;
+        self.at = j + 1;
+        Some(one_word(entry_word(self.ty, four(entries, 5 * j + 1))))
     }
 }
 
-// Whether the words of two values are the same.
-fn same(x: u64, y: u64, z: u64, a: u64, b: u64, c: u64) -> bool
-    ensures { result ≡ same_words (words x y z) (words a b c) }
+// The int constants from byte `at` up to byte `end`.
+#[derive(Drop)]
+struct IntValues<'a> {
+    code: &'a [u8],
+    end: usize,
+    at: usize,
+}
+
+impl Values for IntValues<'_> {
+    ghost left = { λ s. constants_from 1 s.code.now s.end s.at };
+
+    #[inline]
+    fn next(&mut self) -> Option<Words> {
+        let found = int_at(self.code, self.end, self.at)?;
+        self.at = found.next;
+        Some(found.words)
+    }
+}
+
+// The str constants from byte `at` up to byte `end`.
+#[derive(Drop)]
+struct StrValues<'a> {
+    code: &'a [u8],
+    end: usize,
+    at: usize,
+}
+
+impl Values for StrValues<'_> {
+    ghost left = { λ s. constants_from 2 s.code.now s.end s.at };
+
+    #[inline]
+    fn next(&mut self) -> Option<Words> {
+        let found = str_at(self.code, self.end, self.at)?;
+        self.at = found.next;
+        Some(found.words)
+    }
+}
+
+// Those of an operand, by its place.
+fn pair_values<'a>(lent: &'a Lent<'a>, operand: Operand) -> PairValues<'a>
+    requires { operand.place ≡ 0 }
+    ensures { words_from result.lent.now.pairs.now result.lent.now.session.now result.k result.at ≡ operand_values (lent_by lent.now) operand }
 {
-    if x != a {
-        return false;
+    PairValues {
+        lent,
+        k: operand.start,
+        at: 0,
     }
-    if y != b {
-        return false;
+}
+
+fn entry_values<'a>(lent: &'a Lent<'a>, operand: Operand) -> EntryValues<'a>
+    requires { operand.place ≡ 1 }
+    ensures { entries_from result.entries.now result.ty result.k result.at ≡ operand_values (lent_by lent.now) operand }
+{
+    EntryValues {
+        entries: lent.entries,
+        ty: operand.ty,
+        k: operand.start,
+        at: 0,
     }
-    z == c
+}
+
+fn int_values<'a>(lent: &'a Lent<'a>, operand: Operand) -> IntValues<'a>
+    requires { (1 < operand.place) × (operand.ty ≡ 2 → ⊥) }
+    ensures { constants_from 1 result.code.now result.end result.at ≡ operand_values (lent_by lent.now) operand }
+{
+    IntValues {
+        code: lent.code,
+        end: operand.end,
+        at: operand.start,
+    }
+}
+
+fn str_values<'a>(lent: &'a Lent<'a>, operand: Operand) -> StrValues<'a>
+    requires { (1 < operand.place) × (operand.ty ≡ 2) }
+    ensures { constants_from 2 result.code.now result.end result.at ≡ operand_values (lent_by lent.now) operand }
+{
+    StrValues {
+        code: lent.code,
+        end: operand.end,
+        at: operand.start,
+    }
 }
 
 // What a search says that met no answer but FALSE: UNDEF where it met no value.
@@ -211,386 +299,93 @@ fn at_end(some: bool) -> Truth
     if some { Truth::False } else { Truth::Undef }
 }
 
-// Whether the value x, y, z is among those that the session has of attribute k. Values go by their words, and each place has its own loop: a struct
-// for each value would go through memory.
-fn among_pairs(pairs: &[u64], session: &[u64; 128], x: u64, y: u64, z: u64, k: usize) -> Truth
-    requires { length pairs.now ≡ 1024 }
-    ensures { truth_of result ≡ among_of (words_from pairs.now session.now k 0) (words x y z) }
+// Whether a value is among others.
+fn among<V: Values>(mut values: V, wanted: Words) -> Truth
+    ensures { truth_of result ≡ among_of (V.left values) wanted }
 {
     let mut some = false;
-    let mut i: usize = 0;
-    loop {
-        let p = pair_number(session, k, i);
-        if PAIRS <= p {
-            return at_end(some);
-        }
-        if same(
-            x,
-            y,
-            z,
-            pairs[4 * p + 1],
-            pairs[4 * p + 2],
-            pairs[4 * p + 3],
-        ) {
+    while let Some(words) = values.next() {
+        if wanted == words {
             return Truth::True;
         }
         some = true;
-        i = p + 1;
     }
+    at_end(some)
 }
 
-// Whether the value is among those that the entries have of attribute k.
-fn among_entries(entries: &[u8], ty: u8, x: u64, y: u64, z: u64, k: usize) -> Truth
-    ensures { truth_of result ≡ among_of (entries_from entries.now ty k 0) (words x y z) }
+// Whether a value is among those of an operand.
+fn is_among<'a>(lent: &'a Lent<'a>, operand: Operand, wanted: Words) -> Truth
+    ensures { truth_of result ≡ among_of (operand_values (lent_by lent.now) operand) wanted }
 {
-    let n = entries.len() / 5;
-    let mut some = false;
-    let mut i: usize = 0;
-    loop {
-        let j = entry_number(entries, k, i);
-        if n <= j {
-            return at_end(some);
-        }
-        let word = entry_word(ty, four(entries, 5 * j + 1));
-        if same(x, y, z, word, 0, 0) {
-            return Truth::True;
-        }
-        some = true;
-        i = j + 1;
-    }
-}
-
-// Whether the value is among the int constants from byte `start` up to byte `end`.
-fn among_ints(code: &[u8], x: u64, y: u64, z: u64, start: usize, end: usize) -> Truth
-    ensures { truth_of result ≡ among_of (constants_from 1 code.now end start) (words x y z) }
-{
-    let mut some = false;
-    let mut i = start;
-    loop {
-        let f = int_at(code, end, i);
-        if !f.here {
-            return at_end(some);
-        }
-        let words = f.words;
-        if same(x, y, z, words.first, words.second, words.third) {
-            return Truth::True;
-        }
-        some = true;
-        i = f.next;
-    }
-}
-
-// Whether the value is among the str constants from byte `start` up to byte `end`.
-fn among_strs(code: &[u8], x: u64, y: u64, z: u64, start: usize, end: usize) -> Truth
-    ensures { truth_of result ≡ among_of (constants_from 2 code.now end start) (words x y z) }
-{
-    let mut some = false;
-    let mut i = start;
-    loop {
-        let f = str_at(code, end, i);
-        if !f.here {
-            return at_end(some);
-        }
-        let words = f.words;
-        if same(x, y, z, words.first, words.second, words.third) {
-            return Truth::True;
-        }
-        some = true;
-        i = f.next;
-    }
-}
-
-// Whether the value is among the constants from byte `start` up to byte `end`.
-fn among_constants(code: &[u8], ty: u8, x: u64, y: u64, z: u64, start: usize, end: usize) -> Truth
-    ensures { truth_of result ≡ among_of (constants_from ty code.now end start) (words x y z) }
-{
-    if ty == STR {
-        among_strs(code, x, y, z, start, end)
-    } else {
-        among_ints(code, x, y, z, start, end)
-    }
-}
-
-// Whether the value is among those of an operand, which goes by its numbers as the value does.
-fn among(
-    code: &[u8],
-    pairs: &[u64],
-    session: &[u64; 128],
-    entries: &[u8],
-    x: u64,
-    y: u64,
-    z: u64,
-    ty: u8,
-    place: u8,
-    start: usize,
-    end: usize,
-) -> Truth
-    requires { length pairs.now ≡ 1024 }
-    ensures { truth_of result ≡ among_of (operand_values (lent code.now pairs.now session.now entries.now) (operand ty place start end)) (words x y z) }
-{
-    match place {
-        WORDS => among_pairs(pairs, session, x, y, z, start),
-        ENTRIES => among_entries(entries, ty, x, y, z, start),
-        _ => among_constants(code, ty, x, y, z, start, end),
+    match operand.place {
+        WORDS => among(pair_values(lent, operand), wanted),
+        ENTRIES => among(entry_values(lent, operand), wanted),
+        _ if operand.ty == STR => among(str_values(lent, operand), wanted),
+        _ => among(int_values(lent, operand), wanted),
     }
 }
 
 fn asked(wanted: bool, found: Truth) -> Truth
     ensures { truth_of result ≡ asked wanted (truth_of found) }
 {
-    if wanted {
-        return found;
-    }
-    truth::not(found)
+    if wanted { found } else { truth::not(found) }
 }
 
-fn is_false(value: Truth) -> bool
-    ensures { result ≡ is_false (truth_of value) }
-{
-    match value {
-        Truth::False => true,
-        Truth::Undef => false,
-        Truth::True => false,
-    }
-}
-
-// Whether some value that the session has of attribute k is among those of another operand of its type, or with `wanted` false, whether some is not.
-fn found_pairs(
-    code: &[u8],
-    pairs: &[u64],
-    session: &[u64; 128],
-    entries: &[u8],
-    ty: u8,
-    k: usize,
-    in_place: u8,
-    in_start: usize,
-    in_end: usize,
+// Whether some value is among those of an operand, or with `wanted` false, whether some is not.
+fn found_among<'a, V: Values>(
+    mut values: V,
+    lent: &'a Lent<'a>,
+    others: Operand,
     wanted: bool,
 ) -> Truth
-    requires { length pairs.now ≡ 1024 }
-    ensures { truth_of result ≡ found_of wanted (words_from pairs.now session.now k 0) (operand_values (lent code.now pairs.now session.now entries.now) (operand ty in_place in_start in_end)) }
+    ensures { truth_of result ≡ found_of wanted (V.left values) (operand_values (lent_by lent.now) others) }
 {
     let mut some = false;
-    let mut i: usize = 0;
-    loop {
-        let p = pair_number(session, k, i);
-        if PAIRS <= p {
-            return at_end(some);
-        }
-        let x = pairs[4 * p + 1];
-        let y = pairs[4 * p + 2];
-        let z = pairs[4 * p + 3];
-        let answer = asked(
-            wanted,
-            among(
-                code, pairs, session, entries, x, y, z, ty, in_place, in_start, in_end,
-            ),
-        );
-        if !is_false(answer) {
+    while let Some(words) = values.next() {
+        let answer = asked(wanted, is_among(lent, others, words));
+        if answer != Truth::False {
             return answer;
         }
         some = true;
-        i = p + 1;
     }
+    at_end(some)
 }
 
-// The same of the values that the entries have of attribute k.
-fn found_entries(
-    code: &[u8],
-    pairs: &[u64],
-    session: &[u64; 128],
-    entries: &[u8],
-    ty: u8,
-    k: usize,
-    in_place: u8,
-    in_start: usize,
-    in_end: usize,
-    wanted: bool,
-) -> Truth
-    requires { length pairs.now ≡ 1024 }
-    ensures { truth_of result ≡ found_of wanted (entries_from entries.now ty k 0) (operand_values (lent code.now pairs.now session.now entries.now) (operand ty in_place in_start in_end)) }
+// Whether some value of an operand is among those of another, or with `wanted` false, whether some is not.
+fn some_among<'a>(lent: &'a Lent<'a>, operand: Operand, others: Operand, wanted: bool) -> Truth
+    ensures { truth_of result ≡ found_of wanted (operand_values (lent_by lent.now) operand) (operand_values (lent_by lent.now) others) }
 {
-    let n = entries.len() / 5;
-    let mut some = false;
-    let mut i: usize = 0;
-    loop {
-        let j = entry_number(entries, k, i);
-        if n <= j {
-            return at_end(some);
-        }
-        let word = entry_word(ty, four(entries, 5 * j + 1));
-        let answer = asked(
-            wanted,
-            among(
-                code, pairs, session, entries, word, 0, 0, ty, in_place, in_start, in_end,
-            ),
-        );
-        if !is_false(answer) {
-            return answer;
-        }
-        some = true;
-        i = j + 1;
-    }
-}
-
-// The same of the constants from byte `start` up to byte `end`.
-fn found_constants(
-    code: &[u8],
-    pairs: &[u64],
-    session: &[u64; 128],
-    entries: &[u8],
-    ty: u8,
-    start: usize,
-    end: usize,
-    in_place: u8,
-    in_start: usize,
-    in_end: usize,
-    wanted: bool,
-) -> Truth
-    requires { length pairs.now ≡ 1024 }
-    ensures { truth_of result ≡ found_of wanted (constants_from ty code.now end start) (operand_values (lent code.now pairs.now session.now entries.now) (operand ty in_place in_start in_end)) }
-{
-    let mut some = false;
-    let mut i = start;
-    loop {
-        let f = constant_from(code, ty, end, i);
-        if !f.here {
-            return at_end(some);
-        }
-        let words = f.words;
-        let answer = asked(
-            wanted,
-            among(
-                code,
-                pairs,
-                session,
-                entries,
-                words.first,
-                words.second,
-                words.third,
-                ty,
-                in_place,
-                in_start,
-                in_end,
-            ),
-        );
-        if !is_false(answer) {
-            return answer;
-        }
-        some = true;
-        i = f.next;
-    }
-}
-
-// Whether some value of an operand is among those of another of its type, or with `wanted` false, whether some is not.
-fn some_among(
-    code: &[u8],
-    pairs: &[u64],
-    session: &[u64; 128],
-    entries: &[u8],
-    ty: u8,
-    place: u8,
-    start: usize,
-    end: usize,
-    in_place: u8,
-    in_start: usize,
-    in_end: usize,
-    wanted: bool,
-) -> Truth
-    requires { length pairs.now ≡ 1024 }
-    ensures { truth_of result ≡ found_of wanted (operand_values (lent code.now pairs.now session.now entries.now) (operand ty place start end)) (operand_values (lent code.now pairs.now session.now entries.now) (operand ty in_place in_start in_end)) }
-{
-    match place {
-        WORDS => found_pairs(
-            code, pairs, session, entries, ty, start, in_place, in_start, in_end, wanted,
-        ),
-        ENTRIES => found_entries(
-            code, pairs, session, entries, ty, start, in_place, in_start, in_end, wanted,
-        ),
-        _ => found_constants(
-            code, pairs, session, entries, ty, start, end, in_place, in_start, in_end, wanted,
-        ),
+    match operand.place {
+        WORDS => found_among(pair_values(lent, operand), lent, others, wanted),
+        ENTRIES => found_among(entry_values(lent, operand), lent, others, wanted),
+        _ if operand.ty == STR => found_among(str_values(lent, operand), lent, others, wanted),
+        _ => found_among(int_values(lent, operand), lent, others, wanted),
     }
 }
 
 // Whether some left value is among the right, or with `wanted` false, whether some is not. A common value is one seen from either side: constants on
 // the right are walked first, so that each is taken out of the code once.
-fn some_found(
-    code: &[u8],
-    pairs: &[u64],
-    session: &[u64; 128],
-    entries: &[u8],
-    left: Operand,
-    right: Operand,
-    wanted: bool,
-) -> Truth
-    requires { (length pairs.now ≡ 1024) × (left.ty ≡ right.ty) }
-    ensures { truth_of result ≡ found_of wanted (operand_values (lent code.now pairs.now session.now entries.now) left) (operand_values (lent code.now pairs.now session.now entries.now) right) }
+fn some_found<'a>(lent: &'a Lent<'a>, left: Operand, right: Operand, wanted: bool) -> Truth
+    ensures { truth_of result ≡ found_of wanted (operand_values (lent_by lent.now) left) (operand_values (lent_by lent.now) right) }
 {
-    if wanted {
-        if ENTRIES < right.place {
-            return some_among(
-                code,
-                pairs,
-                session,
-                entries,
-                right.ty,
-                right.place,
-                right.start,
-                right.end,
-                left.place,
-                left.start,
-                left.end,
-                true,
-            );
-        }
+    if wanted && ENTRIES < right.place {
+        return some_among(lent, right, left, true);
     }
-    some_among(
-        code,
-        pairs,
-        session,
-        entries,
-        left.ty,
-        left.place,
-        left.start,
-        left.end,
-        right.place,
-        right.start,
-        right.end,
-        wanted,
-    )
+    some_among(lent, left, right, wanted)
 }
 
 // Whether no left value is among the right, or with `wanted` false, whether each is.
-fn none_found(
-    code: &[u8],
-    pairs: &[u64],
-    session: &[u64; 128],
-    entries: &[u8],
-    left: Operand,
-    right: Operand,
-    wanted: bool,
-) -> Truth
-    requires { (length pairs.now ≡ 1024) × (left.ty ≡ right.ty) }
-    ensures { truth_of result ≡ NOT (found_of wanted (operand_values (lent code.now pairs.now session.now entries.now) left) (operand_values (lent code.now pairs.now session.now entries.now) right)) }
+fn none_found<'a>(lent: &'a Lent<'a>, left: Operand, right: Operand, wanted: bool) -> Truth
+    ensures { truth_of result ≡ NOT (found_of wanted (operand_values (lent_by lent.now) left) (operand_values (lent_by lent.now) right)) }
 {
-    truth::not(some_found(code, pairs, session, entries, left, right, wanted))
+    truth::not(some_found(lent, left, right, wanted))
 }
 
 // The greater of two numbers, or the less.
 fn further(greatest: bool, a: u64, b: u64) -> u64
     ensures { result ≡ further greatest a b }
 {
-    if greatest {
-        if a < b {
-            return b;
-        }
-        return a;
-    }
-    if b < a {
-        return b;
-    }
-    a
+    if greatest { a.max(b) } else { a.min(b) }
 }
 
 fn start_of(greatest: bool) -> u64
@@ -599,121 +394,50 @@ fn start_of(greatest: bool) -> u64
     if greatest { 0 } else { LARGEST }
 }
 
-// The greatest of the ints that the session has of attribute k, or the least; and whether there is one.
-fn extreme_pairs(pairs: &[u64], session: &[u64; 128], k: usize, greatest: bool) -> Bound
-    requires { length pairs.now ≡ 1024 }
-    ensures { Extreme greatest (words_from pairs.now session.now k 0) result }
+// The greatest of some ints, or the least, if there is one.
+fn extreme<V: Values>(mut values: V, greatest: bool) -> Option<u64>
+    ensures { result ≡ extreme_of greatest (V.left values) }
 {
-    let mut some = false;
-    let mut best = start_of(greatest);
-    let mut i: usize = 0;
-    loop {
-        let p = pair_number(session, k, i);
-        if PAIRS <= p {
-            return Bound {
-                here: some,
-                number: best,
-            };
-        }
-        best = further(greatest, best, pairs[4 * p + 1]);
-        some = true;
-        i = p + 1;
+    let mut best = None;
+    while let Some(words) = values.next() {
+        let so_far = best.unwrap_or(start_of(greatest));
+        best = Some(further(greatest, so_far, words.first));
     }
-}
-
-// The greatest of the ints that the entries have of attribute k, or the least.
-fn extreme_entries(entries: &[u8], k: usize, greatest: bool) -> Bound
-    ensures { Extreme greatest (entries_from entries.now 1 k 0) result }
-{
-    let n = entries.len() / 5;
-    let mut some = false;
-    let mut best = start_of(greatest);
-    let mut i: usize = 0;
-    loop {
-        let j = entry_number(entries, k, i);
-        if n <= j {
-            return Bound {
-                here: some,
-                number: best,
-            };
-        }
-        best = further(greatest, best, four(entries, 5 * j + 1));
-        some = true;
-        i = j + 1;
-    }
-}
-
-// The greatest of the int constants from byte `start` up to byte `end`, or the least.
-fn extreme_ints(code: &[u8], start: usize, end: usize, greatest: bool) -> Bound
-    ensures { Extreme greatest (constants_from 1 code.now end start) result }
-{
-    let mut some = false;
-    let mut best = start_of(greatest);
-    let mut i = start;
-    loop {
-        let f = int_at(code, end, i);
-        if !f.here {
-            return Bound {
-                here: some,
-                number: best,
-            };
-        }
-        let words = f.words;
-        best = further(greatest, best, words.first);
-        some = true;
-        i = f.next;
-    }
+    best
 }
 
 // The greatest of an operand's values, which are ints, or the least.
-fn extreme(
-    code: &[u8],
-    pairs: &[u64],
-    session: &[u64; 128],
-    entries: &[u8],
-    operand: Operand,
-    greatest: bool,
-) -> Bound
-    requires { (length pairs.now ≡ 1024) × (operand.ty ≡ 1) }
-    ensures { Extreme greatest (operand_values (lent code.now pairs.now session.now entries.now) operand) result }
+fn extreme_int<'a>(lent: &'a Lent<'a>, operand: Operand, greatest: bool) -> Option<u64>
+    requires { operand.ty ≡ 1 }
+    ensures { result ≡ extreme_of greatest (operand_values (lent_by lent.now) operand) }
 {
-    let place = operand.place;
-    match place {
-        WORDS => extreme_pairs(pairs, session, operand.start, greatest),
-        ENTRIES => extreme_entries(entries, operand.start, greatest),
-        _ => extreme_ints(code, operand.start, operand.end, greatest),
+    match operand.place {
+        WORDS => extreme(pair_values(lent, operand), greatest),
+        ENTRIES => extreme(entry_values(lent, operand), greatest),
+        _ => extreme(int_values(lent, operand), greatest),
     }
 }
 
 // Whether some value of `low` is below some value of `high`, or with `equal` equal to it: so it is exactly if the least and the greatest are. An order
 // is one of integers alone.
-fn below(
-    code: &[u8],
-    pairs: &[u64],
-    session: &[u64; 128],
-    entries: &[u8],
-    low: Operand,
-    high: Operand,
-    equal: bool,
-) -> Truth
-    requires { (length pairs.now ≡ 1024) × (low.ty ≡ high.ty) }
-    ensures { truth_of result ≡ below_of (lent code.now pairs.now session.now entries.now) equal low high }
+fn below<'a>(lent: &'a Lent<'a>, low: Operand, high: Operand, equal: bool) -> Truth
+    requires { low.ty ≡ high.ty }
+    ensures { truth_of result ≡ below_of (lent_by lent.now) equal low high }
 {
     if low.ty != INT {
         return Truth::Undef;
     }
-    let least = extreme(code, pairs, session, entries, low, false);
-    if !least.here {
+    let Some(least) = extreme_int(lent, low, false) else {
         return Truth::Undef;
-    }
-    let greatest = extreme(code, pairs, session, entries, high, true);
-    if !greatest.here {
+    };
+    let Some(greatest) = extreme_int(lent, high, true) else {
         return Truth::Undef;
-    }
-    if equal {
-        return truth::tested(least.number <= greatest.number);
-    }
-    truth::tested(least.number < greatest.number)
+    };
+    truth::tested(if equal {
+        least <= greatest
+    } else {
+        least < greatest
+    })
 }
 
 // What an operator says of its operands. "Absent operands, different types, and an order between non-integers give UNDEF."
@@ -732,14 +456,20 @@ pub fn compare(
     if left.ty != right.ty {
         return Truth::Undef;
     }
+    let lent = Lent {
+        code: &*code,
+        pairs: &*pairs,
+        session: &*session,
+        entries: &*entries,
+    };
     match operator {
-        EQUAL..=IN => some_found(code, pairs, session, entries, left, right, true),
-        UNEQUAL..=UNEQUAL => none_found(code, pairs, session, entries, left, right, true),
-        SUBSET..=SUBSET => none_found(code, pairs, session, entries, left, right, false),
-        LESS..=LESS => below(code, pairs, session, entries, left, right, false),
-        AT_MOST..=AT_MOST => below(code, pairs, session, entries, left, right, true),
-        GREATER..=GREATER => below(code, pairs, session, entries, right, left, false),
-        AT_LEAST..=AT_LEAST => below(code, pairs, session, entries, right, left, true),
+        EQUAL | IN => some_found(&lent, left, right, true),
+        UNEQUAL => none_found(&lent, left, right, true),
+        SUBSET => none_found(&lent, left, right, false),
+        LESS => below(&lent, left, right, false),
+        AT_MOST => below(&lent, left, right, true),
+        GREATER => below(&lent, right, left, false),
+        AT_LEAST => below(&lent, right, left, true),
         _ => Truth::Undef,
     }
 }
@@ -755,36 +485,33 @@ pub fn lone(
     requires { length pairs.now ≡ 1024 }
     ensures { Lone (lent code.now pairs.now session.now entries.now) operand result }
 {
-    if operand.ty != BOOL {
+    if operand.ty != AtomType::Bool as u8 {
         return Truth::Undef;
     }
-    among(
-        code,
-        pairs,
-        session,
-        entries,
-        1,
-        0,
-        0,
-        operand.ty,
-        operand.place,
-        operand.start,
-        operand.end,
-    )
+    let lent = Lent {
+        code: &*code,
+        pairs: &*pairs,
+        session: &*session,
+        entries: &*entries,
+    };
+    is_among(&lent, operand, one_word(1))
 }
 
 // Whether an operand lacks values: whether its first one is not there.
 pub fn lacks(code: &[u8], session: &[u64; 128], entries: &[u8], operand: Operand) -> bool
     ensures { Lacks code.now session.now entries.now operand result }
 {
-    let place = operand.place;
+    let Operand {
+        ty,
+        place,
+        start,
+        end,
+    } = operand;
     match place {
-        WORDS => PAIRS <= pair_number(session, operand.start, 0),
-        ENTRIES => entries.len() / 5 <= entry_number(entries, operand.start, 0),
-        _ => {
-            let first = constant_from(code, operand.ty, operand.end, operand.start);
-            !first.here
-        }
+        WORDS => pair_number(session, start, 0).is_none(),
+        ENTRIES => entry_number(entries, start, 0).is_none(),
+        _ if ty == STR => str_at(code, end, start).is_none(),
+        _ => int_at(code, end, start).is_none(),
     }
 }
 
@@ -826,24 +553,17 @@ pub fn attribute(attributes: &[u64], k: usize) -> Operand
     requires { length attributes.now ≡ 256 }
     ensures { result ≡ attribute_operand attributes.now k }
 {
-    if 32 <= k {
+    if ATTRIBUTES <= k {
         return no_values();
     }
-    let source = attributes[8 * k];
-    if source == 0 {
-        return no_values();
-    }
-    if source <= 3 {
-        return Operand {
-            ty: type_of(attributes, k),
-            place: WORDS,
-            start: k,
-            end: 0,
-        };
-    }
+    let place = match attributes[8 * k] {
+        0 => return no_values(),
+        1..=3 => WORDS,
+        _ => ENTRIES,
+    };
     Operand {
         ty: type_of(attributes, k),
-        place: ENTRIES,
+        place,
         start: k,
         end: 0,
     }

@@ -1,11 +1,17 @@
 -- What the writer and the length told beforehand promise: on any words, and for the state that a book holds.
-use Rattle.std.specs.Prelude.{ℕ, ◌≡◌, List, length}
+use Rattle.std.specs.Prelude.{ℕ, Result, Ok, Err, ◌≡◌, List, length}
 use Rattle.model.specs.Bytes.{Bytes}
 use Rattle.model.specs.State.{State}
 use Rattle.model.specs.Standing.{Standing}
 use Rattle.model.specs.FileText.{FileWritten, write_text, write_file, written_length}
+use Rattle.codes.specs.declared.Refusal.{Refusal}
 use Rattle.book.specs.Held.{Holds}
 use Rattle.writer.specs.Texts.{book_text}
+
+-- the length of what is written, 0 where it is refused
+abbrev pub length_in : Result ℕ Refusal → ℕ
+length_in (Ok n) = n
+length_in (Err r) = 0
 
 -- the answer, and the buffer behind it
 abbrev pub written : ℕ → ℕ → Bytes → FileWritten

@@ -3,25 +3,19 @@
 #![tactic(auto)]
 
 ghost use Rattle.std.specs.Prelude.{◌≤◌, length};
+ghost use Rattle.codes.specs.Enums.{number_in};
 ghost use Rattle.output.specs.Laid.{Laid};
 ghost use Rattle.writer.specs.Texts.{ties_text, book_text};
 ghost use Rattle.spelling.specs.LineTexts.{declared_text, holders_text};
-ghost use Rattle.writer.specs.WriteCalls.{WriteCall, LengthCall};
+ghost use Rattle.writer.specs.WriteCalls.{length_in, WriteCall, LengthCall};
 
 use book::{BOOK_WORDS, RULE_BYTES};
-use codes::{DOES_NOT_FIT, KEY_MEMBER, KEY_OBJECT, KEY_OGROUP, KEY_PARENT, KEY_UGROUP, KEY_USER};
+use codes::{Key, Refusal};
 
 pub mod tie;
 
 // The longest file.
 const FILE_BYTES: usize = 32768;
-
-// 0 and the length of the text, or the refusal and 0.
-#[derive(Clone, Copy)]
-pub struct Written {
-    pub number: u8,
-    pub length: usize,
-}
 
 // The lines of declarations before the holders.
 fn put_declared(out: &mut [u8], at: usize, book: &[u64]) -> usize
@@ -38,10 +32,10 @@ fn put_holders(out: &mut [u8], at: usize, book: &[u64]) -> usize
     requires { at ≤ 18700 }
     ensures { Laid out.old at (holders_text book.now) out.new result × (result ≤ 51500) }
 {
-    let a = spelling::line::put_holders(out, at, book, KEY_UGROUP);
-    let b = spelling::line::put_holders(out, a, book, KEY_OGROUP);
-    let c = spelling::line::put_holders(out, b, book, KEY_USER);
-    spelling::line::put_holders(out, c, book, KEY_OBJECT)
+    let a = spelling::line::put_holders(out, at, book, Key::Ugroup);
+    let b = spelling::line::put_holders(out, a, book, Key::Ogroup);
+    let c = spelling::line::put_holders(out, b, book, Key::User);
+    spelling::line::put_holders(out, c, book, Key::Object)
 }
 
 // The lines of ties, key by key.
@@ -49,8 +43,8 @@ fn put_ties(out: &mut [u8], at: usize, book: &[u64; BOOK_WORDS]) -> usize
     requires { at ≤ 51500 }
     ensures { Laid out.old at (ties_text book.now) out.new result × (result ≤ 14731564) }
 {
-    let a = tie::put_key_ups(out, at, book, KEY_PARENT);
-    let b = tie::put_key_ups(out, a, book, KEY_MEMBER);
+    let a = tie::put_key_ups(out, at, book, Key::Parent);
+    let b = tie::put_key_ups(out, a, book, Key::Member);
     tie::put_values(out, b, book)
 }
 
@@ -73,23 +67,18 @@ pub fn length(book: &[u64; BOOK_WORDS], rules: &[u8; RULE_BYTES]) -> usize
     put_text(&mut none, book, rules)
 }
 
-// "A writer puts out the present one into a lent buffer and answers 0 and its length (18 and 0 if refused)."
-pub fn write(book: &[u64; BOOK_WORDS], rules: &[u8; RULE_BYTES], buffer: &mut [u8]) -> Written
-    ensures { WriteCall book.now rules.now buffer.old result.number result.length buffer.new × (result.length ≤ 32768) }
+// "A writer puts out the present one into a lent buffer and answers 0 and its length (18 and 0 if refused)": the length, or the one refusal there is.
+pub fn write(
+    book: &[u64; BOOK_WORDS],
+    rules: &[u8; RULE_BYTES],
+    buffer: &mut [u8],
+) -> Result<usize, Refusal>
+    ensures { WriteCall book.now rules.now buffer.old (number_in result) (length_in result) buffer.new × (length_in result ≤ 32768) }
 {
     let length = length(book, rules);
-    if buffer.len() < length {
-        return Written {
-            number: DOES_NOT_FIT,
-            length: 0,
-        };
-    }
-    if FILE_BYTES < length {
-        return Written {
-            number: DOES_NOT_FIT,
-            length: 0,
-        };
+    if buffer.len() < length || FILE_BYTES < length {
+        return Err(Refusal::DoesNotFit);
     }
     put_text(buffer, book, rules);
-    Written { number: 0, length }
+    Ok(length)
 }

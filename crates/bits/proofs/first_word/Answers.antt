@@ -1,30 +1,18 @@
--- `bits::first_word` meets its contract: the words before `at` have no number from word k on. Assumes nothing.
-use mathlib.Core.Path.{ap, ◌∙◌}
-use Prim.Native.Nat.{ℕ, ◌*◌}
-use Rattle.bits.specs.Bits.{bit}
-use Rattle.bits.proofs.Bits.{bit-none}
-use Rattle.bits.proofs.Walks.{first_found, passed-word, first-none}
-use native.Mathlib.Omega.{arith}
+-- `bits::first_word` meets its contract: the first word from word k on that is not 0, or none. Assumes nothing.
+use mathlib.Core.Path.{◌≡◌, ◌∙◌}
+use borrow.Author.Tests.{tests}
+use Rattle.std.proofs.Common.{rules}
+use Rattle.std.proofs.lemmas.Iterator.{IsFirst-from_position, YieldsList-from_slice}
+use Rattle.bits.proofs.Walks.{tail-part, word-found, words-none}
 use Rattle.bits.proofs.first_word.Goals as goal
 
-pub loop-at-init : goal.loop-at-init
-loop-at-init c = (omega arith, λ j a b. absurd (omega arith))
+pub returns-in-Some : goal.returns-in-Some
+returns-in-Some c =
+    word-found c.args.set.now c.args.k c.in-Some.i c.lowest.result
+    (IsFirst-from_position _ _ _ (λ x. x ≡ 0 → ⊥) (λ x. x ≡ 0) c.in-Some.ensures.ran (YieldsList-from_slice _ (c.iter.ensures.rest ∙ tail-part c.args.k c.args.set.now)) (λ x q k. search (rules, tests)) (λ x q k. search (rules, tests)))
+    c.lowest.ensures
 
-pub overflow_add-result : goal.overflow_add-result
-overflow_add-result c = omega (arith, c.lowest.ensures.held c.if-word-ne0.true)
-
-pub returns-then-word-ne0 : goal.returns-then-word-ne0
-returns-then-word-ne0 c =
-    let held = c.lowest.ensures.held c.if-word-ne0.true in
-    first_found c.args.set.now (64 * c.args.k) c.loop-at.at c.loop-at.invariant.1 c.lowest.result c.loop-at-test.true
-    held.0 held.1 (omega (arith, c.loop-at.invariant.0)) (λ j l a. c.lowest.ensures.lower j l)
-
-pub loop-at-preserved : goal.loop-at-preserved
-loop-at-preserved c = (
-  omega arith,
-  passed-word c.args.set.now (64 * c.args.k) c.loop-at.at c.loop-at.invariant.1 (λ j l a. ap (λ (w : ℕ). bit w j) c.if-word-ne0.false ∙ bit-none j),
-)
-
-pub returns : goal.returns
-returns c =
-    first-none c.args.set.now (64 * c.args.k) c.loop-at.at c.loop-at.invariant.1 (omega arith)
+pub returns-in-None : goal.returns-in-None
+returns-in-None c =
+    words-none c.args.set.now c.args.k c.requires.0
+    (IsFirst-from_position _ _ _ (λ x. x ≡ 0 → ⊥) (λ x. x ≡ 0) c.in-None.ensures.ran (YieldsList-from_slice _ (c.iter.ensures.rest ∙ tail-part c.args.k c.args.set.now)) (λ x q k. search (rules, tests)) (λ x q k. search (rules, tests)))

@@ -1,18 +1,11 @@
 -- `compile::row_at` meets its contract. Assumes nothing.
 use mathlib.Core.Path.{sym, ◌∙◌}
-use native.Mathlib.Omega.{arith}
-use Rattle.policy.proofs.CodeFronts.{inside}
 use Rattle.compile.proofs.Leaves.{row-alone, row-with-and}
 use Rattle.compile.proofs.row_at.Goals as goal
 
 pub returns-then-kind_at-ne-AND : goal.returns-then-kind_at-ne-AND
 returns-then-kind_at-ne-AND c =
     row-alone c.args.code.now c.args.attributes.now c.args.at c.term_at-t.result c.term_at-t.ensures
-
-pub overflow_add-result : goal.overflow_add-result
-overflow_add-result c =
-    let w = inside c.args.code.now c.term_at-t.result.next (omega (arith, c.kind_at.ensures, c.if-kind_at-ne-AND.false)) in
-    omega (arith, w)
 
 pub returns : goal.returns
 returns c =

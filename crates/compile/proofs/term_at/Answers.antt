@@ -1,27 +1,20 @@
 -- `compile::term_at` meets its contract. Assumes nothing.
-use Prim.Native.Nat.{◌+◌}
-use mathlib.Core.Path.{sym, ap, subst, ◌∙◌}
 use native.Mathlib.Omega.{arith}
-use borrow.Author.Tests.{not-true, not-false}
-use Rattle.values.specs.declared.Operand.{Operand}
-use Rattle.values.specs.Operands.{no_values}
-use Rattle.compile.specs.Compiled.{TermRead}
-use Rattle.compile.proofs.Leaves.{bare-term, alone-term, compared-term}
+use Rattle.compile.proofs.Leaves.{bare-term, alone-term, compared-term, with-operands}
 use Rattle.compile.proofs.term_at.Goals as goal
 
-pub returns-then-not-v : goal.returns-then-not-v
-returns-then-not-v c =
-    let is = c.without_right.ensures ∙ ap (λ (o : Operand). record { kind = c.args.kind; left = o; right = no_values; next = c.args.at + 1 }) c.no_values.ensures in
-    subst (TermRead c.args.code.now c.args.attributes.now c.args.at) (sym is)
-    (bare-term c.args.code.now c.args.attributes.now c.args.at (omega arith) c.var_at-v.result c.var_at-v.ensures c.args.kind c.requires.1 (not-true _ c.if-not-v.true))
+pub returns-in_default : goal.returns-in_default
+returns-in_default c =
+    with-operands c.args.code.now c.args.attributes.now c.args.at _ _ c.no_values.ensures c.no_values-in_default.ensures
+    (bare-term c.args.code.now c.args.attributes.now c.args.at c.args.kind c.requires.1 c.in_default.ensures)
 
-pub returns-then-not-w : goal.returns-then-not-w
-returns-then-not-w c =
-    subst (TermRead c.args.code.now c.args.attributes.now c.args.at) (sym c.without_right-then-not-w.ensures)
-    (alone-term c.args.code.now c.args.attributes.now c.args.at (omega arith) c.var_at-v.result c.var_at-v.ensures (not-false _ c.if-not-v.false)
-    c.second_var-w.result c.second_var-w.ensures (not-true _ c.if-not-w.true))
+pub returns-in-Some-second_var : goal.returns-in-Some-second_var
+returns-in-Some-second_var c =
+    with-operands c.args.code.now c.args.attributes.now c.args.at _ _ c.operand.ensures c.operand-in-Some-second_var.ensures
+    (compared-term c.args.code.now c.args.attributes.now c.args.at (omega arith) c.in-Some.left c.in-Some.ensures
+    c.in-Some-second_var.right c.in-Some-second_var.ensures c.kind_at.result c.kind_at.ensures)
 
-pub returns : goal.returns
-returns c =
-    compared-term c.args.code.now c.args.attributes.now c.args.at (omega arith) c.var_at-v.result c.var_at-v.ensures (not-false _ c.if-not-v.false)
-    c.second_var-w.result c.second_var-w.ensures (not-false _ c.if-not-w.false) c.kind_at.result c.kind_at.ensures
+pub returns-in-None : goal.returns-in-None
+returns-in-None c =
+    with-operands c.args.code.now c.args.attributes.now c.args.at _ _ c.operand-in-None.ensures c.no_values-in-None.ensures
+    (alone-term c.args.code.now c.args.attributes.now c.args.at (omega arith) c.in-Some.left c.in-Some.ensures c.in-None.ensures)

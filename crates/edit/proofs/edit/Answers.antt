@@ -1,51 +1,47 @@
 -- `edit::edit` meets its contract: one law for each way out. Assumes nothing.
-use mathlib.Core.Path.{refl, sym, ◌∙◌}
-use lib.Dec.{eqb}
-use native.Mathlib.Omega.{arith}
+use mathlib.Core.Path.{refl, sym, subst, ◌∙◌}
 use Rattle.model.specs.Numbers as refusal
-use Rattle.tielines.specs.TieReading.{tie_by}
-use Rattle.edit.proofs.EditRefusals.{unsigned, line_of, signed-line, edit-refused, tie-refusal}
-use Rattle.edit.proofs.EditCalls.{answer-as, without-table, refused-call, accepted-call}
+use Rattle.codes.specs.declared.Refusal.TheVariants.{Unframed}
+use Rattle.codes.specs.Enums.{refusal_number}
+use Rattle.fields.specs.Frames.{Signed}
+use Rattle.tielines.proofs.TieRefusals.{refused_for}
+use Rattle.edit.proofs.Exits.{handed-on, none-there}
+use Rattle.edit.proofs.EditRefusals.{unsigned, line_of, plus-is, signed-line, edit-refused, tie-refusal}
+use Rattle.edit.proofs.EditCalls.{without-table, refused-call, accepted-call}
 use Rattle.edit.proofs.edit.Goals as goal
 
 pub returns-then-table-ne-TABLE_WORDS : goal.returns-then-table-ne-TABLE_WORDS
-returns-then-table-ne-TABLE_WORDS c =
-    answer-as c.refused.ensures (without-table c.args.line.now c.args.book.now c.args.table.now refusal.wrong_table c.if-table-ne-TABLE_WORDS.true refl)
+returns-then-table-ne-TABLE_WORDS c = without-table c.args.line.now c.args.book.now c.args.table.now refusal.wrong_table c.if-table-ne-TABLE_WORDS.true refl
 
-pub returns-then-sign-eq0 : goal.returns-then-sign-eq0
-returns-then-sign-eq0 c =
-    answer-as c.refused-then-sign-eq0.ensures (refused-call c.args.line.now c.args.book.now c.args.table.now refusal.unframed c.if-table-ne-TABLE_WORDS.false (λ z. omega (arith, z))
-    (λ S code standing held. unsigned S c.args.line.now c.sign-sign.result c.sign-sign.ensures c.if-sign-eq0.true))
+pub returns-in_err-sign : goal.returns-in_err-sign
+returns-in_err-sign c =
+    let (absent, unframed) = none-there c.sign_of.result c.in_err-sign.ensures.value in
+    rw (handed-on c.from_residual.result c.from_residual.ensures.1, unframed)
+    (refused-call c.args.line.now c.args.book.now c.args.table.now (refusal_number Unframed) c.if-table-ne-TABLE_WORDS.false (refused_for Unframed)
+    (λ S code standing held. unsigned S c.args.line.now (subst (Signed c.args.line.now) absent c.sign_of.ensures)))
 
-pub slice_bounds-tie_of_line-count : goal.slice_bounds-tie_of_line-count
-slice_bounds-tie_of_line-count c = c.sign-sign.ensures.within c.if-sign-eq0.false
+pub returns-in_err-t : goal.returns-in_err-t
+returns-in_err-t c =
+    let signed =
+    signed-line c.args.line.now (subst (Signed c.args.line.now) c.in_ok-sign.ensures.ok_part c.sign_of.ensures) (c.eq-plus.ensures ∙ plus-is c.in_ok-sign.sign) in
+    rw (handed-on c.from_residual-in_err-t.result c.from_residual-in_err-t.ensures.1)
+    (refused-call c.args.line.now c.args.book.now c.args.table.now (refusal_number c.in_err-t.field-0.0) c.if-table-ne-TABLE_WORDS.false (refused_for c.in_err-t.field-0.0)
+    (λ S code standing held. edit-refused S c.args.line.now c.eq-plus.result (line_of c.args.line.now) signed (c.tie_of_line.ensures S code standing held) c.in_err-t.was))
 
-pub slice_bounds-tie_of_line-start : goal.slice_bounds-tie_of_line-start
-slice_bounds-tie_of_line-start c = c.sign-sign.ensures.within c.if-sign-eq0.false
-
-pub returns-then-t-ne0 : goal.returns-then-t-ne0
-returns-then-t-ne0 c =
-    let plus = eqb c.sign-sign.result 1 in
-    let signed = signed-line c.args.line.now c.sign-sign.result c.sign-sign.ensures c.if-sign-eq0.false in
-    let t = tie_by c.tie_of_line-t.result.key c.tie_of_line-t.result.lower c.tie_of_line-t.result.upper in
-    answer-as c.refused-then-t-ne0.ensures (refused-call c.args.line.now c.args.book.now c.args.table.now c.tie_of_line-t.result.number c.if-table-ne-TABLE_WORDS.false c.if-t-ne0.true
-    (λ S code standing held. edit-refused S c.args.line.now plus (line_of c.args.line.now) signed c.tie_of_line-t.result.number t (c.tie_of_line-t.ensures S code standing held) c.if-t-ne0.true))
-
-pub returns-then-number-ne0 : goal.returns-then-number-ne0
-returns-then-number-ne0 c =
-    let plus = eqb c.sign-sign.result 1 in
-    let signed = signed-line c.args.line.now c.sign-sign.result c.sign-sign.ensures c.if-sign-eq0.false in
-    let t = tie_by c.tie_of_line-t.result.key c.tie_of_line-t.result.lower c.tie_of_line-t.result.upper in
-    answer-as c.refused-then-number-ne0.ensures (refused-call c.args.line.now c.args.book.now c.args.table.now c.refusal-number.result c.if-table-ne-TABLE_WORDS.false c.if-number-ne0.true
+pub returns-in_err-judge : goal.returns-in_err-judge
+returns-in_err-judge c =
+    let signed =
+    signed-line c.args.line.now (subst (Signed c.args.line.now) c.in_ok-sign.ensures.ok_part c.sign_of.ensures) (c.eq-plus.ensures ∙ plus-is c.in_ok-sign.sign) in
+    rw (handed-on c.from_residual-in_err-judge.result c.from_residual-in_err-judge.ensures.1)
+    (refused-call c.args.line.now c.args.book.now c.args.table.now (refusal_number c.in_err-judge.field-0.0) c.if-table-ne-TABLE_WORDS.false (refused_for c.in_err-judge.field-0.0)
     (λ S code standing held.
-    let read = c.tie_of_line-t.ensures S code standing held in
-    let fits = read.fits c.if-t-ne0.false in
-    tie-refusal S c.args.line.now plus (line_of c.args.line.now) signed c.tie_of_line-t.result.number t read c.if-t-ne0.false ∙ sym (c.refusal-number.ensures S code standing held fits)))
+    let read = c.tie_of_line.ensures S code standing held in
+    tie-refusal S c.args.line.now c.eq-plus.result (line_of c.args.line.now) signed read c.in_ok-t.was
+    ∙ sym (c.in_err-judge.ensures S code standing held (read.fits c.in_ok-t.t c.in_ok-t.was))))
 
 pub returns : goal.returns
 returns c =
-    let plus = eqb c.sign-sign.result 1 in
-    let signed = signed-line c.args.line.now c.sign-sign.result c.sign-sign.ensures c.if-sign-eq0.false in
-    let t = tie_by c.tie_of_line-t.result.key c.tie_of_line-t.result.lower c.tie_of_line-t.result.upper in
+    let signed =
+    signed-line c.args.line.now (subst (Signed c.args.line.now) c.in_ok-sign.ensures.ok_part c.sign_of.ensures) (c.eq-plus.ensures ∙ plus-is c.in_ok-sign.sign) in
     accepted-call c.args.line.now c.args.book.now c.args.table.now c.apply-done.new.table c.apply-done.new.book c.apply-done.result.changed c.apply-done.result.joins c.if-table-ne-TABLE_WORDS.false c.apply-done.auto.table c.apply-done.auto.book
-    plus (line_of c.args.line.now) signed c.tie_of_line-t.result.number t c.tie_of_line-t.ensures c.if-t-ne0.false c.refusal-number.result c.refusal-number.ensures c.if-number-ne0.false c.apply-done.ensures.0 c.apply-done.ensures.1
+    c.eq-plus.result (line_of c.args.line.now) signed c.tie_of_line.ensures c.in_ok-t.was c.in_ok-judge.ensures refl c.apply-done.ensures.0 c.apply-done.ensures.1

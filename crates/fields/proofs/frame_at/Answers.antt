@@ -1,46 +1,29 @@
 -- `fields::frame_at` meets its contract.
-use mathlib.Core.Path.{sym, ◌∙◌}
-use native.Mathlib.Omega.{arith}
-use lib.ListN.{take}
-use lib.Seq.{length-take-le}
-use Rattle.fields.proofs.Frames.{no-equals, no_key, keyed, no_end, more-behind, too_long_lem, fits, unframed, told}
+use Rattle.std.proofs.Common.{subst, sym, rules, arith}
+use Rattle.fields.specs.Frames.{FrameTold}
+use Rattle.fields.proofs.Frames.{no_end, more_behind, too_long, keyed_told}
 use Rattle.fields.proofs.frame_at.Goals as goal
+use Rattle.fields.proofs.frame_at.Goals.{then-end-line-via-then-end-line, then-end-line-via-else-end-line+then-end-gt-LINE_BYTES}
 
-pub returns-then-line-end : goal.returns-then-line-end
-returns-then-line-end c =
-    unframed c.args.line.now c.no_frame.ensures (no_end c.args.line.now c.args.end c.requires c.if-line-end.true)
+pub returns-in_err-end : goal.returns-in_err-end
+returns-in_err-end c = subst (FrameTold c.args.line.now) (sym c.from_residual.ensures) (no_end _ (c.requires.absent c.in_err-end.was))
 
-pub returns-then-next-line : goal.returns-then-next-line
-returns-then-next-line c =
-    unframed c.args.line.now c.no_frame-then-next-line.ensures (more-behind c.args.line.now c.args.end c.requires c.if-next-line.true)
+pub overflow_add-end : goal.overflow_add-end
+overflow_add-end c = omega (arith, c.requires.found _ c.in_ok-end.was)
 
-pub returns-then-end-gt-LINE_BYTES : goal.returns-then-end-gt-LINE_BYTES
-returns-then-end-gt-LINE_BYTES c =
-    unframed c.args.line.now c.no_frame-then-end-gt-LINE_BYTES.ensures (too_long_lem c.args.line.now c.args.end c.requires (omega arith) (omega arith) c.if-end-gt-LINE_BYTES.true)
+pub returns-then-end-line : goal.returns-then-end-line
+returns-then-end-line c =
+    let first = c.requires.found _ c.in_ok-end.was in
+    elim c.then-end-line.branch [
+      | then-end-line-via-then-end-line w ↦ more_behind _ first w.if-end-line.true
+      | then-end-line-via-else-end-line+then-end-gt-LINE_BYTES w ↦ too_long _ first w.if-end-line.false w.if-end-gt-LINE_BYTES.true
+    ]
 
-pub slice_bounds-content-end : goal.slice_bounds-content-end
-slice_bounds-content-end c = sym (length-take-le c.args.end c.args.line.now (omega arith))
+pub returns-in_err-key : goal.returns-in_err-key
+returns-in_err-key c = keyed_told _ (c.requires.found _ c.in_ok-end.was) (omega arith) (omega arith) (search rules)
 
-pub returns-then-end-e : goal.returns-then-end-e
-returns-then-end-e c =
-    let l = length-take-le c.args.end c.args.line.now (omega arith) in
-    unframed c.args.line.now c.no_frame-then-end-e.ensures
-    (fits c.args.line.now c.args.end c.requires (omega arith) (omega arith) (omega arith) ∙ no-equals (take c.args.end c.args.line.now) c.index_of-e.result c.index_of-e.ensures (omega arith))
-
-pub slice_bounds-key_of-end : goal.slice_bounds-key_of-end
-slice_bounds-key_of-end c =
-    let l = length-take-le c.args.end c.args.line.now (omega arith) in
-    sym (length-take-le c.index_of-e.result (take c.args.end c.args.line.now) (omega arith))
-
-pub returns-then-key-eq0 : goal.returns-then-key-eq0
-returns-then-key-eq0 c =
-    let l = length-take-le c.args.end c.args.line.now (omega arith) in
-    unframed c.args.line.now c.no_frame-then-key-eq0.ensures
-    (fits c.args.line.now c.args.end c.requires (omega arith) (omega arith) (omega arith)
-    ∙ no_key (take c.args.end c.args.line.now) c.index_of-e.result c.index_of-e.ensures (omega arith) (sym c.if-key-eq0.true ∙ c.key_of-key.ensures))
+pub returns-in_err-key_of : goal.returns-in_err-key_of
+returns-in_err-key_of c = keyed_told _ (c.requires.found _ c.in_ok-end.was) (omega arith) (omega arith) (search rules)
 
 pub returns : goal.returns
-returns c =
-    let l = length-take-le c.args.end c.args.line.now (omega arith) in
-    let (k, n, r) = keyed (take c.args.end c.args.line.now) c.index_of-e.result c.index_of-e.ensures (omega arith) c.key_of-key.ensures c.if-key-eq0.false in
-    told c.args.line.now k c.key_of-key.result c.index_of-e.result c.args.end n (omega arith) (omega arith) (fits c.args.line.now c.args.end c.requires (omega arith) (omega arith) (omega arith) ∙ r)
+returns c = keyed_told _ (c.requires.found _ c.in_ok-end.was) (omega arith) (omega arith) (search rules)

@@ -2,5 +2,5 @@
 use Rattle.host.proofs.NumberParts.{edit-unpacked}
 use Rattle.host.proofs.zhul_edit.Goals as goal
 
-pub returns : goal.returns
-returns c = edit-unpacked c.pack.ensures c.edit-edited.ensures
+pub returns-in-Ok : goal.returns-in-Ok
+returns-in-Ok c = edit-unpacked c.pack.ensures c.in-Ok.ensures

@@ -1,15 +1,22 @@
 -- `index::link_place` meets its contract. Assumes nothing.
 use native.Mathlib.Omega.{arith}
+use Rattle.std.specs.Prelude.{Some, None}
+use Rattle.std.proofs.lemmas.Option.{IfSome_then}
 use Rattle.index.proofs.Relinking.{passes_on, passes-end}
 use Rattle.index.proofs.link_place.Goals as goal
 
-pub loop-v-preserved : goal.loop-v-preserved
-loop-v-preserved c = (
-  omega (arith, c.loop-v.invariant.0, c.link-v-in-loop-v.ensures.1),
-  omega (arith, c.loop-v.invariant.0, c.loop-v-test.true),
-  passes_on _ _ _ c.loop-v.place c.loop-v.v _ c.loop-v-test.true c.loop-v.invariant.2 c.link-v-in-loop-v.ensures.0,
-)
+pub returns-then-k-number : goal.returns-then-k-number
+returns-then-k-number c =
+    passes-end _ _ _ _ (Some c.in-Some.k) (omega arith) c.loop-at.invariant.1 (rw c.in-Some.is at c.loop-at.invariant.2)
+
+pub loop-at-preserved : goal.loop-at-preserved
+loop-at-preserved c =
+    let (low, within, passes) = rw c.in-Some.is at c.loop-at.invariant in (
+      IfSome_then c.link-at-in-Some.result c.link-at-in-Some.ensures.1 (λ j below. omega arith),
+      omega (arith, low),
+      passes_on _ _ _ c.loop-at.place c.in-Some.k _ (omega arith) passes c.link-at-in-Some.ensures.0,
+    )
 
 pub returns : goal.returns
 returns c =
-    passes-end _ _ _ c.loop-v.place c.loop-v.v (omega (arith, c.loop-v-test.false)) c.loop-v.invariant.1 c.loop-v.invariant.2
+    passes-end _ _ _ _ None (omega arith) c.loop-at.invariant.1 (rw c.in_default.is at c.loop-at.invariant.2)

@@ -3,4 +3,4 @@ use Rattle.index.proofs.Relinking.{row-removed}
 use Rattle.index.proofs.remove.Goals as goal
 
 pub returns : goal.returns
-returns c = row-removed _ _ _ _ _ c.requires.1 c.rows_in-n.ensures c.hash-chain.ensures.0 c.link_place-place.ensures c.put_row.ensures
+returns c = row-removed _ _ _ _ _ c.requires.1 c.rows_in-n.ensures c.hash.ensures.0 c.link_place-place.ensures c.put_row.ensures

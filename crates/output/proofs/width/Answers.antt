@@ -1,6 +1,6 @@
 -- `width` meets its contract.
 use Prim.Native.Nat.{◌-◌, ◌/◌, ◌^◌, ◌<◌}
-use mathlib.Core.Path.{◌≡◌}
+use mathlib.Core.Path.{◌≡◌, ◌∙◌}
 use native.Mathlib.Omega.{arith}
 use lib.ListN.{length}
 use lib.Count.{count_leading_zeros, leading_le}
@@ -12,4 +12,6 @@ pub returns : goal.returns
 returns c =
     let small : c.args.word < 256 ^ 8 = omega arith in
     let e : (71 - count_leading_zeros 64 c.args.word) / 8 ≡ length (word_text 8 c.args.word) = word_width 8 c.args.word small in
-    (e, omega (arith, leading_le 64 c.args.word))
+    let most = leading_le 64 c.args.word in
+    let z : 8 - count_leading_zeros 64 c.args.word / 8 ≡ (71 - count_leading_zeros 64 c.args.word) / 8 = omega (arith, most) in
+    (z ∙ e, omega arith)

@@ -1,31 +1,29 @@
 -- `printing::put_decision` meets its contract, by cases.
-use Prim.Native.Nat.{ℕ}
-use mathlib.Core.Path.{◌≡◌, sym, subst}
+use mathlib.Core.Path.{sym}
 use native.Mathlib.Omega.{arith}
-use Rattle.model.specs.Bytes.{Bytes}
-use Rattle.model.specs.Ledger.{decided}
 use Rattle.model.specs.Gate.{printed}
-use Rattle.request.specs.declared.Decision.{Decision}
-use Rattle.request.specs.Decisions.{decision_of}
-use Rattle.printing.specs.Printing.{PrintedAt}
 use Rattle.printing.proofs.put_decision.Goals as goal
-
-as-decided : {before : Bytes} {at : ℕ} {after : Bytes} {r : ℕ} {d e : Decision} → d ≡ e → PrintedAt before at (printed (decided (decision_of e))) after r
-    → PrintedAt before at (printed (decided (decision_of d))) after r
-as-decided {before} {at} {after} {r} e p = subst (λ (d : Decision). PrintedAt before at (printed (decided (decision_of d))) after r) (sym e) p
 
 pub returns-in-Permit : goal.returns-in-Permit
 unfolding printed
-returns-in-Permit c = as-decided c.in-Permit.is c.put_number.ensures
+returns-in-Permit c = rw (c.in-Permit.is, sym c.from.ensures) c.put_number.ensures
 
 pub returns-in-Deny : goal.returns-in-Deny
 unfolding printed
-returns-in-Deny c = as-decided c.in-Deny.is (record { laid = c.put.ensures; short = omega arith })
+returns-in-Deny c = rw c.in-Deny.is (record { laid = c.put.ensures; short = omega arith })
 
-pub returns-in-Undefined : goal.returns-in-Undefined
+pub returns-in-Undefined-Absent : goal.returns-in-Undefined-Absent
 unfolding printed
-returns-in-Undefined c = as-decided c.in-Undefined.is c.put_undefined.ensures
+returns-in-Undefined-Absent c =
+    let told = rw c.in-Undefined-Absent.is at c.in-Undefined-Absent.field-0-is in
+    rw (c.in-Undefined-Absent.is, told) (record { laid = c.put-in-Undefined-Absent.ensures; short = omega arith })
+
+pub returns-in-Undefined-Unlike : goal.returns-in-Undefined-Unlike
+unfolding printed
+returns-in-Undefined-Unlike c =
+    let told = rw c.in-Undefined-Unlike.is at c.in-Undefined-Unlike.field-0-is in
+    rw (c.in-Undefined-Unlike.is, told) (record { laid = c.put-in-Undefined-Unlike.ensures; short = omega arith })
 
 pub returns-in-Refused : goal.returns-in-Refused
 unfolding printed
-returns-in-Refused c = as-decided c.in-Refused.is c.put_number-in-Refused.ensures
+returns-in-Refused c = rw (c.in-Refused.is, sym c.from-in-Refused.ensures) c.put_number-in-Refused.ensures

@@ -11,27 +11,27 @@ returns-then-table-ne-TABLE_WORDS c = promised (λ d. refl) (λ S standing holds
 pub returns-then-not-is_block : goal.returns-then-not-is_block
 returns-then-not-is_block c = promised (λ d. absurd (d c.if-table-ne-TABLE_WORDS.false)) (λ S standing holds e. no_block S c.args.block.now (sym c.is_block.ensures ∙ c.if-not-is_block.true))
 
-pub slice_bounds-entries-count : goal.slice_bounds-entries-count
-slice_bounds-entries-count c = omega (arith, block_room c.args.block.now (sym c.is_block.ensures ∙ c.if-not-is_block.false))
+pub slice_bounds-request-count : goal.slice_bounds-request-count
+slice_bounds-request-count c = block_room c.args.block.now (sym c.is_block.ensures ∙ c.if-not-is_block.false)
 
-pub slice_bounds-entries-start : goal.slice_bounds-entries-start
-slice_bounds-entries-start c = omega (arith, block_room c.args.block.now (sym c.is_block.ensures ∙ c.if-not-is_block.false))
+pub slice_bounds-request-start : goal.slice_bounds-request-start
+slice_bounds-request-start c = omega (arith, block_room c.args.block.now (sym c.is_block.ensures ∙ c.if-not-is_block.false))
 
-pub wrong_number-requires : goal.wrong_number-requires
-wrong_number-requires c = (omega arith, omega arith, omega arith, block_room c.args.block.now (sym c.is_block.ensures ∙ c.if-not-is_block.false))
+pub invariant_of-request : goal.invariant_of-request
+invariant_of-request c = record {
+  head = block_room c.args.block.now (sym c.is_block.ensures ∙ c.if-not-is_block.false);
+  bytes = λ i. (c.type_inv.block i).fits;
+}
 
 pub returns-then-wrong_number : goal.returns-then-wrong_number
 returns-then-wrong_number c = promised
     (λ d. absurd (d c.if-table-ne-TABLE_WORDS.false))
-    (λ S standing holds e. refuses-numbers standing holds c.args.block.now
-    (λ i. (c.type_inv.block i).fits) (sym c.is_block.ensures ∙ c.if-not-is_block.false) c.wrong_number.result c.wrong_number.ensures c.if-wrong_number.true)
-
-pub answered-requires : goal.answered-requires
-answered-requires c = (omega arith, record { targets-long = omega arith; code-long = omega arith; pairs-long = omega arith }, omega arith, block_room c.args.block.now (sym c.is_block.ensures ∙ c.if-not-is_block.false))
+    (λ S standing holds e. refuses-numbers standing holds c.args.block.now (λ i. (c.type_inv.block i).fits) (sym c.is_block.ensures ∙ c.if-not-is_block.false)
+    c.section.ensures c.section-4.ensures c.section-2.ensures c.wrong_number.result c.wrong_number.ensures c.if-wrong_number.true)
 
 pub returns : goal.returns
 returns c = promised
     (λ d. absurd (d c.if-table-ne-TABLE_WORDS.false))
-    (λ S standing holds e. answers standing holds c.args.block.now
-    (λ i. (c.type_inv.block i).fits) (sym c.is_block.ensures ∙ c.if-not-is_block.false) c.wrong_number.result c.wrong_number.ensures c.if-wrong_number.false
-    c.args.table.now e c.answered.result c.answered.ensures)
+    (λ S standing holds e. answers standing holds c.args.block.now (λ i. (c.type_inv.block i).fits) (sym c.is_block.ensures ∙ c.if-not-is_block.false)
+    c.section.ensures c.section-4.ensures c.section-2.ensures c.wrong_number.result c.wrong_number.ensures c.if-wrong_number.false
+    c.section-5.ensures c.section-3.ensures c.args.table.now e c.answered.result c.answered.ensures)

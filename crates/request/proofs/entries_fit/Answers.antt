@@ -5,43 +5,13 @@ use Rattle.model.specs.Refusals.{entry_fits}
 use Rattle.request.proofs.EntryTests.{all_fit, one-does-not, so_far, told_of}
 use Rattle.request.proofs.entries_fit.Goals as goal
 
-pub loop-i-init : goal.loop-i-init
-loop-i-init c = (omega arith, λ D ar j h. absurd (omega arith))
-
-pub overflow_mul-i : goal.overflow_mul-i
-overflow_mul-i c = omega arith
-
-pub overflow_add-i : goal.overflow_add-i
-overflow_add-i c = omega arith
-
-pub four-value-requires : goal.four-value-requires
-four-value-requires c = omega arith
-
-pub overflow_mul-i-in-loop-i : goal.overflow_mul-i-in-loop-i
-overflow_mul-i-in-loop-i c = omega arith
-
-pub bounds-entries-i : goal.bounds-entries-i
-bounds-entries-i c = omega arith
-
-pub entry_fits-requires : goal.entry_fits-requires
-entry_fits-requires c = c.requires
-
 pub returns-then-not-entry_fits : goal.returns-then-not-entry_fits
 returns-then-not-entry_fits c = λ D ar n e. one-does-not c.args.entries.now (entry_fits D) n e c.loop-i.i (omega arith)
     (told_of c.args.entries.now D c.loop-i.i c.four-value.result c.four-value.ensures c.entry_fits.result (c.entry_fits.ensures D ar) false c.if-not-entry_fits.true)
 
-pub overflow_step-i : goal.overflow_step-i
-overflow_step-i c = omega arith
-
-pub loop-i-smaller : goal.loop-i-smaller
-loop-i-smaller c = omega arith
-
 pub loop-i-preserved : goal.loop-i-preserved
-loop-i-preserved c = (
-  omega arith,
-  λ D ar. so_far c.args.entries.now (entry_fits D) c.loop-i.i (c.loop-i.invariant.1 D ar)
-      (told_of c.args.entries.now D c.loop-i.i c.four-value.result c.four-value.ensures c.entry_fits.result (c.entry_fits.ensures D ar) true c.if-not-entry_fits.false),
-)
+loop-i-preserved c = λ D ar. so_far c.args.entries.now (entry_fits D) c.loop-i.i (c.loop-i.invariant D ar)
+    (told_of c.args.entries.now D c.loop-i.i c.four-value.result c.four-value.ensures c.entry_fits.result (c.entry_fits.ensures D ar) true c.if-not-entry_fits.false)
 
 pub returns : goal.returns
-returns c = λ D ar n e. all_fit c.args.entries.now (entry_fits D) n e (λ j h. c.loop-i.invariant.1 D ar j (omega arith))
+returns c = λ D ar n e. all_fit c.args.entries.now (entry_fits D) n e (λ j h. c.loop-i.invariant D ar j (omega arith))

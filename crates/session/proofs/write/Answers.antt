@@ -1,6 +1,7 @@
--- `session::write` meets its contract. Assumes nothing.
-use Rattle.session.proofs.Words.{stores}
+-- `session::write` meets its contract: the words passed stand in their places, and the others as before. Assumes nothing.
+use native.Mathlib.Omega.{arith}
+use Rattle.session.proofs.Words.{words-written}
 use Rattle.session.proofs.write.Goals as goal
 
 pub returns : goal.returns
-returns c = stores c.args.session.now c.args.k c.args.words c.requires.0 c.requires.1
+returns c = words-written c.args.session.now c.loop-i.session c.args.words c.args.k (λ j h. c.loop-i.invariant.0 j (omega arith)) c.loop-i.invariant.1

@@ -14,6 +14,7 @@ use Rattle.model.proofs.Lists.{or_cases}
 use Rattle.ties.specs.TieArrays.{in_use, tied_up}
 use Rattle.sets.proofs.Laws.{settled-none, settled-less, spared-none, spared-more, spared-own, group-new, not-open, not-high, deep_step, turn, settled-own}
 use Rattle.sets.proofs.+settle.Goals as goal
+use Rattle.sets.proofs.+settle.Goals.{then-has-via-then-has, then-has-via-else-has+then-has-2, then-has-via-else-has+else-has-2+then-height-eq0, then-has-via-else-has+else-has-2+else-height-eq0+then-not-in_use}
 
 tied_by : (ups : List ℕ) (k q mask : ℕ) → mask ≡ get_or ups k 0 → bit mask q ≡ true → tied_up ups k q ≡ true
 unfolding tied_up
@@ -21,27 +22,23 @@ tied_by ups k q mask e on = ap (λ (m : ℕ). bit m q) (sym e) ∙ on
 
 pub returns-then-has : goal.returns-then-has
 returns-then-has t c =
-    (settled-none _ _ _ _ _ (λ dp g l u e. ap (bit c.args.done) e ∙ sym c.if-has.ensures), spared-none c.args.path c.args.done)
-
-pub returns-then-has-2 : goal.returns-then-has-2
-returns-then-has-2 t c = (
-  settled-none _ _ _ _ _ (λ dp g l u e. absurd (not-open c.args.ups.now c.args.slots.now c.args.path c.args.height c.args.group
-      c.requires.2 (sym c.if-has-2.ensures) (ap (in_use _ _) (sym e) ∙ u) dp)),
-  spared-none c.args.path c.args.done,
-)
-
-pub returns-then-height-eq0 : goal.returns-then-height-eq0
-returns-then-height-eq0 t c = (
-  settled-none _ _ _ _ _ (λ dp g l u e. absurd (not-high c.args.ups.now c.args.slots.now c.args.path c.args.height c.args.group
-      c.if-height-eq0.true (ap (in_use _ _) (sym e) ∙ u) dp)),
-  spared-none c.args.path c.args.done,
-)
-
-pub returns-then-not-in_use : goal.returns-then-not-in_use
-returns-then-not-in_use t c = (
-  settled-none _ _ _ _ _ (λ dp g l u e. absurd (true≢false (sym u ∙ ap (in_use _ _) e ∙ sym c.if-not-in_use.ensures))),
-  spared-none c.args.path c.args.done,
-)
+    elim c.then-has.branch [
+      | then-has-via-then-has w ↦ (settled-none _ _ _ _ _ (λ dp g l u e. ap (bit c.args.done) e ∙ sym w.if-has.ensures), spared-none c.args.path c.args.done)
+      | then-has-via-else-has+then-has-2 w ↦ (
+        settled-none _ _ _ _ _ (λ dp g l u e. absurd (not-open c.args.arrays.now.ups.now c.args.arrays.now.slots.now c.args.path c.args.height c.args.group
+            c.requires.2 (sym w.if-has-2.ensures) (ap (in_use _ _) (sym e) ∙ u) dp)),
+        spared-none c.args.path c.args.done,
+      )
+      | then-has-via-else-has+else-has-2+then-height-eq0 w ↦ (
+        settled-none _ _ _ _ _ (λ dp g l u e. absurd (not-high c.args.arrays.now.ups.now c.args.arrays.now.slots.now c.args.path c.args.height c.args.group
+            w.if-height-eq0.true (ap (in_use _ _) (sym e) ∙ u) dp)),
+        spared-none c.args.path c.args.done,
+      )
+      | then-has-via-else-has+else-has-2+else-height-eq0+then-not-in_use w ↦ (
+        settled-none _ _ _ _ _ (λ dp g l u e. absurd (true≢false (sym u ∙ ap (in_use _ _) e ∙ sym w.if-not-in_use.ensures))),
+        spared-none c.args.path c.args.done,
+      )
+    ]
 
 pub loop-left-init : goal.loop-left-init
 loop-left-init t c = (
@@ -63,8 +60,8 @@ loop-left-smaller t c =
 pub loop-left-preserved : goal.loop-left-preserved
 loop-left-preserved t c =
     let inv = c.loop-left.invariant in
-    let ups = c.args.ups.now in
-    let slots = c.args.slots.now in
+    let ups = c.args.arrays.now.ups.now in
+    let slots = c.args.arrays.now.slots.now in
     let group = c.args.group in
     let q = c.lowest-q.result in
     let held = c.lowest-q.ensures.held c.loop-left-test.true in
@@ -82,8 +79,8 @@ pub returns : goal.returns
 returns t c =
     let inv = c.loop-left.invariant in
     let group = c.args.group in (
-      settled-own c.store_group.result group (get_or c.args.slots.now group 0) c.ties_up-mask.result c.requires.2 (sym c.if-not-in_use.ensures) inv.0 refl
-          (c.ties_up-mask.ensures ∙ ap (λ (k : ℕ). get_or c.args.ups.now k 0) c.holder_at-k.ensures)
+      settled-own c.store_group.result group (get_or c.args.arrays.now.slots.now group 0) c.ties_up-mask.result c.requires.2 (sym c.if-not-in_use.ensures) inv.0 refl
+          (c.ties_up-mask.ensures ∙ ap (λ (k : ℕ). get_or c.args.arrays.now.ups.now k 0) c.holder_at-k.ensures)
           (group-new c.args.path c.with-below.result group c.args.done c.loop-left.seen c.with-below.ensures inv.3 (sym c.if-has.ensures))
           (settled-less (λ g. bit c.ties_up-mask.result g ≡ true) inv.4 (λ g x. (x, ap (λ (w : ℕ). bit w g) c.loop-left-test.false ∙ bit-none g)))
           c.store_group.ensures.0 c.store_group.ensures.1 c.store_group.ensures.2,

@@ -13,9 +13,9 @@ decreases-settle l = l.height
 
 abbrev pub invariant-loop-left : goal.invariant-loop-left
 invariant-loop-left l =
-    (length l.table ≡ 4 * length l.ups) × (length l.marks ≡ length l.initial.marks) × ((q : ℕ) → q < 64 → bit l.left q ≡ true → bit l.mask q ≡ true)
+    (length l.table ≡ 4 * length l.arrays.ups.now) × (length l.marks ≡ length l.initial.marks) × ((q : ℕ) → q < 64 → bit l.left q ≡ true → bit l.mask q ≡ true)
     × Spared l.below l.done l.seen
-    × Settled l.ups l.own l.slots l.initial.table l.table l.initial.marks l.marks l.done l.seen (Deep l.ups l.slots l.path l.height l.group)
+    × Settled l.arrays.ups.now l.arrays.own.now l.arrays.slots.now l.initial.table l.table l.initial.marks l.marks l.done l.seen (Deep l.arrays.ups.now l.arrays.slots.now l.path l.height l.group)
     (λ g. (bit l.mask g ≡ true) × (bit l.left g ≡ false))
 
 abbrev pub decreases-loop-left : goal.decreases-loop-left

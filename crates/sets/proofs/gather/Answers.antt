@@ -23,7 +23,7 @@ loop-above-preserved c p h =
     let held = c.lowest-q.ensures.held c.loop-above-test.true in
     let f : ℕ → Bool = λ q. holds c.args.table.now (get_or c.args.slots.now q 0) p in
     let rest : Bool = any_below 64 (λ q. bit c.without-above.result q && f q) in
-    ap (λ (b : Bool). b || rest) (c.inherit-next.ensures p h ∙ ap (λ (k : ℕ). member c.loop-above.sum p || holds c.args.table.now k p) c.holder_at-k.ensures)
+    ap (λ (b : Bool). b || rest) (c.inherit-next.ensures p h ∙ ap (λ (k : ℕ). member c.loop-above.sum p || holds c.args.table.now k p) c.holder_at.ensures)
     ∙ or_assoc (member c.loop-above.sum p) (f q) rest
     ∙ ap (λ (b : Bool). member c.loop-above.sum p || b) (sym (any_left c.loop-above.above c.without-above.result q held.1 c.without-above.ensures 64 f held.0))
     ∙ c.loop-above.invariant p h

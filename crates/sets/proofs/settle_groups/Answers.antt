@@ -23,7 +23,7 @@ loop-left-preserved c =
       c.settle-seen.auto.table ∙ c.loop-left.invariant.0,
       c.settle-seen.auto.marks ∙ c.loop-left.invariant.1,
       turn (λ q. q < 64) c.loop-left.left c.lowest-g.result c.without-left.result c.without-left.ensures c.loop-left.invariant.2 c.settle-seen.ensures.0
-          (deep-start c.args.ups.now c.args.slots.now c.lowest-g.result held.0),
+          (deep-start c.args.arrays.now.ups.now c.args.arrays.now.slots.now c.lowest-g.result held.0),
     )
 
 pub returns : goal.returns

@@ -9,8 +9,8 @@ use Rattle.sets.proofs.settle_groups.Given as goal
 
 abbrev pub invariant-loop-left : goal.invariant-loop-left
 invariant-loop-left l =
-    (length l.table ≡ 4 * length l.ups) × (length l.marks ≡ length l.initial.marks)
-    × Settled l.ups l.own l.slots l.initial.table l.table l.initial.marks l.marks l.done l.seen (AllDeep l.ups l.slots) (λ q. (q < 64) × (bit l.left q ≡ false))
+    (length l.table ≡ 4 * length l.arrays.ups.now) × (length l.marks ≡ length l.initial.marks)
+    × Settled l.arrays.ups.now l.arrays.own.now l.arrays.slots.now l.initial.table l.table l.initial.marks l.marks l.done l.seen (AllDeep l.arrays.ups.now l.arrays.slots.now) (λ q. (q < 64) × (bit l.left q ≡ false))
 
 abbrev pub decreases-loop-left : goal.decreases-loop-left
 decreases-loop-left l = count_below 64 (bit l.left)

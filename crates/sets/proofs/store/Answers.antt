@@ -19,7 +19,7 @@ returns c =
     let long : length c.rewrite.new.set ≡ 4 = omega (arith, c.rewrite.auto.set, mid_len (4 * c.args.k) (4 * c.args.k + 4) c.args.table.now (omega arith)) in (
       record {
         pairs = λ low p h. holds-put c.args.table.now c.rewrite.new.set c.args.k few long p h
-            ∙ (rw (member-part c.args.own.now c.args.k p h, c.gather-sum.ensures p h) at (c.rewrite.ensures.0 p h));
+            ∙ (rw (member-part c.args.arrays.now.own.now c.args.k p h, c.gather-sum.ensures p h) at (c.rewrite.ensures.0 p h));
         others = put-others c.args.table.now c.rewrite.new.set c.args.k few long;
       },
       c.rewrite.ensures.1 ∙ unlike-put c.args.table.now c.rewrite.new.set c.args.k few long,

@@ -9,10 +9,8 @@ pub loop-k-preserved : goal.loop-k-preserved
 loop-k-preserved c =
     elim c.if-up-ne0.branch [
       | then-up-ne0 w ↦ rw w.table-is (
-        omega arith,
-        refl,
-        w.store.auto.table ∙ c.loop-k.invariant.2,
-        tied-stored c.loop-k.invariant.3 _ (omega arith) c.loop-k.invariant.2 refl w.store.ensures.0,
+        w.store.auto.table ∙ c.loop-k.invariant.0,
+        tied-stored c.loop-k.invariant.1 _ (omega arith) c.loop-k.invariant.0 refl w.store.ensures.0,
       )
-      | else-up-ne0 w ↦ rw w.table-is (omega arith, refl, c.loop-k.invariant.2, tied-passed c.loop-k.invariant.3 w.if-up-ne0.false)
+      | else-up-ne0 w ↦ rw w.table-is (c.loop-k.invariant.0, tied-passed c.loop-k.invariant.1 w.if-up-ne0.false)
     ]

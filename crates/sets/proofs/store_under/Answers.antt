@@ -4,54 +4,43 @@ use native.Mathlib.Omega.{arith}
 use Rattle.ties.proofs.Joining.{at_some, at_none, joins-none, joins-more, joins-few}
 use Rattle.sets.proofs.Laws.{parties-none, group-no-party, apart-no-party, party-by, party-passed, party-stored}
 use Rattle.sets.proofs.store_under.Goals as goal
-use Rattle.sets.proofs.store_under.Goals.{then-added-ne0+then-not-is_group, then-added-ne0+else-not-is_group, else-added-ne0}
+use Rattle.sets.proofs.store_under.Goals.{then-added-ne0+then-not-is_group, else-added-ne0, else-added-ne0-via-then-added-ne0+else-not-is_group, else-added-ne0-via-else-added-ne0}
 
 pub loop-k-init : goal.loop-k-init
 loop-k-init c = (
-  omega arith,
-  refl,
   c.requires.0.table-long,
   refl,
-  parties-none c.args.ups.now c.args.own.now c.args.slots.now c.args.groups.now c.args.below c.args.edited c.args.table.now c.args.marks.now,
-  sym (joins-none c.args.ups.now c.args.below c.args.edited),
+  parties-none c.args.arrays.now.ups.now c.args.arrays.now.own.now c.args.arrays.now.slots.now c.args.groups.now c.args.below c.args.edited c.args.table.now c.args.marks.now,
+  sym (joins-none c.args.arrays.now.ups.now c.args.below c.args.edited),
 )
 
 pub overflow_add-joins : goal.overflow_add-joins
 overflow_add-joins c =
-    record { fits = omega (arith, c.joins_under-added.ensures.1, c.loop-k.invariant.5, c.loop-k.invariant.0, joins-few c.args.ups.now c.args.below c.args.edited c.loop-k.k, c.requires.2) }
+    record { fits = omega (arith, c.joins_under-added.ensures.1, c.loop-k.invariant.3, joins-few c.args.arrays.now.ups.now c.args.below c.args.edited c.loop-k.k, c.requires.2) }
 
 pub loop-k-preserved : goal.loop-k-preserved
 loop-k-preserved c =
-    let more = joins-more c.args.ups.now c.args.below c.args.edited c.loop-k.k in
+    let more = joins-more c.args.arrays.now.ups.now c.args.below c.args.edited c.loop-k.k in
     elim c.if-added-ne0.branch [
       | then-added-ne0+then-not-is_group w ↦ rw (w.table-is, w.marks-is) (
-        omega arith,
-        refl,
-        w.store_marked.auto.table ∙ c.loop-k.invariant.2,
-        w.store_marked.auto.marks ∙ c.loop-k.invariant.3,
-        party-stored c.loop-k.invariant.4 _ (omega arith) c.loop-k.invariant.2 refl
-            (party-by c.args.ups.now c.args.groups.now c.args.below c.args.edited c.loop-k.k
-            (at_some c.args.ups.now c.args.below c.args.edited c.loop-k.k (λ z. w.if-added-ne0.true (c.joins_under-added.ensures.0 ∙ z)))
+        w.store_marked.auto.table ∙ c.loop-k.invariant.0,
+        w.store_marked.auto.marks ∙ c.loop-k.invariant.1,
+        party-stored c.loop-k.invariant.2 _ (omega arith) c.loop-k.invariant.0 refl
+            (party-by c.args.arrays.now.ups.now c.args.groups.now c.args.below c.args.edited c.loop-k.k
+            (at_some c.args.arrays.now.ups.now c.args.below c.args.edited c.loop-k.k (λ z. w.if-added-ne0.true (c.joins_under-added.ensures.0 ∙ z)))
             (sym w.is_group.ensures ∙ w.if-not-is_group.true)) w.store_marked.ensures.0 w.store_marked.ensures.1,
-        omega (arith, more, c.joins_under-added.ensures.0, c.loop-k.invariant.5),
-      )
-      | then-added-ne0+else-not-is_group w ↦ rw (w.table-is, w.marks-is) (
-        omega arith,
-        refl,
-        c.loop-k.invariant.2,
-        c.loop-k.invariant.3,
-        party-passed c.loop-k.invariant.4
-            (group-no-party c.args.ups.now c.args.groups.now c.args.below c.args.edited c.loop-k.k (sym w.is_group.ensures ∙ w.if-not-is_group.false)),
-        omega (arith, more, c.joins_under-added.ensures.0, c.loop-k.invariant.5),
+        omega (arith, more, c.joins_under-added.ensures.0, c.loop-k.invariant.3),
       )
       | else-added-ne0 w ↦ rw (w.table-is, w.marks-is) (
-        omega arith,
-        refl,
-        c.loop-k.invariant.2,
-        c.loop-k.invariant.3,
-        party-passed c.loop-k.invariant.4
-            (apart-no-party c.args.ups.now c.args.groups.now c.args.below c.args.edited c.loop-k.k
-            (at_none c.args.ups.now c.args.below c.args.edited c.loop-k.k (sym c.joins_under-added.ensures.0 ∙ w.if-added-ne0.false))),
-        omega (arith, more, c.joins_under-added.ensures.0, c.loop-k.invariant.5),
+        c.loop-k.invariant.0,
+        c.loop-k.invariant.1,
+        party-passed c.loop-k.invariant.2 (elim w.else-added-ne0.branch [
+          | else-added-ne0-via-then-added-ne0+else-not-is_group v ↦
+              group-no-party c.args.arrays.now.ups.now c.args.groups.now c.args.below c.args.edited c.loop-k.k (sym v.is_group.ensures ∙ v.if-not-is_group.false)
+          | else-added-ne0-via-else-added-ne0 v ↦
+              apart-no-party c.args.arrays.now.ups.now c.args.groups.now c.args.below c.args.edited c.loop-k.k
+              (at_none c.args.arrays.now.ups.now c.args.below c.args.edited c.loop-k.k (sym c.joins_under-added.ensures.0 ∙ v.if-added-ne0.false))
+        ]),
+        omega (arith, more, c.joins_under-added.ensures.0, c.loop-k.invariant.3),
       )
     ]

@@ -1,41 +1,62 @@
--- `text::atom_of` meets its contract: an int, else a str, else a truth value.
-use Prim.Native.Nat.{ℕ, ◌-◌}
-use mathlib.Core.Path.{◌≡◌, sym, ap, ◌∙◌}
+-- `text::atom_of` meets its contract: an int, else a str, else a bool.
+use Prim.Native.Nat.{ℕ}
+use mathlib.Core.Path.{◌≡◌, refl, sym, ap, ◌∙◌}
 use mathlib.Core.Bool.{Bool, true, false}
-use mathlib.Core.Option.{none}
+use mathlib.Core.Option as math
 use native.Mathlib.Omega.{arith}
-use Rattle.model.specs.Atoms.{read_int}
-use Rattle.codes.specs.Codes.{bool_code}
+use mir.Val.{bool_byte}
+use Rattle.std.proofs.Common.{Some, None}
+use Rattle.model.specs.Bytes.{Bytes}
+use Rattle.model.specs.Atoms.{str, read_int, read_str, read_bool, read_atom}
+use Rattle.codes.specs.Enums.{told_by}
+use Rattle.codes.specs.declared.AtomType.TheVariants.{Int, Bool as BoolType}
+use Rattle.text.specs.Values.{words, value, truth_bit, atom_value}
 use Rattle.text.specs.Parts.{inside}
-use Rattle.text.specs.Values.{words, value, truth_bit}
-use Rattle.text.proofs.Values.{read_int_lem, no-int, read-str, read-bool, read_none, inside-length}
+use Rattle.text.proofs.Told.{told-none, told-some}
+use Rattle.text.proofs.Values.{inside-length}
 use Rattle.text.proofs.atom_of.Goals as goal
 
--- the code of a truth value is one more than its bit
-bit : (t : Bool) {n : ℕ} → n ≡ bool_code t → n - 1 ≡ truth_bit t
-bit false e = omega arith
-bit true e = omega arith
+module _ (s : Bytes) where
+  number-read : (n : ℕ) → read_int s ≡ math.some n → told_by atom_value (read_atom s) ≡ Some (value Int (words n 0 0))
+  unfolding read_atom
+  number-read n e = rw e
 
-pub returns-in-Number : goal.returns-in-Number
-returns-in-Number c =
-    c.single.ensures ∙ sym (read_int_lem c.args.s.now c.in-Number.n (sym c.int_of-i.ensures ∙ c.in-Number.is))
+  text-read : (t : Bytes) → read_int s ≡ math.none → read_str s ≡ math.some t → told_by atom_value (read_atom s) ≡ Some (atom_value (str t))
+  unfolding read_atom
+  text-read t e f = rw (e, f)
+
+  truth-read : (b : Bool) → read_int s ≡ math.none → read_str s ≡ math.none → read_bool s ≡ math.some b → told_by atom_value (read_atom s) ≡ Some (value BoolType (words (truth_bit b) 0 0))
+  unfolding read_atom
+  truth-read b e f g = rw (e, f, g)
+
+  none-read : read_int s ≡ math.none → read_str s ≡ math.none → read_bool s ≡ math.none → told_by atom_value (read_atom s) ≡ None
+  unfolding read_atom
+  none-read e f g = rw (e, f, g)
+
+-- a bool as a number
+bit : (b : Bool) → bool_byte b ≡ truth_bit b
+bit true = refl
+bit false = refl
+
+pub returns-in-Some : goal.returns-in-Some
+returns-in-Some c =
+    ap Some (c.single.ensures ∙ ap (λ (n : ℕ). value Int (words n 0 0)) c.from.ensures)
+    ∙ sym (number-read c.args.s.now c.in-Some.n (told-some (read_int c.args.s.now) c.in-Some.n c.in-Some.ensures))
 
 pub words_of-requires : goal.words_of-requires
-words_of-requires c =
-    omega (arith, inside-length c.args.s.now c.is_str.ensures c.if-is_str.true)
+words_of-requires c = omega (arith, inside-length c.args.s.now c.is_str.ensures c.if-is_str.true)
 
 pub returns-then-is_str : goal.returns-then-is_str
 returns-then-is_str c =
-    let i : read_int c.args.s.now ≡ none = no-int c.args.s.now (sym c.int_of-i.ensures ∙ c.in_default.is) in
-    ap (value 2) c.words_of.ensures ∙ sym (read-str c.args.s.now (inside c.args.s.now) i (c.is_str.ensures.text c.if-is_str.true))
+    ap (λ (w : _). Some (record { ty = _; words = w })) c.words_of.ensures
+    ∙ sym (text-read c.args.s.now (inside c.args.s.now) (told-none (read_int c.args.s.now) c.in_default.ensures) (c.is_str.ensures.text c.if-is_str.true))
 
-pub returns-then-b-eq0 : goal.returns-then-b-eq0
-returns-then-b-eq0 c =
-    let i : read_int c.args.s.now ≡ none = no-int c.args.s.now (sym c.int_of-i.ensures ∙ c.in_default.is) in
-    c.single-then-b-eq0.ensures ∙ sym (read_none c.args.s.now i (c.is_str.ensures.other c.if-is_str.false) (sym c.if-b-eq0.true ∙ c.bool_of-b.ensures))
+pub returns-in_err-bool_of : goal.returns-in_err-bool_of
+returns-in_err-bool_of c =
+    c.from_residual.ensures
+    ∙ sym (none-read c.args.s.now (told-none (read_int c.args.s.now) c.in_default.ensures) (c.is_str.ensures.other c.if-is_str.false) (told-none (read_bool c.args.s.now) c.in_err-bool_of.ensures))
 
 pub returns : goal.returns
 returns c =
-    let i : read_int c.args.s.now ≡ none = no-int c.args.s.now (sym c.int_of-i.ensures ∙ c.in_default.is) in
-    let (t, n, e) = read-bool c.args.s.now i (c.is_str.ensures.other c.if-is_str.false) c.bool_of-b.result c.bool_of-b.ensures c.if-b-eq0.false in
-    c.single-2.ensures ∙ ap (λ (w : ℕ). value 3 (words w 0 0)) (c.byte_to_word.ensures.0 ∙ bit t n) ∙ sym e
+    ap Some (c.single-2.ensures ∙ ap (λ (n : ℕ). value BoolType (words n 0 0)) (c.from-2.ensures ∙ bit c.in_ok-bool_of.field-0))
+    ∙ sym (truth-read c.args.s.now c.in_ok-bool_of.field-0 (told-none (read_int c.args.s.now) c.in_default.ensures) (c.is_str.ensures.other c.if-is_str.false) (told-some (read_bool c.args.s.now) c.in_ok-bool_of.field-0 c.in_ok-bool_of.ensures))

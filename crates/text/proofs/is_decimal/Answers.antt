@@ -1,32 +1,20 @@
 -- `text::is_decimal` meets its contract.
-use mathlib.Core.Path.{◌≡◌, sym, ◌∙◌}
-use mathlib.Core.Bool.{true, false}
-use native.Mathlib.Omega.{arith}
-use borrow.Author.Tests.{le-leb, lt-leb}
-use Rattle.model.specs.Notation.{all_of}
+use mathlib.Core.Path.{◌∙◌}
+use mathlib.Core.Logic.{inl, inr}
+use borrow.Author.Tests.{tests}
+use Rattle.std.proofs.Common.{rules}
+use Rattle.std.proofs.lemmas.Iterator.{YieldsList-from_slice}
+use Rattle.std.proofs.lemmas.Iterator.Search.{all_from_yields_List}
 use Rattle.model.proofs.Decimals.{digit}
-use Rattle.text.specs.ReadCodes.{is_decimal}
-use Rattle.text.proofs.DecimalDigits.{lead-one, lead-more}
+use Rattle.text.proofs.LoopPlaces.{all-listed}
+use Rattle.text.proofs.DecimalDigits.{decimal-by}
 use Rattle.text.proofs.is_decimal.Goals as goal
+use Rattle.text.proofs.is_decimal.Goals.{in_default-via-then-s-lt2, in_default-via-else-s-lt2+in_default-1}
 
-pub returns-then-s-lt1 : goal.returns-then-s-lt1
-unfolding is_decimal
-returns-then-s-lt1 c = rw (lt-leb 1 _ c.if-s-lt1.true)
-
-pub returns-then-not-all_in : goal.returns-then-not-all_in
-unfolding is_decimal
-returns-then-not-all_in c =
-    let e : all_of digit c.args.s.now ≡ false = sym c.all_in.ensures ∙ c.if-not-all_in.true in
-    rw (le-leb 1 _ c.if-s-lt1.false, e)
-
-pub returns-then-s-eq1 : goal.returns-then-s-eq1
-unfolding is_decimal
-returns-then-s-eq1 c =
-    let e : all_of digit c.args.s.now ≡ true = sym c.all_in.ensures ∙ c.if-not-all_in.false in
-    rw (le-leb 1 _ c.if-s-lt1.false, e, lead-one c.args.s.now c.if-s-eq1.true)
-
-pub returns : goal.returns
-unfolding is_decimal
-returns c =
-    let e : all_of digit c.args.s.now ≡ true = sym c.all_in.ensures ∙ c.if-not-all_in.false in
-    rw (le-leb 1 _ c.if-s-lt1.false, e, lead-more c.args.s.now (omega arith) c.if-s-eq1.false)
+pub returns-in_default : goal.returns-in_default
+returns-in_default c =
+    let e = all_from_yields_List digit _ _ c.all.result c.all.ensures.ran (YieldsList-from_slice c.args.s.now cc) (λ x b q k. search (rules, tests)) ∙ all-listed digit c.args.s.now in
+    elim c.in_default.branch [
+      | in_default-via-then-s-lt2 w ↦ decimal-by c.args.s.now c.all.result (search rules) (inl (search rules)) e
+      | in_default-via-else-s-lt2+in_default-1 w ↦ decimal-by c.args.s.now c.all.result (search rules) (inr (search rules)) e
+    ]

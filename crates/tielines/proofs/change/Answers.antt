@@ -1,16 +1,10 @@
--- `tielines::change` meets its contract, by the tie's key. Assumes nothing.
-use mathlib.Core.Path.{sym, subst}
-use Rattle.model.specs.Ties.{Tie}
-use Rattle.tielines.specs.TieReading.{tie_by}
-use Rattle.tielines.specs.TieSteps.{TieChanged}
-use Rattle.tielines.proofs.TieEditing.{value-tie, up-tie}
+-- `tielines::change` meets its contract. Assumes nothing.
+use Rattle.tielines.specs.TieReading.{tie_of}
+use Rattle.tielines.proofs.TieEditing.{leads_up}
 use Rattle.tielines.proofs.change.Goals as goal
 
-pub returns-then-t-eq-KEY_VALUE : goal.returns-then-t-eq-KEY_VALUE
-returns-then-t-eq-KEY_VALUE c =
-    subst (λ (u : Tie). TieChanged u c.args.plus c.args.book.now c.change_value.new.book)
-    (sym (value-tie c.args.t.key c.args.t.lower c.args.t.upper c.if-t-eq-KEY_VALUE.true)) c.change_value.ensures
+pub returns-in-Parent : goal.returns-in-Parent
+returns-in-Parent c = c.change_up.ensures (tie_of c.args.t) (leads_up c.in-Parent.is)
 
-pub returns-else-t-eq-KEY_VALUE : goal.returns-else-t-eq-KEY_VALUE
-returns-else-t-eq-KEY_VALUE c =
-    c.change_up.ensures (tie_by c.args.t.key c.args.t.lower c.args.t.upper) (up-tie c.args.t.key c.args.t.lower c.args.t.upper c.if-t-eq-KEY_VALUE.false)
+pub returns-in-Value : goal.returns-in-Value
+returns-in-Value c = rw c.in-Value.is c.change_value.ensures

@@ -1,25 +1,27 @@
 -- `tielines::slot_of` meets its contract: the slot is told by the group's word. Assumes nothing.
-use Prim.Native.Nat.{ℕ, ◌<◌}
-use mathlib.Core.Path.{◌≡◌, sym, subst, ◌∙◌}
-use mathlib.Core.Bool.{true}
-use lib.ListN.{get_or}
-use native.Mathlib.Omega.{arith}
-use Rattle.model.specs.Limits.{group_limit}
-use Rattle.ties.specs.TieArrays.{in_use}
+use Rattle.std.proofs.Common.{◌≡◌, ap, Some, arith}
 use Rattle.book.specs.Sections as section
-use Rattle.book.specs.Sections.{section_words, book_holders}
-use Rattle.tielines.proofs.TieFitting.{group-slot}
 use Rattle.book.proofs.HeldNumbers.{sorted-in-book}
-use Rattle.tielines.proofs.TieEditing.{word_at}
+use Rattle.book.proofs.Sections.{part-size}
+use Rattle.tielines.proofs.TieFitting.{group-slot}
 use Rattle.tielines.proofs.slot_of.Goals as goal
 
-pub returns-then-g-ge-HOLDERS : goal.returns-then-g-ge-HOLDERS
-returns-then-g-ge-HOLDERS c S code standing held s e i = absurd (omega (arith, c.if-g-ge-HOLDERS.true, sorted-in-book standing held c.args.g e))
+pub returns-in_err-get-clause-found : goal.returns-in_err-get-clause-found
+returns-in_err-get-clause-found c S code standing held s e i =
+    absurd (omega (arith, c.in_err-get.ensures.lookup.3, sorted-in-book standing held c.args.g e, part-size section.slot_of c.args.book.now c.requires (omega arith)))
 
-pub returns : goal.returns
-returns c S code standing held s e i =
+pub returns-in_err-slot-clause-found : goal.returns-in_err-slot-clause-found
+returns-in_err-slot-clause-found c S code standing held s e i =
     let q = group-slot standing held c.args.g s e i in
-    let same : q.0 ≡ c.slot.result =
-    sym (c.slot.ensures q.0 (sym (word_at section.slot_of c.args.book.now c.args.g (sorted-in-book standing held c.args.g e)) ∙ q.1) q.2) in
-    subst (λ (r : ℕ). (r < group_limit) × (in_use book_holders (section_words section.slots c.args.book.now) r ≡ true) × (get_or (section_words section.slots c.args.book.now) r 0 ≡ c.args.g)) same
-    (q.2, q.3, q.4)
+    absurd (c.in_err-slot.ensures (omega (arith, q.1, c.in_ok-get.ensures.lookup.3.1 0)))
+
+pub returns-then-slot-lt-SLOTS-clause-found : goal.returns-then-slot-lt-SLOTS-clause-found
+returns-then-slot-lt-SLOTS-clause-found c S code standing held s e i =
+    let q = group-slot standing held c.args.g s e i in
+    let same : c.in_ok-slot.slot ≡ q.0 = omega (arith, q.1, c.in_ok-get.ensures.lookup.3.1 0, c.in_ok-slot.ensures.1) in
+    (q.0, ap Some same, q.3, q.4)
+
+pub returns-else-slot-lt-SLOTS-clause-found : goal.returns-else-slot-lt-SLOTS-clause-found
+returns-else-slot-lt-SLOTS-clause-found c S code standing held s e i =
+    let q = group-slot standing held c.args.g s e i in
+    absurd (omega (arith, q.1, q.2, c.in_ok-get.ensures.lookup.3.1 0, c.in_ok-slot.ensures.1, c.if-slot-lt-SLOTS.false))

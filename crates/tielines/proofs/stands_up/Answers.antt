@@ -1,23 +1,13 @@
--- `tielines::stands_up` meets its contract: the bit of the group's slot in the holder's word. Assumes nothing.
-use native.Mathlib.Omega.{arith}
-use Rattle.tielines.proofs.TieFitting.{up_fits}
-use Rattle.tielines.proofs.TieEditing.{up-stands, in-use-here}
+-- `tielines::stands_up` meets its contract. Assumes nothing.
+use Rattle.std.proofs.Common.{arith}
+use Rattle.tielines.proofs.TieEditing.{up-stands, no_slot, no_lower}
 use Rattle.tielines.proofs.stands_up.Goals as goal
 
-pub returns-then-h-ge-HOLDERS : goal.returns-then-h-ge-HOLDERS
-returns-then-h-ge-HOLDERS c t leads S code standing held f =
-    absurd (omega (arith, c.if-h-ge-HOLDERS.true, (up_fits standing held t c.args.h c.args.g leads f).few))
+pub returns-in_default : goal.returns-in_default
+returns-in_default c t leads S code standing held f = absurd (no_slot _ c.requires c.args.h c.args.g c.in_default.ensures.found t leads S code standing held f)
 
-pub returns-then-q-ge-SLOT_NUMBERS : goal.returns-then-q-ge-SLOT_NUMBERS
-returns-then-q-ge-SLOT_NUMBERS c t leads S code standing held f =
-    absurd (omega (
-      arith,
-      c.if-q-ge-SLOT_NUMBERS.true,
-      (in-use-here c.args.book.now c.requires c.args.h c.args.g c.slot_of-q.result
-          c.slot_of-q.ensures S code standing held t leads f).0,
-    ))
+pub returns-then-h-lt-HOLDERS : goal.returns-then-h-lt-HOLDERS
+returns-then-h-lt-HOLDERS c = up-stands _ c.requires c.args.h c.args.g c.in-Some.q c.in-Some.ensures.found c.in-Some.ensures.few _ (omega arith) c.has.ensures
 
-pub returns : goal.returns
-returns c =
-    up-stands c.args.book.now c.requires c.args.h c.args.g c.slot_of-q.result c.slot_of-q.ensures
-    c.has.result (omega (arith, c.if-h-ge-HOLDERS.false)) c.has.ensures
+pub returns-else-h-lt-HOLDERS : goal.returns-else-h-lt-HOLDERS
+returns-else-h-lt-HOLDERS c t leads S code standing held f = absurd (no_lower _ c.requires c.args.h c.args.g (omega arith) t leads S code standing held f)

@@ -1,49 +1,27 @@
 -- `tielines::two` meets its contract. Assumes nothing.
-use mathlib.Core.Path.{sym, ◌∙◌}
-use native.Mathlib.Omega.{arith}
-use Rattle.tielines.specs.TieReading.{tie_by, above_for}
-use Rattle.tielines.proofs.TieNaming.{two-named, holder-there, holder-absent, holder-sort, sort-word, lower-gone, upper-gone, sorts-wrong, sorts-right}
+use Rattle.std.proofs.Common.{ap, ◌∙◌, Err}
+use Rattle.std.proofs.lemmas.Result.{err_from_is_err_and}
+use Rattle.tielines.proofs.TieSorts.{same-option, other-option}
+use Rattle.tielines.proofs.TieNaming.{two-lower, two-upper, two-wrong, two-right, is-parent, is-member}
 use Rattle.tielines.proofs.two.Goals as goal
 
-pub returns-then-h-ge-HOLDERS : goal.returns-then-h-ge-HOLDERS
-returns-then-h-ge-HOLDERS c =
-    let t = tie_by c.no_tie.result.key c.no_tie.result.lower c.no_tie.result.upper in
-    two-named c.args.book.now c.args.key c.args.lower c.args.upper c.no_tie.result.number t (λ a b na nb pa pb S code standing held.
-    lower-gone S.declared (above_for c.args.key) (tie_by c.args.key) a b c.no_tie.result.number t
-    (holder-absent standing held a na c.args.lower pa c.holder_number-h.result c.holder_number-h.ensures.1 (omega (arith, c.if-h-ge-HOLDERS.true)))
-    c.no_tie.ensures)
+pub returns-in_err-lower : goal.returns-in_err-lower
+returns-in_err-lower c =
+    let p = err_from_is_err_and c.from_residual.result c.from_residual.ensures.1 in
+    two-lower _ _ _ _ c.in_err-lower.ensures.number (p.1 ∙ ap Err p.2)
 
-pub returns-then-g-ge-HOLDERS : goal.returns-then-g-ge-HOLDERS
-returns-then-g-ge-HOLDERS c =
-    let t = tie_by c.no_tie-then-g-ge-HOLDERS.result.key c.no_tie-then-g-ge-HOLDERS.result.lower c.no_tie-then-g-ge-HOLDERS.result.upper in
-    two-named c.args.book.now c.args.key c.args.lower c.args.upper c.no_tie-then-g-ge-HOLDERS.result.number t (λ a b na nb pa pb S code standing held.
-    upper-gone S.declared (above_for c.args.key) (tie_by c.args.key) a b c.holder_number-h.result
-    (holder-there standing held a na c.args.lower pa c.holder_number-h.result c.holder_number-h.ensures.1 (omega (arith, c.if-h-ge-HOLDERS.false)))
-    c.no_tie-then-g-ge-HOLDERS.result.number t
-    (holder-absent standing held b nb c.args.upper pb c.holder_number-g.result c.holder_number-g.ensures.1 (omega (arith, c.if-g-ge-HOLDERS.true)))
-    c.no_tie-then-g-ge-HOLDERS.ensures)
+pub returns-in_err-group : goal.returns-in_err-group
+returns-in_err-group c =
+    let p = err_from_is_err_and c.from_residual-in_err-group.result c.from_residual-in_err-group.ensures.1 in
+    two-upper _ _ _ _ c.in_ok-lower.ensures.number c.in_err-group.ensures.number (p.1 ∙ ap Err p.2)
 
-pub returns-then-book-g : goal.returns-then-book-g
-returns-then-book-g c =
-    let t = tie_by c.no_tie-then-book-g.result.key c.no_tie-then-book-g.result.lower c.no_tie-then-book-g.result.upper in
-    two-named c.args.book.now c.args.key c.args.lower c.args.upper c.no_tie-then-book-g.result.number t (λ a b na nb pa pb S code standing held.
-    let D = S.declared in
-    let is-a = holder-there standing held a na c.args.lower pa c.holder_number-h.result c.holder_number-h.ensures.1 (omega arith) in
-    let is_b = holder-there standing held b nb c.args.upper pb c.holder_number-g.result c.holder_number-g.ensures.1 (omega arith) in
-    let of-a = holder-sort standing.declarations a c.holder_number-h.result is-a in
-    let of-b = holder-sort standing.declarations b c.holder_number-g.result is_b in
-    let wanted = c.above-wanted.ensures of-a.0 (sort-word standing held c.holder_number-h.result of-a.0 of-a.1) in
-    sorts-wrong D (above_for c.args.key) (tie_by c.args.key) a b c.holder_number-h.result is-a c.holder_number-g.result is_b of-a.0 of-b.0 of-a.1 of-b.1 c.no_tie-then-book-g.result.number t
-    (λ e. c.if-book-g.true (sort-word standing held c.holder_number-g.result of-b.0 of-b.1 ∙ e ∙ sym wanted)) c.no_tie-then-book-g.ensures)
+pub returns-then-ne : goal.returns-then-ne
+returns-then-ne c = two-wrong _ _ _ _ c.in_ok-lower.ensures.number c.in_ok-group.ensures.number c.above.ensures (other-option _ _ c.if-ne.ensures)
 
-pub returns : goal.returns
-returns c =
-    two-named c.args.book.now c.args.key c.args.lower c.args.upper 0 (tie_by c.args.key c.holder_number-h.result c.holder_number-g.result) (λ a b na nb pa pb S code standing held.
-    let D = S.declared in
-    let is-a = holder-there standing held a na c.args.lower pa c.holder_number-h.result c.holder_number-h.ensures.1 (omega arith) in
-    let is_b = holder-there standing held b nb c.args.upper pb c.holder_number-g.result c.holder_number-g.ensures.1 (omega arith) in
-    let of-a = holder-sort standing.declarations a c.holder_number-h.result is-a in
-    let of-b = holder-sort standing.declarations b c.holder_number-g.result is_b in
-    let wanted = c.above-wanted.ensures of-a.0 (sort-word standing held c.holder_number-h.result of-a.0 of-a.1) in
-    sorts-right D (above_for c.args.key) (tie_by c.args.key) a b c.holder_number-h.result is-a c.holder_number-g.result is_b of-a.0 of-b.0 of-a.1 of-b.1
-    (sym (sort-word standing held c.holder_number-g.result of-b.0 of-b.1) ∙ c.if-book-g.false ∙ wanted))
+pub returns-in-Parent : goal.returns-in-Parent
+returns-in-Parent c =
+    two-right _ _ _ _ c.in_ok-lower.ensures.number c.in_ok-group.ensures.number c.above.ensures _ (λ above tie kind. is-parent kind c.in-Parent.is _ _) (same-option _ _ c.if-ne.ensures)
+
+pub returns-in_default : goal.returns-in_default
+returns-in_default c =
+    two-right _ _ _ _ c.in_ok-lower.ensures.number c.in_ok-group.ensures.number c.above.ensures _ (λ above tie kind. is-member kind c.in_default.not-Parent _ _) (same-option _ _ c.if-ne.ensures)

@@ -1,37 +1,23 @@
 -- `tielines::value` meets its contract. Assumes nothing.
-use native.Mathlib.Omega.{arith}
-use Rattle.model.specs.Limits.{pair_limit}
-use Rattle.model.specs.Declarations.{pair_number, source_for}
-use Rattle.tielines.specs.TieReading.{tie_by}
-use Rattle.tielines.proofs.TieNaming.{number-there, number-gone, holder-there, holder-absent, holder-sort, sort-word, pair-few, holder-gone, pair-gone, pair-there}
+use Rattle.std.proofs.Common.{◌≡◌, ap, ◌∙◌, Some, None, Err, arith}
+use Rattle.std.proofs.lemmas.Result.{err_from_is_err_and}
+use Rattle.codes.specs.declared.Refusal.TheVariants.{Undeclared}
+use Rattle.tielines.proofs.TieNaming.{value-holder, value-pair, value-there}
 use Rattle.tielines.proofs.value.Goals as goal
 
-pub returns-then-h-ge-HOLDERS : goal.returns-then-h-ge-HOLDERS
-returns-then-h-ge-HOLDERS c h n a nh nn wa ph pn va S code standing held =
-    holder-gone S.declared h n a c.no_tie.result.number (tie_by c.no_tie.result.key c.no_tie.result.lower c.no_tie.result.upper)
-    (holder-absent standing held h nh c.args.holder ph c.holder_number-h.result c.holder_number-h.ensures.1 (omega (arith, c.if-h-ge-HOLDERS.true)))
-    c.no_tie.ensures
+pub returns-in_err-holder : goal.returns-in_err-holder
+returns-in_err-holder c =
+    let p = err_from_is_err_and c.from_residual.result c.from_residual.ensures.1 in
+    value-holder _ _ _ _ c.in_err-holder.ensures.number (p.1 ∙ ap Err p.2)
 
-pub returns-then-p-ge-PAIRS : goal.returns-then-p-ge-PAIRS
-returns-then-p-ge-PAIRS c h n a nh nn wa ph pn va S code standing held =
-    let D = S.declared in
-    let there = holder-there standing held h nh c.args.holder ph c.holder_number-h.result c.holder_number-h.ensures.1 (omega arith) in
-    let s = holder-sort standing.declarations h c.holder_number-h.result there in
-    let from = source_for s.0 in
-    let source = c.source_for-source.ensures s.0 (sort-word standing held c.holder_number-h.result s.0 s.1) in
-    let number = c.pair_of-p.ensures S code standing held from n a nn wa source pn va in
-    pair-gone D h n a c.holder_number-h.result s.0 there s.1 c.no_tie-then-p-ge-PAIRS.result.number (tie_by c.no_tie-then-p-ge-PAIRS.result.key c.no_tie-then-p-ge-PAIRS.result.lower c.no_tie-then-p-ge-PAIRS.result.upper)
-    (number-gone pair_limit c.pair_of-p.result (pair_number D from n a) (pair-few standing from n a) number (omega (arith, c.if-p-ge-PAIRS.true)))
-    c.no_tie-then-p-ge-PAIRS.ensures
+pub returns-in_err-pair : goal.returns-in_err-pair
+returns-in_err-pair c =
+    let gone : c.pair_of.result ≡ None = grind arith in
+    let p = err_from_is_err_and c.from_residual-in_err-pair.result c.from_residual-in_err-pair.ensures.1 in
+    let why : c.in_err-pair.field-0.0 ≡ Undeclared = grind arith in
+    value-pair _ _ _ _ c.in_ok-holder.ensures.number c.source_for-source.ensures (rw gone at c.pair_of.ensures) (p.1 ∙ ap Err (p.2 ∙ why))
 
 pub returns : goal.returns
-unfolding tie_by
-returns c h n a nh nn wa ph pn va S code standing held =
-    let D = S.declared in
-    let there = holder-there standing held h nh c.args.holder ph c.holder_number-h.result c.holder_number-h.ensures.1 (omega arith) in
-    let s = holder-sort standing.declarations h c.holder_number-h.result there in
-    let from = source_for s.0 in
-    let source = c.source_for-source.ensures s.0 (sort-word standing held c.holder_number-h.result s.0 s.1) in
-    let number = c.pair_of-p.ensures S code standing held from n a nn wa source pn va in
-    pair-there D h n a c.holder_number-h.result s.0 there s.1 c.pair_of-p.result
-    (number-there pair_limit c.pair_of-p.result (pair_number D from n a) number (omega (arith, c.if-p-ge-PAIRS.false)))
+returns c =
+    let there : c.pair_of.result ≡ Some c.in_ok-pair.pair = grind arith in
+    value-there _ _ _ _ c.in_ok-holder.ensures.number c.source_for-source.ensures (rw there at c.pair_of.ensures)

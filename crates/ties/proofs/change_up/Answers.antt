@@ -4,4 +4,4 @@ use Rattle.ties.proofs.change_up.Goals as goal
 
 pub returns : goal.returns
 returns c =
-    up-changed c.args.ups.now c.args.h c.args.q c.put-next.result c.args.plus c.requires.0 c.requires.1 c.put-next.ensures
+    up-changed c.args.ups.now c.args.h c.args.q c.put.result c.args.plus c.requires.0 c.requires.1 c.put.ensures

@@ -4,4 +4,4 @@ use Rattle.ties.proofs.change_value.Goals as goal
 
 pub returns : goal.returns
 returns c =
-    value-changed c.args.own.now c.args.h c.args.p c.put-next.result c.args.plus c.requires.0 c.requires.1 c.put-next.ensures
+    value-changed c.args.own.now c.args.h c.args.p c.put.result c.args.plus c.requires.0 c.requires.1 c.put.ensures

@@ -1,11 +1,13 @@
 -- `ties::in_use` meets its contract. Assumes nothing.
-use Rattle.ties.proofs.Masks.{in-use-no, in-use-by}
+use native.Mathlib.Omega.{arith}
+use Rattle.std.proofs.lemmas.Grind.{common_steps}
+use Rattle.ties.specs.TieArrays.{in_use}
 use Rattle.ties.proofs.in_use.Goals as goal
 
-pub returns-then-k-eq0 : goal.returns-then-k-eq0
-returns-then-k-eq0 c =
-    in-use-no c.args.n c.args.slots.now c.args.q c.holder_at-k.result c.holder_at-k.ensures c.if-k-eq0.true
+pub returns-then-k-ne0 : goal.returns-then-k-ne0
+unfolding in_use
+returns-then-k-ne0 c = grind (arith, common_steps)
 
-pub returns : goal.returns
-returns c =
-    in-use-by c.args.n c.args.slots.now c.args.q c.holder_at-k.result c.holder_at-k.ensures c.if-k-eq0.false
+pub returns-else-k-ne0 : goal.returns-else-k-ne0
+unfolding in_use
+returns-else-k-ne0 c = grind (arith, common_steps)

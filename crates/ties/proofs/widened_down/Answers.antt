@@ -20,22 +20,16 @@ lower q some j = go (ℕ_discrete j (q - 1)) (dec_lt j (q - 1))
     go (no n) (no l) = simp (le-ltb j (q - 1) (omega arith), le-ltb j q (omega arith))
 
 pub loop-q-init : goal.loop-q-init
-loop-q-init c = (
-  omega (arith, c.requires),
-  pass-start c.args.ups.now c.args.slots.now c.args.e c.args.m _
-      (λ q l off u. absurd (omega (arith, ltb-false q _ off, numbered-lt c.args.slots.now q (in-use-lt _ c.args.slots.now q u).0))),
-)
+loop-q-init c =
+    pass-start c.args.ups.now c.args.slots.now c.args.e c.args.m _
+    (λ q l off u. absurd (omega (arith, ltb-false q _ off, numbered-lt c.args.slots.now q (in-use-lt _ c.args.slots.now q u).0)))
 
 pub loop-q-preserved-then-slot_is_under : goal.loop-q-preserved-then-slot_is_under
-loop-q-preserved-then-slot_is_under c = (
-  omega arith,
-  pass_on c.args.ups.now c.args.slots.now c.args.e c.loop-q.invariant.1 (λ j. ltb j (c.loop-q.q - 1)) (c.loop-q.q - 1) (lower c.loop-q.q (omega arith))
-      c.with-next.result c.with-next.ensures (sym c.slot_is_under.ensures ∙ c.if-slot_is_under.true),
-)
+loop-q-preserved-then-slot_is_under c =
+    pass_on c.args.ups.now c.args.slots.now c.args.e c.loop-q.invariant (λ j. ltb j (c.loop-q.q - 1)) (c.loop-q.q - 1) (lower c.loop-q.q c.loop-q-test.true)
+    c.with-next.result c.with-next.ensures (sym c.slot_is_under.ensures ∙ c.if-slot_is_under.true)
 
 pub loop-q-preserved : goal.loop-q-preserved
-loop-q-preserved c = (
-  omega arith,
-  pass-off c.args.ups.now c.args.slots.now c.args.e c.loop-q.invariant.1 (λ j. ltb j (c.loop-q.q - 1)) (c.loop-q.q - 1) (lower c.loop-q.q (omega arith))
-      (sym c.slot_is_under.ensures ∙ c.if-slot_is_under.false),
-)
+loop-q-preserved c =
+    pass-off c.args.ups.now c.args.slots.now c.args.e c.loop-q.invariant (λ j. ltb j (c.loop-q.q - 1)) (c.loop-q.q - 1) (lower c.loop-q.q c.loop-q-test.true)
+    (sym c.slot_is_under.ensures ∙ c.if-slot_is_under.false)

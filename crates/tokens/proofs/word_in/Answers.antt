@@ -1,20 +1,16 @@
 -- `tokens::word_in` meets its contract.
-use mathlib.Core.Path.{◌≡◌, sym, ◌∙◌}
-use mathlib.Core.Option.{none}
-use Rattle.model.specs.Atoms.{read_int}
-use Rattle.text.proofs.Values.{no-int}
+use mathlib.Core.Path.{sym, ◌∙◌}
 use Rattle.tokens.proofs.WordCodes.{capital, no-capital, number, attribute}
 use Rattle.tokens.proofs.word_in.Goals as goal
 
-pub returns-then-k-ne0 : goal.returns-then-k-ne0
-returns-then-k-ne0 c =
-    c.plain_code.ensures ∙ sym (capital c.args.w.now c.capital_of-k.result c.capital_of-k.ensures c.if-k-ne0.true)
+pub returns-in-Some : goal.returns-in-Some
+returns-in-Some c = capital c.args.w.now c.in-Some.kind (sym c.in-Some.is ∙ c.capital_of.ensures)
 
-pub returns-in-Number : goal.returns-in-Number
-returns-in-Number c =
-    sym (number c.args.w.now (no-capital c.args.w.now (sym c.if-k-ne0.false ∙ c.capital_of-k.ensures)) c.in-Number.v (sym c.int_of-i.ensures ∙ c.in-Number.is))
+pub returns-in-Some-int_of : goal.returns-in-Some-int_of
+returns-in-Some-int_of c =
+    number c.args.w.now (no-capital c.args.w.now (sym c.in_default.is ∙ c.capital_of.ensures)) c.in-Some-int_of.n (sym c.in-Some-int_of.is ∙ c.int_of.ensures)
 
 pub returns : goal.returns
 returns c =
-    let i : read_int c.args.w.now ≡ none = no-int c.args.w.now (sym c.int_of-i.ensures ∙ c.in_default.is) in
-    c.name_in.ensures ∙ sym (attribute c.args.w.now (no-capital c.args.w.now (sym c.if-k-ne0.false ∙ c.capital_of-k.ensures)) i)
+    c.name_in.ensures
+    ∙ attribute c.args.w.now (no-capital c.args.w.now (sym c.in_default.is ∙ c.capital_of.ensures)) (sym c.in_default-int_of.is ∙ c.int_of.ensures)

@@ -1,25 +1,31 @@
 -- `values::among` meets its contract. Assumes nothing.
-use mathlib.Core.Path.{ap, ◌∙◌}
-use mathlib.Core.List.{List}
-use Rattle.text.specs.declared.Words.{Words}
-use Rattle.text.specs.Values.{words}
-use Rattle.values.specs.Operands.{operand, lent}
+use mathlib.Core.Path.{◌≡◌, refl, sym, ap}
+use mathlib.Core.Bool.{true, false}
+use mathlib.Core.List.{[], ◌∷◌}
+use borrow.Author.Rules.{rules}
+use Rattle.model.specs.Truth.{truth}
+use Rattle.text.specs.Values.{same_words}
 use Rattle.values.specs.Compared.{among_of}
-use Rattle.values.proofs.AttributeValues.{session-values, block-values, code-values}
+use Rattle.values.proofs.ValueWalks.{seeking-end, seeking-met, seeking-on}
 use Rattle.values.proofs.among.Goals as goal
 
-pub returns-in-0 : goal.returns-in-0
-returns-in-0 c =
-    let lend = lent c.args.code.now c.args.pairs.now c.args.session.now c.args.entries.now in
-    c.among_pairs.ensures ∙ ap (λ (l : List Words). among_of l (words c.args.x c.args.y c.args.z)) (session-values lend (operand c.args.ty c.args.place c.args.start c.args.end) c.in-0.is)
+pub loop-words-init : goal.loop-words-init
+unfolding among_of
+loop-words-init g c = record { comes-to = refl }
 
-pub returns-in-1 : goal.returns-in-1
-returns-in-1 c =
-    let lend = lent c.args.code.now c.args.pairs.now c.args.session.now c.args.entries.now in
-    c.among_entries.ensures ∙ ap (λ (l : List Words). among_of l (words c.args.x c.args.y c.args.z)) (block-values lend (operand c.args.ty c.args.place c.args.start c.args.end) c.in-1.is)
+pub returns-then-eq : goal.returns-then-eq
+returns-then-eq g c =
+    let h : g.V.Values.left c.loop-words.values ≡ c.in-Some.words ∷ g.V.Values.left c.next.new.self = search rules in
+    let e : same_words c.args.wanted c.in-Some.words ≡ true = search rules in
+    seeking-met c.loop-words.invariant h (ap truth (sym e)) (λ z. cc)
 
-pub returns-in_default : goal.returns-in_default
-returns-in_default c =
-    let lend = lent c.args.code.now c.args.pairs.now c.args.session.now c.args.entries.now in
-    c.among_constants.ensures
-    ∙ ap (λ (l : List Words). among_of l (words c.args.x c.args.y c.args.z)) (code-values lend (operand c.args.ty c.args.place c.args.start c.args.end) c.in_default.in_default-own.rest.0.1 c.in_default.in_default-own.rest.1)
+pub loop-words-preserved : goal.loop-words-preserved
+loop-words-preserved g c =
+    let h : g.V.Values.left c.loop-words.values ≡ c.in-Some.words ∷ g.V.Values.left c.next.new.self = search rules in
+    let e : same_words c.args.wanted c.in-Some.words ≡ false = search rules in
+    seeking-on c.loop-words.invariant h (ap truth (sym e)) refl
+
+pub returns : goal.returns
+returns g c =
+    let h : g.V.Values.left c.loop-words.values ≡ [] = search rules in
+    seeking-end c.loop-words.invariant h c.at_end.ensures

@@ -1,60 +1,42 @@
 -- `values::below` meets its contract. Assumes nothing.
+use mathlib.Core.Bool.{true, false}
 use mathlib.Core.Path.{sym, ap, ap₂, ◌∙◌}
 use lib.Dec.{leb, ltb}
-use borrow.Author.Tests.{not-true, not-false}
-use borrow.Author.Rules.{rules}
 use Rattle.model.specs.Truth.{truth}
-use Rattle.values.specs.Operands.{lent, operand_values}
+use Rattle.values.specs.Operands.{lent_by, operand_values}
 use Rattle.values.specs.Compared.{order_of}
-use Rattle.values.proofs.Compared.{not-ints, without-left, without-right, with-both, at-most, strictly}
+use Rattle.values.proofs.Compared.{not-ints, without-left, without-right, extreme-is, with-both, at-most, strictly}
+use Rattle.values.proofs.below.Goals.{then-equal, else-equal}
 use Rattle.values.proofs.below.Goals as goal
 
 pub returns-then-low-ne-INT : goal.returns-then-low-ne-INT
 returns-then-low-ne-INT c =
-    let lend = lent c.args.code.now c.args.pairs.now c.args.session.now c.args.entries.now in
+    let lend = lent_by c.args.lent.now in
     not-ints c.args.low.ty c.args.equal (operand_values lend c.args.low) (operand_values lend c.args.high) c.if-low-ne-INT.true
 
-pub extreme-least-requires : goal.extreme-least-requires
-extreme-least-requires c = (search rules, c.if-low-ne-INT.false)
+pub returns-in_default : goal.returns-in_default
+returns-in_default c =
+    let low = operand_values (lent_by c.args.lent.now) c.args.low in
+    let high = operand_values (lent_by c.args.lent.now) c.args.high in
+    without-left false low high (order_of c.args.low.ty c.args.equal low high) (sym c.in_default.is ∙ c.extreme_int.ensures)
 
-pub returns-then-not-least : goal.returns-then-not-least
-returns-then-not-least c =
-    let lend = lent c.args.code.now c.args.pairs.now c.args.session.now c.args.entries.now in
-    let low = operand_values lend c.args.low in
-    let high = operand_values lend c.args.high in
-    let said = order_of c.args.low.ty c.args.equal low high in
-    without-left low high said c.extreme-least.result.here c.extreme-least.ensures.there (not-true _ c.if-not-least.true)
-
-pub extreme-greatest-requires : goal.extreme-greatest-requires
-extreme-greatest-requires c = (search rules, sym c.requires.1 ∙ c.if-low-ne-INT.false)
-
-pub returns-then-not-greatest : goal.returns-then-not-greatest
-returns-then-not-greatest c =
-    let lend = lent c.args.code.now c.args.pairs.now c.args.session.now c.args.entries.now in
-    let low = operand_values lend c.args.low in
-    let high = operand_values lend c.args.high in
-    let said = order_of c.args.low.ty c.args.equal low high in
-    without-right low high said c.extreme-least.result.here c.extreme-least.ensures.there (not-false _ c.if-not-least.false)
-    c.extreme-greatest.result.here c.extreme-greatest.ensures.there (not-true _ c.if-not-greatest.true)
-
-pub returns-then-equal : goal.returns-then-equal
-returns-then-equal c =
-    let lend = lent c.args.code.now c.args.pairs.now c.args.session.now c.args.entries.now in
-    let low = operand_values lend c.args.low in
-    let high = operand_values lend c.args.high in
-    let said = order_of c.args.low.ty c.args.equal low high in
-    c.tested.ensures ∙ ap truth (ap₂ leb c.extreme-least.ensures.number_is c.extreme-greatest.ensures.number_is)
-    ∙ at-most c.args.low.ty c.args.equal low high c.if-low-ne-INT.false c.if-equal.true
-    ∙ with-both low high said c.extreme-least.result.here c.extreme-least.ensures.there (not-false _ c.if-not-least.false)
-    c.extreme-greatest.result.here c.extreme-greatest.ensures.there (not-false _ c.if-not-greatest.false)
+pub returns-in_default-extreme_int : goal.returns-in_default-extreme_int
+returns-in_default-extreme_int c =
+    let low = operand_values (lent_by c.args.lent.now) c.args.low in
+    let high = operand_values (lent_by c.args.lent.now) c.args.high in
+    without-right true low high (order_of c.args.low.ty c.args.equal low high) (sym c.in_default-extreme_int.is ∙ c.extreme_int-2.ensures)
 
 pub returns : goal.returns
 returns c =
-    let lend = lent c.args.code.now c.args.pairs.now c.args.session.now c.args.entries.now in
-    let low = operand_values lend c.args.low in
-    let high = operand_values lend c.args.high in
-    let said = order_of c.args.low.ty c.args.equal low high in
-    c.tested-2.ensures ∙ ap truth (ap₂ ltb c.extreme-least.ensures.number_is c.extreme-greatest.ensures.number_is)
-    ∙ strictly c.args.low.ty c.args.equal low high c.if-low-ne-INT.false c.if-equal.false
-    ∙ with-both low high said c.extreme-least.result.here c.extreme-least.ensures.there (not-false _ c.if-not-least.false)
-    c.extreme-greatest.result.here c.extreme-greatest.ensures.there (not-false _ c.if-not-greatest.false)
+    let low = operand_values (lent_by c.args.lent.now) c.args.low in
+    let high = operand_values (lent_by c.args.lent.now) c.args.high in
+    let e = sym c.in-Some.is ∙ c.extreme_int.ensures in
+    let f = sym c.in-Some-extreme_int.is ∙ c.extreme_int-2.ensures in
+    let a = extreme-is false low c.in-Some.least e in
+    let b = extreme-is true high c.in-Some-extreme_int.greatest f in
+    c.tested.ensures
+    ∙ elim c.if-equal.branch [
+      | then-equal w ↦ ap truth (w.tested-is ∙ ap₂ leb a b) ∙ at-most c.args.low.ty c.args.equal low high c.if-low-ne-INT.false w.if-equal.true
+      | else-equal w ↦ ap truth (w.tested-is ∙ ap₂ ltb a b) ∙ strictly c.args.low.ty c.args.equal low high c.if-low-ne-INT.false w.if-equal.false
+    ]
+    ∙ with-both low high (order_of c.args.low.ty c.args.equal low high) c.in-Some.least c.in-Some-extreme_int.greatest e f

@@ -1,9 +1,7 @@
 -- `values::compare` meets its contract: a way for each operator, `=` and IN in one. Assumes nothing.
-use Prim.Native.Nat.{◌<◌}
 use native.Mathlib.Omega.{arith}
-use mathlib.Core.Logic.{inl, inr}
 use Rattle.values.specs.Operands.{lent}
-use Rattle.values.proofs.Compared.{types-differ, by-nothing, by-equality, by-inequality, by-subset, by_less, by-at-most, by-greater, by-at-least}
+use Rattle.values.proofs.Compared.{types-differ, by-equality, by-inequality, by-subset, by_less, by-at-most, by-greater, by-at-least}
 use Rattle.values.proofs.compare.Goals as goal
 
 pub returns-then-left-right : goal.returns-then-left-right
@@ -34,16 +32,6 @@ pub returns-in-23 : goal.returns-in-23
 returns-in-23 c =
     by-at-least (lent c.args.code.now c.args.pairs.now c.args.session.now c.args.entries.now) c.args.operator c.args.left c.args.right c.if-left-right.false c.below-in-23.result c.in-23.is c.below-in-23.ensures
 
-pub returns-in-16-to-17 : goal.returns-in-16-to-17
-returns-in-16-to-17 c =
+pub returns-in-16 : goal.returns-in-16
+returns-in-16 c =
     by-equality (lent c.args.code.now c.args.pairs.now c.args.session.now c.args.entries.now) c.args.operator c.args.left c.args.right c.if-left-right.false c.some_found.result (omega arith) (omega arith) c.some_found.ensures
-
-pub returns-in_default : goal.returns-in_default
-returns-in_default c =
-    let h : c.args.operator < 16 = omega arith in
-    by-nothing (lent c.args.code.now c.args.pairs.now c.args.session.now c.args.entries.now) c.args.operator c.args.left c.args.right (inl h)
-
-pub returns-in_default-2 : goal.returns-in_default-2
-returns-in_default-2 c =
-    let h : 23 < c.args.operator = omega arith in
-    by-nothing (lent c.args.code.now c.args.pairs.now c.args.session.now c.args.entries.now) c.args.operator c.args.left c.args.right (inr h)

@@ -1,27 +1,18 @@
 -- `values::extreme` meets its contract. Assumes nothing.
-use Prim.Native.Nat.{ℕ}
-use mathlib.Core.Path.{sym, ap, subst, ◌∙◌}
-use mathlib.Core.List.{List}
-use Rattle.text.specs.declared.Words.{Words}
-use Rattle.values.specs.Operands.{lent, entries_from, constants_from}
-use Rattle.values.specs.Compared.{Extreme}
-use Rattle.values.proofs.AttributeValues.{session-values, block-values, code-values}
+use mathlib.Core.Path.{◌≡◌}
+use mathlib.Core.List.{[]}
+use borrow.Author.Rules.{rules}
+use Rattle.values.proofs.ValueWalks.{nearing-start, nearing-end, nearing-on}
 use Rattle.values.proofs.extreme.Goals as goal
 
-pub returns-in-0 : goal.returns-in-0
-returns-in-0 c =
-    let lend = lent c.args.code.now c.args.pairs.now c.args.session.now c.args.entries.now in
-    subst (λ (l : List Words). Extreme c.args.greatest l c.extreme_pairs.result) (session-values lend c.args.operand c.in-0.is) c.extreme_pairs.ensures
+pub loop-words-init : goal.loop-words-init
+loop-words-init g c = nearing-start c.args.greatest (g.V.Values.left c.args.values)
 
-pub returns-in-1 : goal.returns-in-1
-returns-in-1 c =
-    let lend = lent c.args.code.now c.args.pairs.now c.args.session.now c.args.entries.now in
-    subst (λ (l : List Words). Extreme c.args.greatest l c.extreme_entries.result)
-    (ap (λ (k : ℕ). entries_from c.args.entries.now k c.args.operand.start 0) (sym c.requires.1) ∙ block-values lend c.args.operand c.in-1.is) c.extreme_entries.ensures
+pub loop-words-preserved : goal.loop-words-preserved
+loop-words-preserved g c =
+    nearing-on c.loop-words.invariant c.in-Some.ensures c.start_of.ensures c.unwrap_or-so_far.ensures c.further.ensures
 
-pub returns-in_default : goal.returns-in_default
-returns-in_default c =
-    let lend = lent c.args.code.now c.args.pairs.now c.args.session.now c.args.entries.now in
-    subst (λ (l : List Words). Extreme c.args.greatest l c.extreme_ints.result)
-    (ap (λ (k : ℕ). constants_from k c.args.code.now c.args.operand.end c.args.operand.start) (sym c.requires.1)
-    ∙ code-values lend c.args.operand c.in_default.in_default-own.rest.0.1 c.in_default.in_default-own.rest.1) c.extreme_ints.ensures
+pub returns : goal.returns
+returns g c =
+    let h : g.V.Values.left c.loop-words.values ≡ [] = search rules in
+    nearing-end c.loop-words.invariant h

@@ -1,20 +1,12 @@
 -- `values::further` meets its contract. Assumes nothing.
-use borrow.Author.Tests.{lt-ltb, le-ltb}
+use borrow.Author.Rules.{rules}
 use Rattle.values.specs.Compared.{further}
 use Rattle.values.proofs.further.Goals as goal
 
-pub returns-then-a-b : goal.returns-then-a-b
-unfolding further
-returns-then-a-b c = rw (c.if-greatest.true, lt-ltb c.args.a c.args.b c.if-a-b.true)
-
 pub returns-then-greatest : goal.returns-then-greatest
 unfolding further
-returns-then-greatest c = rw (c.if-greatest.true, le-ltb c.args.a c.args.b c.if-a-b.false)
+returns-then-greatest c = search rules
 
-pub returns-then-b-a : goal.returns-then-b-a
+pub returns-else-greatest : goal.returns-else-greatest
 unfolding further
-returns-then-b-a c = rw (c.if-greatest.false, lt-ltb c.args.b c.args.a c.if-b-a.true)
-
-pub returns : goal.returns
-unfolding further
-returns c = rw (c.if-greatest.false, le-ltb c.args.b c.args.a c.if-b-a.false)
+returns-else-greatest c = search rules

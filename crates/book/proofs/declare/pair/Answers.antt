@@ -1,40 +1,43 @@
 -- `book::declare::pair` meets its contract. Assumes nothing.
+use mathlib.Core.Path.{refl, sym, ◌∙◌}
 use native.Mathlib.Omega.{arith}
 use Rattle.book.proofs.PairLines.{pair-same-length}
 use Rattle.book.proofs.PairSteps.{pair-undeclared, pair-of-block, pair-of-type, pair-repeated, pair-full, pair_step}
-use Rattle.book.proofs.DeclarationTests.{left, written}
+use Rattle.book.proofs.DeclarationTests.{left, written, handed-on}
 use Rattle.book.proofs.declare.pair.Goals as goal
+use Rattle.book.proofs.declare.pair.Goals.{then-is_of_block-via-then-is_of_block, then-is_of_block-via-else-is_of_block+then-attributes-k}
 
-pub returns-then-k-ge-ATTRIBUTES : goal.returns-then-k-ge-ATTRIBUTES
-returns-then-k-ge-ATTRIBUTES c = (left, pair-undeclared _ _ _ _ _ c.attribute_number-k.ensures (omega (arith, c.if-k-ge-ATTRIBUTES.true)))
+pub returns-in_default : goal.returns-in_default
+returns-in_default c = (left, pair-undeclared _ _ _ _ (rw c.in_default.is at c.attribute_number.ensures))
 
-pub returns-then-source-ge-ENV : goal.returns-then-source-ge-ENV
-returns-then-source-ge-ENV c =
-    (left, pair-of-block _ _ _ _ _ c.attribute_number-k.ensures (omega (arith, c.if-k-ge-ATTRIBUTES.false)) (omega (arith, c.if-source-ge-ENV.true)))
-
-pub returns-then-book-k : goal.returns-then-book-k
-returns-then-book-k c = (
+pub returns-then-is_of_block : goal.returns-then-is_of_block
+returns-then-is_of_block c = (
   left,
-  pair-of-type _ _ _ _ _ c.attribute_number-k.ensures (omega (arith, c.if-k-ge-ATTRIBUTES.false)) (omega (arith, c.if-source-ge-ENV.false)) c.if-book-k.true,
+  elim c.then-is_of_block.branch [
+    | then-is_of_block-via-then-is_of_block w ↦ pair-of-block _ _ _ _ _ c.in-Some.ensures (sym w.if-is_of_block.ensures)
+    | then-is_of_block-via-else-is_of_block+then-attributes-k w ↦ pair-of-type _ _ _ _ _ c.in-Some.ensures (sym w.if-is_of_block.ensures)
+        (λ z. w.if-attributes-k.true (z ∙ sym w.from.ensures))
+  ],
 )
 
-pub returns-then-p-ne-PAIRS : goal.returns-then-p-ne-PAIRS
-returns-then-p-ne-PAIRS c = (
+pub returns-then-is_some : goal.returns-then-is_some
+returns-then-is_some c = (
   left,
-  pair-repeated _ _ _ _ _ c.attribute_number-k.ensures (omega (arith, c.if-k-ge-ATTRIBUTES.false)) (omega (arith, c.if-source-ge-ENV.false)) c.if-book-k.false _
-      c.pair_number-p.ensures.1 c.if-p-ne-PAIRS.true,
+  pair-repeated _ _ _ _ _ c.in-Some.ensures (sym c.if-is_of_block.ensures) (c.if-attributes-k.false ∙ c.from.ensures) _ c.pair_number.ensures.1
+      (sym c.if-is_some.ensures),
 )
 
-pub returns-then-n-ge-PAIRS : goal.returns-then-n-ge-PAIRS
-returns-then-n-ge-PAIRS c = (
-  left,
-  pair-full _ _ _ _ _ c.attribute_number-k.ensures (omega (arith, c.if-k-ge-ATTRIBUTES.false)) (omega (arith, c.if-source-ge-ENV.false)) c.if-book-k.false _
-      c.pair_number-p.ensures.1 c.if-p-ne-PAIRS.false _ c.word_to_index-n.ensures (omega arith),
-)
+pub returns-in_err-n : goal.returns-in_err-n
+returns-in_err-n c =
+    rw (handed-on c.from_residual.result _ _ c.from_residual.ensures.1 c.in_err-n.ensures.0) (
+      left,
+      pair-full _ _ _ _ _ c.in-Some.ensures (sym c.if-is_of_block.ensures) (c.if-attributes-k.false ∙ c.from.ensures) _ c.pair_number.ensures.1
+          (sym c.if-is_some.ensures) _ refl c.in_err-n.ensures.1,
+    )
 
 pub returns : goal.returns
 returns c = (
-  written (pair-same-length _ _ _ _ _ c.requires (omega arith) (omega arith) c.put_pair.ensures),
-  pair_step _ _ _ _ _ c.attribute_number-k.ensures (omega (arith, c.if-k-ge-ATTRIBUTES.false)) (omega (arith, c.if-source-ge-ENV.false)) c.if-book-k.false _
-      c.pair_number-p.ensures.1 c.if-p-ne-PAIRS.false _ c.word_to_index-n.ensures (omega arith) _ c.put_pair.ensures,
+  written (pair-same-length _ _ _ _ _ c.requires (omega arith) (omega (arith, c.in-Some.ensures.within)) c.put_pair.ensures),
+  pair_step _ _ _ _ _ c.in-Some.ensures (sym c.if-is_of_block.ensures) (c.if-attributes-k.false ∙ c.from.ensures) _ c.pair_number.ensures.1
+      (sym c.if-is_some.ensures) _ c.in_ok-n.ensures.0 c.in_ok-n.ensures.1 _ c.put_pair.ensures,
 )

@@ -1,16 +1,19 @@
--- `file::line::attribute` meets its contract: an attr line. Assumes nothing.
-use mathlib.Core.Path.{refl}
-use borrow.Author.Tests.{not-true, not-false}
-use Rattle.fields.specs.declared.AttrFields.{AttrFields}
+-- `file::line::attribute` meets its contract. Assumes nothing.
+use Rattle.std.proofs.Common.{◌≡◌, ap, ◌∙◌, Some, None, Err, arith}
+use Rattle.std.proofs.lemmas.Result.{err_from_is_err_and}
+use Rattle.codes.specs.declared.Refusal.TheVariants.{Malformed}
 use Rattle.fields.proofs.ToldParts.{unread}
 use Rattle.file.proofs.LineReading.{fields-unread, attr-read}
 use Rattle.file.proofs.line.attribute.Goals as goal
 
-pub returns-then-not-parts : goal.returns-then-not-parts
-returns-then-not-parts c code =
-    fields-unread _ _ _ _ _ (unread (λ (x : AttrFields). x.ok) c.attr_fields-parts.ensures (λ a. refl) (not-true _ c.if-not-parts.true))
+pub returns-in_err-a : goal.returns-in_err-a
+returns-in_err-a c code =
+    let gone : c.attr_fields.result ≡ None = grind arith in
+    let p = err_from_is_err_and c.from_residual.result c.from_residual.ensures.1 in
+    let why : c.in_err-a.field-0.0 ≡ Malformed = grind arith in
+    fields-unread _ (unread (rw gone at c.attr_fields.ensures)) (p.1 ∙ ap Err (p.2 ∙ why))
 
 pub returns : goal.returns
 returns c =
-    attr-read c.args.book.now c.attribute.new.book c.attribute.result
-    c.args.f.now c.attr_fields-parts.result c.attr_fields-parts.ensures (not-false _ c.if-not-parts.false) c.attribute.ensures.1
+    let read : c.attr_fields.result ≡ Some c.in_ok-a.a = grind arith in
+    attr-read c.args.f.now c.in_ok-a.a (rw read at c.attr_fields.ensures) c.attribute.ensures.1

@@ -1,14 +1,18 @@
--- `file::line::holder` meets its contract: a line of a holder, by its key. Assumes nothing.
-use borrow.Author.Tests.{not-true, not-false}
+-- `file::line::holder` meets its contract. Assumes nothing.
+use Rattle.std.proofs.Common.{◌≡◌, ap, ◌∙◌, Some, None, Err, arith}
+use Rattle.std.proofs.lemmas.Result.{err_from_is_err_and}
+use Rattle.codes.specs.declared.Refusal.TheVariants.{Malformed}
 use Rattle.file.proofs.LineReading.{holder-unread, holder-read}
 use Rattle.file.proofs.line.holder.Goals as goal
 
-pub returns-then-not-parts : goal.returns-then-not-parts
-returns-then-not-parts c =
-    holder-unread c.args.book.now c.args.book.now c.args.key c.args.f.now c.name_field-parts.result c.name_field-parts.ensures
-    (not-true _ c.if-not-parts.true)
+pub returns-in_err-name : goal.returns-in_err-name
+returns-in_err-name c =
+    let gone : c.name_field.result ≡ None = grind arith in
+    let p = err_from_is_err_and c.from_residual.result c.from_residual.ensures.1 in
+    let why : c.in_err-name.field-0.0 ≡ Malformed = grind arith in
+    holder-unread c.args.f.now c.args.key (rw gone at c.name_field.ensures) (p.1 ∙ ap Err (p.2 ∙ why))
 
 pub returns : goal.returns
 returns c =
-    holder-read c.args.book.now c.holder.new.book c.holder.result c.args.key
-    c.args.f.now c.name_field-parts.result c.name_field-parts.ensures (not-false _ c.if-not-parts.false) c.holder.ensures.1
+    let read : c.name_field.result ≡ Some c.in_ok-name.name = grind arith in
+    holder-read c.args.f.now c.args.key (rw read at c.name_field.ensures) c.holder.ensures.1

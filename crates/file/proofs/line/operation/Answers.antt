@@ -1,13 +1,18 @@
--- `file::line::operation` meets its contract: an op line. Assumes nothing.
-use borrow.Author.Tests.{not-true, not-false}
-use Rattle.file.proofs.LineReading.{op-unread, op-read}
+-- `file::line::operation` meets its contract. Assumes nothing.
+use Rattle.std.proofs.Common.{◌≡◌, ap, ◌∙◌, Some, None, Err, arith}
+use Rattle.std.proofs.lemmas.Result.{err_from_is_err_and}
+use Rattle.codes.specs.declared.Refusal.TheVariants.{Malformed}
+use Rattle.file.proofs.LineReading.{fields-unread, op-unread, op-read}
 use Rattle.file.proofs.line.operation.Goals as goal
 
-pub returns-then-not-parts : goal.returns-then-not-parts
-returns-then-not-parts c code =
-    op-unread c.args.book.now c.args.book.now code c.args.f.now c.name_field-parts.result c.name_field-parts.ensures (not-true _ c.if-not-parts.true)
+pub returns-in_err-name : goal.returns-in_err-name
+returns-in_err-name c code =
+    let gone : c.name_field.result ≡ None = grind arith in
+    let p = err_from_is_err_and c.from_residual.result c.from_residual.ensures.1 in
+    let why : c.in_err-name.field-0.0 ≡ Malformed = grind arith in
+    fields-unread _ (op-unread c.args.f.now (rw gone at c.name_field.ensures)) (p.1 ∙ ap Err (p.2 ∙ why))
 
 pub returns : goal.returns
 returns c =
-    op-read c.args.book.now c.operation.new.book c.operation.result
-    c.args.f.now c.name_field-parts.result c.name_field-parts.ensures (not-false _ c.if-not-parts.false) c.operation.ensures.1
+    let read : c.name_field.result ≡ Some c.in_ok-name.name = grind arith in
+    op-read c.args.f.now (rw read at c.name_field.ensures) c.operation.ensures.1

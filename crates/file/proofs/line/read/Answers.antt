@@ -1,25 +1,35 @@
--- `file::line::read` meets its contract: 4, 5 and the step of the key, in their order. Assumes nothing.
-use Rattle.file.proofs.FileLines.{line-unframed, line-early, line-fields, line-stepped}
+-- `file::line::read` meets its contract. Assumes nothing.
+use Rattle.std.proofs.Common.{◌≡◌, refl, ap, ◌∙◌, Some, None, Err, arith}
+use Rattle.std.proofs.lemmas.Result.{err_from_is_err_and}
+use Rattle.codes.specs.declared.Refusal.TheVariants.{Unframed}
+use Rattle.file.proofs.KeyOrder.{early, in-order}
+use Rattle.file.proofs.FileLines.{line-unframed, line-early, line-fields, line-refused, line-stepped}
 use Rattle.file.proofs.line.read.Goals as goal
 
-pub frame_at-framed-requires : goal.frame_at-framed-requires
-frame_at-framed-requires c = c.requires.2
+pub returns-in_err-framed : goal.returns-in_err-framed
+returns-in_err-framed c =
+    let gone : c.frame_at.result ≡ None = grind arith in
+    let p = err_from_is_err_and c.from_residual.result c.from_residual.ensures.1 in
+    let why : c.in_err-framed.field-0.0 ≡ Unframed = grind arith in
+    line-unframed _ _ (rw gone at c.frame_at.ensures) (p.1 ∙ ap Err (p.2 ∙ why))
 
-pub returns-then-key-eq0 : goal.returns-then-key-eq0
-returns-then-key-eq0 c =
-    line-unframed c.args.book.now c.args.code.now c.args.line.now c.args.previous c.frame_at-framed.result c.frame_at-framed.ensures
-    c.args.book.now c.args.code.now 0 c.if-key-eq0.true
+pub returns-then-lt : goal.returns-then-lt
+returns-then-lt c =
+    let read : c.frame_at.result ≡ Some c.in_ok-framed.framed = grind arith in
+    line-early _ _ c.in_ok-framed.framed (rw read at c.frame_at.ensures) (early _ _ c.if-lt.ensures)
 
-pub returns-then-key-previous : goal.returns-then-key-previous
-returns-then-key-previous c =
-    line-early c.args.book.now c.args.code.now c.args.line.now c.args.previous c.frame_at-framed.result c.frame_at-framed.ensures c.if-key-eq0.false
-    c.args.book.now c.args.code.now c.frame_at-framed.result.key c.if-key-previous.true
+pub step-requires : goal.step-requires
+step-requires c =
+    let read : c.frame_at.result ≡ Some c.in_ok-framed.framed = grind arith in
+    (c.requires.0, c.requires.1, line-fields c.args.line.now c.in_ok-framed.framed (rw read at c.frame_at.ensures))
 
-pub step-number-requires : goal.step-number-requires
-step-number-requires c =
-    (c.requires.0, c.requires.1, line-fields c.args.book.now c.args.code.now c.args.line.now c.args.previous c.frame_at-framed.result c.frame_at-framed.ensures c.if-key-eq0.false)
+pub returns-in_err-step : goal.returns-in_err-step
+returns-in_err-step c =
+    let read : c.frame_at.result ≡ Some c.in_ok-framed.framed = grind arith in
+    let p = err_from_is_err_and c.from_residual-in_err-step.result c.from_residual-in_err-step.ensures.1 in
+    line-refused _ _ c.in_ok-framed.framed (rw read at c.frame_at.ensures) (in-order _ _ c.if-lt.ensures) c.in_err-step.ensures (p.1 ∙ ap Err p.2) refl
 
 pub returns : goal.returns
 returns c =
-    line-stepped c.args.book.now c.args.code.now c.args.line.now c.args.previous c.frame_at-framed.result c.frame_at-framed.ensures c.if-key-eq0.false
-    c.if-key-previous.false c.step-number.new.book c.step-number.new.code c.step-number.result c.step-number.ensures
+    let read : c.frame_at.result ≡ Some c.in_ok-framed.framed = grind arith in
+    line-stepped _ _ c.in_ok-framed.framed (rw read at c.frame_at.ensures) (in-order _ _ c.if-lt.ensures) c.in_ok-step.ensures refl

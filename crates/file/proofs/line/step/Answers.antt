@@ -1,18 +1,22 @@
--- `file::line::step` meets its contract: each key by its step. Assumes nothing.
-use mathlib.Core.Path.{◌∙◌}
-use native.Mathlib.Omega.{arith}
-use Rattle.model.specs.Keys.{Key}
-use Rattle.tielines.proofs.TieFields.{is-tie-key}
-use Rattle.file.proofs.FileLines.{at_key}
+-- `file::line::step` meets its contract. Assumes nothing.
+use Rattle.model.specs.Keys as keys
+use Rattle.file.proofs.FileLines.{at_key, holder-keys, tie-keys}
 use Rattle.file.proofs.line.step.Goals as goal
 
-pub returns-then-key-lt-KEY_PARENT : goal.returns-then-key-lt-KEY_PARENT
-returns-then-key-lt-KEY_PARENT c k e = c.declared.ensures (omega (arith, c.if-key-lt-KEY_PARENT.true)) k e c.args.code.now
+pub returns-in-Attr : goal.returns-in-Attr
+returns-in-Attr c = at_key c.args.f.now keys.Key.attr c.in-Attr.is (c.attribute.ensures c.args.code.now)
 
-pub returns-then-key-eq-KEY_RULE : goal.returns-then-key-eq-KEY_RULE
-returns-then-key-eq-KEY_RULE c =
-    at_key c.args.book.now c.rule.new.book c.args.code.now c.rule.new.code c.args.key c.args.f.now c.rule.result Key.rule c.if-key-eq-KEY_RULE.true c.rule.ensures
+pub returns-in-Op : goal.returns-in-Op
+returns-in-Op c = at_key c.args.f.now keys.Key.op c.in-Op.is (c.operation.ensures c.args.code.now)
 
-pub returns : goal.returns
-returns c k e =
-    c.tie.ensures k (is-tie-key k (omega arith) (λ i. c.if-key-eq-KEY_RULE.false (e ∙ i))) e c.args.code.now
+pub returns-in-Atom : goal.returns-in-Atom
+returns-in-Atom c = at_key c.args.f.now keys.Key.atom c.in-Atom.is (c.pair.ensures c.args.code.now)
+
+pub returns-in-Ugroup : goal.returns-in-Ugroup
+returns-in-Ugroup c = holder-keys c.args.f.now c.args.key c.in-Ugroup.is c.holder.ensures
+
+pub returns-in-Parent : goal.returns-in-Parent
+returns-in-Parent c = tie-keys c.args.f.now c.args.key c.in-Parent.is c.tie.ensures
+
+pub returns-in-Rule : goal.returns-in-Rule
+returns-in-Rule c = at_key c.args.f.now keys.Key.rule c.in-Rule.is c.rule.ensures

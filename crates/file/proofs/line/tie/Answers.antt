@@ -1,16 +1,24 @@
--- `file::line::tie` meets its contract: what the fields, then the tie are refused for, or the tie put. Assumes nothing.
+-- `file::line::tie` meets its contract. Assumes nothing.
+use Rattle.std.proofs.Common.{◌≡◌, refl, sym, ap, subst, ◌∙◌, Err}
+use Rattle.std.proofs.lemmas.Result.{err_from_is_err_and}
+use Rattle.model.specs.Lines.{read_fields}
+use Rattle.codes.specs.Enums.{refusal_number, number_in}
+use Rattle.tielines.proofs.TieRefusals.{refused_for}
+use Rattle.file.specs.LineSteps.{KeyRead}
 use Rattle.file.proofs.LineReading.{tie-unread, tie-refused, tie-added}
 use Rattle.file.proofs.line.tie.Goals as goal
 
-pub returns-then-t-ne0 : goal.returns-then-t-ne0
-returns-then-t-ne0 c k i e = tie-unread k c.args.f.now i (c.of_fields-t.ensures k i e) c.if-t-ne0.true
+pub returns-in_err-t : goal.returns-in_err-t
+returns-in_err-t c k i e =
+    let p = err_from_is_err_and c.from_residual.result c.from_residual.ensures.1 in
+    tie-unread k c.args.f.now i (c.in_err-t.ensures k i e) refl (ap number_in (p.1 ∙ ap Err p.2))
 
-pub returns-then-number-ne0 : goal.returns-then-number-ne0
-returns-then-number-ne0 c k i e =
-    tie-refused k c.args.f.now i (c.of_fields-t.ensures k i e) c.if-t-ne0.false
-    c.refusal-number.ensures c.if-number-ne0.true
+pub returns-in_err-judge : goal.returns-in_err-judge
+returns-in_err-judge c k i e =
+    let p = err_from_is_err_and c.from_residual-in_err-judge.result c.from_residual-in_err-judge.ensures.1 in
+    let n : number_in c.from_residual-in_err-judge.result ≡ refusal_number c.in_err-judge.field-0.0 = ap number_in (p.1 ∙ ap Err p.2) in
+    subst (KeyRead c.args.book.now (read_fields k c.args.f.now) c.args.book.now) (sym n)
+    (tie-refused k c.args.f.now i (c.in_ok-t.ensures k i e) refl c.in_err-judge.ensures (refused_for c.in_err-judge.field-0.0))
 
 pub returns : goal.returns
-returns c k i e =
-    tie-added k c.args.f.now i (c.of_fields-t.ensures k i e) c.if-t-ne0.false
-    c.refusal-number.ensures c.if-number-ne0.false c.change.ensures
+returns c k i e = tie-added k c.args.f.now i (c.in_ok-t.ensures k i e) refl c.in_ok-judge.ensures refl c.change.ensures

@@ -1,36 +1,47 @@
 -- `file::rule::rule` meets its contract. Assumes nothing.
-use borrow.Author.Tests.{not-true, not-false}
-use mathlib.Core.Path.{ap, sym, ◌∙◌}
-use native.Mathlib.Omega.{arith}
-use Rattle.file.specs.LineSteps.{fields_refusal}
-use Rattle.file.proofs.RuleLines.{rule-unread, rule-refused, rule-room, rule-accepted}
+use Rattle.std.proofs.Common.{◌≡◌, refl, ap, ◌∙◌, Some, None, Err, arith}
+use Rattle.std.proofs.lemmas.Result.{err_from_is_err_and}
+use Rattle.codes.specs.declared.Refusal.TheVariants.{Malformed, Undeclared}
+use Rattle.codes.specs.Enums.{number_in}
+use Rattle.fields.proofs.ToldParts.{unread}
+use Rattle.file.proofs.LineReading.{fields-unread}
+use Rattle.file.proofs.RuleLines.{rule-misjudged, rule-unknown, rule-full, rule-accepted}
 use Rattle.file.proofs.rule.rule.Goals as goal
 
-pub returns-then-not-parts : goal.returns-then-not-parts
-returns-then-not-parts c S standing held =
-    let e = rule-unread c.args.f.now c.rule_fields-parts.result c.rule_fields-parts.ensures (not-true _ c.if-not-parts.true) in
-    (ap (fields_refusal S) (sym e), λ z. absurd (omega arith))
+pub returns-in_err-parts : goal.returns-in_err-parts
+returns-in_err-parts c =
+    let gone : c.rule_fields.result ≡ None = grind arith in
+    let p = err_from_is_err_and c.from_residual.result c.from_residual.ensures.1 in
+    let why : c.in_err-parts.field-0.0 ≡ Malformed = grind arith in
+    fields-unread _ (unread (rw gone at c.rule_fields.ensures).fields) (p.1 ∙ ap Err (p.2 ∙ why))
 
-pub returns-then-number-ne0 : goal.returns-then-number-ne0
-returns-then-number-ne0 c =
-    rule-refused c.args.f.now c.rule_fields-parts.result c.rule_fields-parts.ensures (not-false _ c.if-not-parts.false) c.args.book.now c.args.code.now c.judge-policy.new.code
-    c.word_to_index-k.result c.judge-policy.result c.operation_number-operation.result c.word_to_index-k.ensures c.judge-policy.ensures c.operation_number-operation.ensures.1
-    c.refusal-number.result c.refusal-number.ensures c.if-number-ne0.true
+pub returns-in_err-judge : goal.returns-in_err-judge
+returns-in_err-judge c =
+    let read : c.rule_fields.result ≡ Some c.in_ok-parts.parts = grind arith in
+    let p = err_from_is_err_and c.from_residual-in_err-judge.result c.from_residual-in_err-judge.ensures.1 in
+    rule-misjudged c.args.f.now c.in_ok-parts.parts (rw read at c.rule_fields.ensures) c.args.book.now c.args.code.now c.judge.new.code _ _ refl c.in_err-judge.ensures
+    c.in_err-judge.field-0.0 refl (ap number_in (p.1 ∙ ap Err p.2))
 
-pub put_rows-requires : goal.put_rows-requires
-put_rows-requires c = (
-  omega arith,
-  omega (arith, c.judge-policy.auto, c.requires.1),
-  rule-room c.judge-policy.result c.operation_number-operation.result c.word_to_index-k.result (sym c.refusal-number.ensures ∙ c.if-number-ne0.false),
-)
+pub returns-in_err-operation : goal.returns-in_err-operation
+returns-in_err-operation c =
+    let read : c.rule_fields.result ≡ Some c.in_ok-parts.parts = grind arith in
+    let gone : c.operation_number.result ≡ None = grind arith in
+    let p = err_from_is_err_and c.from_residual-in_err-operation.result c.from_residual-in_err-operation.ensures.1 in
+    let why : c.in_err-operation.field-0.0 ≡ Undeclared = grind arith in
+    rule-unknown c.args.f.now c.in_ok-parts.parts (rw read at c.rule_fields.ensures) c.args.book.now c.args.code.now c.judge.new.code _ _ refl c.in_ok-judge.ensures
+    refl (rw gone at c.operation_number.ensures.1) (ap number_in (p.1 ∙ ap Err (p.2 ∙ why)))
 
-pub put-requires : goal.put-requires
-put-requires c =
-    (c.requires.0, rule-room c.judge-policy.result c.operation_number-operation.result c.word_to_index-k.result (sym c.refusal-number.ensures ∙ c.if-number-ne0.false))
+pub returns-then-k-ge-RULES : goal.returns-then-k-ge-RULES
+returns-then-k-ge-RULES c =
+    let read : c.rule_fields.result ≡ Some c.in_ok-parts.parts = grind arith in
+    let there : c.operation_number.result ≡ Some c.in_ok-operation.operation = grind arith in
+    rule-full c.args.f.now c.in_ok-parts.parts (rw read at c.rule_fields.ensures) c.args.book.now c.args.code.now c.judge.new.code _ _ refl c.in_ok-judge.ensures
+    refl (rw there at c.operation_number.ensures.1) (omega (arith, c.if-k-ge-RULES.true))
 
 pub returns : goal.returns
 returns c =
-    rule-accepted c.args.f.now c.rule_fields-parts.result c.rule_fields-parts.ensures (not-false _ c.if-not-parts.false) c.args.book.now c.args.code.now
-    c.judge-policy.new.code c.word_to_index-k.result c.judge-policy.result c.operation_number-operation.result c.word_to_index-k.ensures c.judge-policy.ensures
-    c.operation_number-operation.ensures.1 (sym c.refusal-number.ensures ∙ c.if-number-ne0.false) (omega (arith, c.judge-policy.auto, c.requires.1)) c.put_rows.new.code
+    let read : c.rule_fields.result ≡ Some c.in_ok-parts.parts = grind arith in
+    let there : c.operation_number.result ≡ Some c.in_ok-operation.operation = grind arith in
+    rule-accepted c.args.f.now c.in_ok-parts.parts (rw read at c.rule_fields.ensures) c.args.book.now c.args.code.now c.judge.new.code _ _ refl c.in_ok-judge.ensures
+    refl (rw there at c.operation_number.ensures.1) (omega (arith, c.if-k-ge-RULES.false)) (omega (arith, c.judge.auto, c.requires.1)) c.put_rows.new.code
     c.put_rows.ensures c.put.new.book c.put.ensures

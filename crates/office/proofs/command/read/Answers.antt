@@ -1,43 +1,27 @@
 -- `office::command::read` meets its contract.
-use mathlib.Core.Path.{sym, ◌∙◌}
+use mathlib.Core.Path.{sym, ap, ◌∙◌}
 use native.Mathlib.Omega.{arith}
-use borrow.Author.Tests.{not-true, not-false}
-use lib.Seq.{length-take-le}
-use Rattle.office.proofs.Commands.{no_bytes, plus-call, minus-call, too_short, not-try, a-try, request-read, request-bad}
+use lib.ListN.{length}
+use Rattle.office.proofs.InputLines.{bare-within}
+use Rattle.office.proofs.Commands.{signed-call, not-try, request-read, request-bad}
 use Rattle.office.proofs.command.read.Goals as goal
 
-pub returns-then-line-lt1 : goal.returns-then-line-lt1
-returns-then-line-lt1 c = no_bytes _ c.if-line-lt1.true
+pub returns-then-is_some : goal.returns-then-is_some
+returns-then-is_some c = signed-call _ _ c.sign_of.ensures (sym c.is_some.ensures ∙ c.if-is_some.true)
 
-pub returns-then-line-eq43 : goal.returns-then-line-eq43
-returns-then-line-eq43 c = plus-call c.args.line.now (omega arith) c.if-line-eq43.true
+pub returns-in_err-hex : goal.returns-in_err-hex
+returns-in_err-hex c = rw c.from_residual.ensures (not-try _ _ c.sign_of.ensures (sym c.is_some.ensures ∙ c.if-is_some.false) _ c.bare.ensures c.in_err-hex.ensures.cases)
 
-pub returns-then-line-eq45 : goal.returns-then-line-eq45
-returns-then-line-eq45 c = minus-call c.args.line.now (omega arith) c.if-line-eq45.true
+pub unhex-requires : goal.unhex-requires
+unhex-requires c = omega (arith, c.in_ok-hex.ensures.cases.2, ap length c.bare.ensures, bare-within c.args.line.now)
 
-pub returns-then-end-lt4 : goal.returns-then-end-lt4
-returns-then-end-lt4 c =
-    too_short c.args.line.now (omega arith) c.if-line-eq43.false c.if-line-eq45.false c.bare_length-end.result c.bare_length-end.ensures c.if-end-lt4.true
-
-pub slice_bounds-same-end : goal.slice_bounds-same-end
-slice_bounds-same-end c = sym (length-take-le 4 c.args.line.now (omega (arith, c.bare_length-end.ensures.within)))
-
-pub returns-then-not-same : goal.returns-then-not-same
-returns-then-not-same c =
-    not-try c.args.line.now (omega arith) c.if-line-eq43.false c.if-line-eq45.false c.bare_length-end.result c.bare_length-end.ensures (omega arith)
-    (sym c.same.ensures ∙ c.if-not-same.true)
-
--- from here on `try=` stands at the front
-pub returns-then-not-hex : goal.returns-then-not-hex
-returns-then-not-hex c =
-    let request =
-    a-try c.args.line.now (omega arith) c.if-line-eq43.false c.if-line-eq45.false c.bare_length-end.result c.bare_length-end.ensures (omega arith)
-    (sym c.same.ensures ∙ c.if-not-same.false) in
-    request-bad _ 4 _ request _ _ c.unhex-hex.result c.unhex-hex.ensures (not-true c.unhex-hex.result.ok c.if-not-hex.true)
+pub returns-in_err-length : goal.returns-in_err-length
+returns-in_err-length c =
+    rw c.from_residual-in_err-length.ensures
+    (request-bad _ _ c.sign_of.ensures (sym c.is_some.ensures ∙ c.if-is_some.false) _ c.bare.ensures _ c.in_ok-hex.ensures.cases.0 c.in_ok-hex.ensures.cases.1 c.unhex.ensures
+    (sym c.ok.ensures.value ∙ c.in_err-length.was))
 
 pub returns : goal.returns
 returns c =
-    let request =
-    a-try c.args.line.now (omega arith) c.if-line-eq43.false c.if-line-eq45.false c.bare_length-end.result c.bare_length-end.ensures (omega arith)
-    (sym c.same.ensures ∙ c.if-not-same.false) in
-    request-read _ 4 _ request _ _ c.unhex-hex.result c.unhex-hex.ensures (not-false c.unhex-hex.result.ok c.if-not-hex.false)
+    request-read _ _ c.sign_of.ensures (sym c.is_some.ensures ∙ c.if-is_some.false) _ c.bare.ensures _ c.in_ok-hex.ensures.cases.0 c.in_ok-hex.ensures.cases.1 c.unhex.ensures
+    (sym c.ok.ensures.value ∙ c.in_ok-length.was)

@@ -1,11 +1,10 @@
 -- `office::input::split` meets its contract: all lines passed are file.
-use Prim.Native.Nat.{◌-◌}
 use lib.ListN.{length}
 use Rattle.office.proofs.InputLines.{SoFar}
 use Rattle.office.proofs.input.split.Given as goal
 
-abbrev pub invariant-loop-i : goal.invariant-loop-i
-invariant-loop-i l = SoFar l.input l.i
+abbrev pub invariant-loop-line : goal.invariant-loop-line
+invariant-loop-line l = SoFar l.input l.file l.commands.rest.now
 
-abbrev pub decreases-loop-i : goal.decreases-loop-i
-decreases-loop-i l = length l.input - l.i
+abbrev pub decreases-loop-line : goal.decreases-loop-line
+decreases-loop-line l = length l.commands.rest.now

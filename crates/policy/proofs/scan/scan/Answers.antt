@@ -3,5 +3,5 @@ use Rattle.policy.proofs.Turns.{scan_begins}
 use borrow.Author.Rules.{rules}
 use Rattle.policy.proofs.scan.scan.Goals as goal
 
-pub loop-next-init : goal.loop-next-init
-loop-next-init c = (search rules, λ A ts f. scan_begins c.args.code.now A ts f)
+pub loop-s-init : goal.loop-s-init
+loop-s-init c = (search rules, λ A ts f. scan_begins c.args.code.now A ts f)

@@ -6,8 +6,8 @@ use Rattle.policy.specs.Scans.{Left, OpenWithin, turns_left}
 use Rattle.policy.proofs.ScannedTokens.{scanned}
 use Rattle.policy.proofs.scan.scan.Given as goal
 
-abbrev pub invariant-loop-next : goal.invariant-loop-next
-invariant-loop-next l = OpenWithin l.s × ((A : Asked) (ts : List Token) → From l.code A 0 ts → Left l.code A l.s (scanned ts))
+abbrev pub invariant-loop-s : goal.invariant-loop-s
+invariant-loop-s l = OpenWithin l.s × ((A : Asked) (ts : List Token) → From l.code A 0 ts → Left l.code A l.s (scanned ts))
 
-abbrev pub decreases-loop-next : goal.decreases-loop-next
-decreases-loop-next l = turns_left l.code l.s
+abbrev pub decreases-loop-s : goal.decreases-loop-s
+decreases-loop-s l = turns_left l.code l.s

@@ -7,6 +7,6 @@ pub returns-then-word-eq0 : goal.returns-then-word-eq0
 returns-then-word-eq0 c =
     member-key c.args.book.now c.args.h (sym c.word.ensures ∙ c.if-word-eq0.true)
 
-pub returns : goal.returns
-returns c =
+pub returns-else-word-eq0 : goal.returns-else-word-eq0
+returns-else-word-eq0 c =
     parent-key c.args.book.now c.args.h (λ e. c.if-word-eq0.false (c.word.ensures ∙ e))
