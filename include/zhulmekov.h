@@ -18,8 +18,8 @@
    edit is refused, each request gets 15 or 16, and the file that zhul_write puts out is the first line alone, 9 bytes, which zhul_length tells.
 
    Stack, as hosts/stack measures it on x86-64 (KB of 1000 bytes, rounded up; measured, not proved): zhul_pass 84 KB, of which 75 KB are a book and rules
-   of its own, zhul_load 9 KB, zhul_edit 8 KB, zhul_decide 2 KB, zhul_write and zhul_length 1 KB: for any file, accepted or refused, and for the last three on any book and rules, also on bytes that no call left, which must not be
-   lent.
+   of its own, zhul_load 9 KB, zhul_edit 8 KB, zhul_decide 2 KB, zhul_write and zhul_length 1 KB: for any file, accepted or refused, and for the last three
+   on any book and rules, also on bytes that no call left, which must not be lent.
 
    Of the C library the calls need memset, memcpy and memmove, and nothing else; a firmware without that library gives its own. */
 #ifndef ZHULMEKOV_H
