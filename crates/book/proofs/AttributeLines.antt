@@ -25,10 +25,6 @@ use Rattle.model.proofs.Lists.{nth-lt, nth-append}
 use Rattle.model.proofs.Growing.{nth_last, place-append}
 use Rattle.model.proofs.Declared.{pair-declared}
 use Rattle.codes.specs.Codes.{source_code, type_code}
-use Rattle.codes.specs.declared.Source as codes
-use Rattle.codes.specs.declared.AtomType as type
-use Rattle.codes.specs.Enums.{source_number, source_for, type_number, type_for}
-use Rattle.codes.proofs.Enums.{source-numbered, type-numbered}
 use Rattle.text.specs.declared.Packed.{Packed}
 use Rattle.text.specs.Packing.{packed_of}
 use Rattle.bits.specs.Bits.{bit}
@@ -222,18 +218,18 @@ text-type AtomType.str = refl
 text-type AtomType.bool = refl
 
 -- the four ways; r is what was found, m the count
-module _ (book : List ℕ) (source : codes.Source) (ty : type.AtomType) (packed : Packed) where
-  sorted : (s : Source) (t : AtomType) → source ≡ source_for s → ty ≡ type_for t
-      → (from_block s && same_type t AtomType.str) ≡ block_text (source_number source) (type_number ty)
+module _ (book : List ℕ) (source ty : ℕ) (packed : Packed) where
+  sorted : (s : Source) (t : AtomType) → source ≡ source_code s → ty ≡ type_code t
+      → (from_block s && same_type t AtomType.str) ≡ block_text source ty
   sorted s t e f =
       ap₂ (λ (x y : Bool). x && y) (block-source s) (text-type t)
-      ∙ sym (ap₂ block_text (ap source_number e ∙ source-numbered s) (ap type_number f ∙ type-numbered t))
+      ∙ sym (ap₂ block_text e f)
 
-  pub attribute-sorted : block_text (source_number source) (type_number ty) ≡ true → AttributeStep book source ty packed book refusal.wrong_sort
+  pub attribute-sorted : block_text source ty ≡ true → AttributeStep book source ty packed book refusal.wrong_sort
   attribute-sorted on code s n t name from type words S standing held =
       (test-sort S (attr s n t) refl refl refl (sorted s t from type ∙ on), λ z. absurd (omega arith))
 
-  module _ (off : block_text (source_number source) (type_number ty) ≡ false) (r : Option ℕ)
+  module _ (off : block_text source ty ≡ false) (r : Option ℕ)
       (found : Numbered (section_words section.attributes book) source packed r) where
     pub attribute-repeated : is_some r ≡ true → AttributeStep book source ty packed book refusal.repeated
     attribute-repeated there code s n t name from type words S standing held =
@@ -243,7 +239,7 @@ module _ (book : List ℕ) (source : codes.Source) (ty : type.AtomType) (packed 
         )
 
     module _ (free : is_some r ≡ false) (m : ℕ) (count : m ≡ get_or book 0 0) where
-      new : (s : Source) (n : Bytes) → is_name n ≡ true → source ≡ source_for s → packed_of n ≡ packed → (code : Bytes) (S : State)
+      new : (s : Source) (n : Bytes) → is_name n ≡ true → source ≡ source_code s → packed_of n ≡ packed → (code : Bytes) (S : State)
           → Standing S → Holds book code S → not (is_none (attribute_number S.declared s n)) ≡ false
       new s n name from words code S standing held =
           ap (λ (o : math.Option ℕ). not (is_none o))
@@ -260,7 +256,7 @@ module _ (book : List ℕ) (source : codes.Source) (ty : type.AtomType) (packed 
             λ z. absurd (omega arith),
           )
 
-      pub attribute-step : m < attribute_limit → (next : List ℕ) → next ≡ attribute_put book m (source_number source) (type_number ty) packed → AttributeStep book source ty packed next 0
+      pub attribute-step : m < attribute_limit → (next : List ℕ) → next ≡ attribute_put book m source ty packed → AttributeStep book source ty packed next 0
       attribute-step few next e code s n t name from type words S standing held =
           let at = counted code S held in (
             accepted S (attr s n t) refl refl refl (sorted s t from type ∙ off) (new s n name from words code S standing held)
@@ -269,7 +265,7 @@ module _ (book : List ℕ) (source : codes.Source) (ty : type.AtomType) (packed 
                 subst (λ (l : List ℕ). Holds l code (after (attr s n t) S))
                 (sym
                 (e
-                ∙ ap₂ (λ (x y : ℕ). attribute_put book m x y packed) (ap source_number from ∙ source-numbered s) (ap type_number type ∙ type-numbered t)
+                ∙ ap₂ (λ (x y : ℕ). attribute_put book m x y packed) from type
                 ∙ ap (attribute_put book m (source_code s) (type_code t)) (sym words)))
                 (attribute-held book code S s n t m held standing.declarations at few),
           )

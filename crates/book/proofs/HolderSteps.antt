@@ -20,8 +20,6 @@ use Rattle.model.specs.State.{State, after}
 use Rattle.model.specs.Standing.{Standing}
 use Rattle.model.proofs.Declared.{next-free}
 use Rattle.model.proofs.Standing.{numbers-length}
-use Rattle.codes.specs.declared.Key.{Key}
-use Rattle.codes.specs.Enums.{key_number}
 use Rattle.text.specs.declared.Packed.{Packed}
 use Rattle.text.specs.Packing.{packed_of}
 use Rattle.book.specs.Sections as section
@@ -41,7 +39,7 @@ group-code Sort.ogroup e = refl
 group-code Sort.user e = refl
 group-code Sort.object e = refl
 
-module _ (book : List ℕ) (key : Key) (packed : Packed) (r : Option ℕ) (found : HolderFound (section_words section.holders book) packed r) where
+module _ (book : List ℕ) (key : ℕ) (packed : Packed) (r : Option ℕ) (found : HolderFound (section_words section.holders book) packed r) where
   pub holder-repeated : is_some r ≡ true → HolderStep book key packed book refusal.repeated
   holder-repeated there code s n sort name from words S standing held =
       let e = found S.declared standing.declarations held.holders n name words in
@@ -77,13 +75,13 @@ module _ (book : List ℕ) (key : Key) (packed : Packed) (r : Option ℕ) (found
           ap₂ (λ (x y : Bool). x || y) (lt-leb (holder_numbers S.declared.edition) (length (holder_numbers_of S.declared)) (omega (arith, ap holder_numbers held.edition))) e
 
       -- what was put, in the terms of the line
-      as-told : (s : Sort) (n : Bytes) → key_number key ≡ sort_code s → packed_of n ≡ packed → {next : List ℕ} → HolderPut book m (key_number key) packed next
+      as-told : (s : Sort) (n : Bytes) → key ≡ sort_code s → packed_of n ≡ packed → {next : List ℕ} → HolderPut book m key packed next
           → HolderPut book m (sort_code s) (packed_of n) next
       as-told s n from words {next} put =
-          subst (λ (x : ℕ). HolderPut book m x (packed_of n) next) from (subst (λ (p : Packed). HolderPut book m (key_number key) p next) (sym words) put)
+          subst (λ (x : ℕ). HolderPut book m x (packed_of n) next) from (subst (λ (p : Packed). HolderPut book m key p next) (sym words) put)
 
       -- a user or an object
-      pub holder-step : ltb (key_number key) (sort_code Sort.user) ≡ false → (next : List ℕ) → HolderPut book m (key_number key) packed next → HolderStep book key packed next 0
+      pub holder-step : ltb key (sort_code Sort.user) ≡ false → (next : List ℕ) → HolderPut book m key packed next → HolderStep book key packed next 0
       unfolding after
       holder-step plain next e code s n sort name from words S standing held =
           let no-group : is_group s ≡ false = group-code s sort ∙ ap (λ (x : ℕ). ltb x (sort_code Sort.user)) (sym from) ∙ plain in (
@@ -95,8 +93,8 @@ module _ (book : List ℕ) (key : Key) (packed : Packed) (r : Option ℕ) (found
           )
 
       -- a group; g is their count
-      module _ (group : ltb (key_number key) (sort_code Sort.user) ≡ true) (g : ℕ) (groups-are : g ≡ get_or book 4 0) where
-        is-group : (s : Sort) → is_sort s Sort.admin ≡ false → key_number key ≡ sort_code s → is_group s ≡ true
+      module _ (group : ltb key (sort_code Sort.user) ≡ true) (g : ℕ) (groups-are : g ≡ get_or book 4 0) where
+        is-group : (s : Sort) → is_sort s Sort.admin ≡ false → key ≡ sort_code s → is_group s ≡ true
         is-group s sort from = group-code s sort ∙ ap (λ (x : ℕ). ltb x (sort_code Sort.user)) (sym from) ∙ group
 
         grouped : (code : Bytes) (S : State) → Holds book code S → g ≡ groups S.declared
@@ -110,7 +108,7 @@ module _ (book : List ℕ) (key : Key) (packed : Packed) (r : Option ℕ) (found
               λ z. absurd (omega arith),
             )
 
-        pub group-step : g < group_limit → (first next : List ℕ) → HolderPut book m (key_number key) packed first → next ≡ group_put first m g → HolderStep book key packed next 0
+        pub group-step : g < group_limit → (first next : List ℕ) → HolderPut book m key packed first → next ≡ group_put first m g → HolderStep book key packed next 0
         unfolding after
         group-step low_count first next w e code s n sort name from words S standing held =
             let at = grouped code S held in

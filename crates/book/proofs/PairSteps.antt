@@ -24,10 +24,8 @@ use Rattle.model.specs.Standing.{Standing}
 use Rattle.model.proofs.WordTables.{same_refl, same_word, reads_type}
 use Rattle.model.proofs.Lists.{same_truth, or_left, place-nth}
 use Rattle.codes.specs.Codes.{source_code, type_code}
-use Rattle.codes.specs.declared.Source as codes
-use Rattle.codes.specs.Enums.{source_number, source_for, type_number, told}
+use Rattle.codes.specs.Enums.{told}
 use Rattle.codes.proofs.Codes.{type-injective}
-use Rattle.codes.proofs.Enums.{source-numbered, type-numbered}
 use Rattle.text.specs.declared.Words.{Words}
 use Rattle.text.specs.declared.Packed.{Packed}
 use Rattle.text.specs.declared.Value.{Value}
@@ -51,7 +49,7 @@ same-type-code t u =
     (λ e. rw (type-injective t u (eqb-true (type_code t) (type_code u) e)) (same_refl (type_word u)))
 
 -- r is what was found of the attribute
-module _ (book : List ℕ) (source : codes.Source) (packed : Packed) (value : Value) where
+module _ (book : List ℕ) (source : ℕ) (packed : Packed) (value : Value) where
   pub pair-undeclared : Numbered (section_words section.attributes book) source packed None → PairStep book source packed value book refusal.undeclared
   pair-undeclared found code s n a name written from words atom-is S standing held =
       let e = found.number S.declared standing.declarations held.attributes s n name from words in (
@@ -68,7 +66,7 @@ module _ (book : List ℕ) (source : codes.Source) (packed : Packed) (value : Va
       of-name : attribute_of S.declared s n ≡ some attribute
       ty-is : get_or (section_words section.attributes book) (8 * k + 1) 0 ≡ type_code attribute.type
 
-    declared : (code : Bytes) (S : State) → Standing S → Holds book code S → (s : Source) (n : Bytes) → is_name n ≡ true → source ≡ source_for s
+    declared : (code : Bytes) (S : State) → Standing S → Holds book code S → (s : Source) (n : Bytes) → is_name n ≡ true → source ≡ source_code s
         → packed_of n ≡ packed → Declared code S s n
     unfolding attribute_of attribute_number
     declared code S standing held s n name from words =
@@ -83,40 +81,37 @@ module _ (book : List ℕ) (source : codes.Source) (packed : Packed) (value : Va
           ty-is = (held.attributes.row k b g).type;
         }
 
-    of_block : (s : Source) → source ≡ source_for s → from_block s ≡ leb (source_code Source.env) (source_number source)
-    of_block s from = block-source s ∙ ap (leb (source_code Source.env)) (sym (source-numbered s) ∙ sym (ap source_number from))
+    of_block : (s : Source) → source ≡ source_code s → from_block s ≡ leb (source_code Source.env) source
+    of_block s from = block-source s ∙ ap (leb (source_code Source.env)) (sym from)
 
-    pub pair-of-block : leb (source_code Source.env) (source_number source) ≡ true → PairStep book source packed value book refusal.wrong_sort
+    pub pair-of-block : leb (source_code Source.env) source ≡ true → PairStep book source packed value book refusal.wrong_sort
     pair-of-block block code s n a name written from words atom-is S standing held =
         let d = declared code S standing held s n name from words in
         (test-sort S (atom s n a) refl refl (ap is_none d.number_is) (or_left (from_block s) _ (of_block s from ∙ block)), λ z. absurd (omega arith))
 
-    module _ (of-holders : leb (source_code Source.env) (source_number source) ≡ false) where
+    module _ (of-holders : leb (source_code Source.env) source ≡ false) where
       -- behind the source's test that of the type is left
-      sorted : (S : State) (s : Source) (n : Bytes) (a : Atom) (b : Attribute) → source ≡ source_for s → attribute_of S.declared s n ≡ some b → (t : Bool)
+      sorted : (S : State) (s : Source) (n : Bytes) (a : Atom) (b : Attribute) → source ≡ source_code s → attribute_of S.declared s n ≡ some b → (t : Bool)
           → not (eqb (type_code b.type) (type_code (type_of a))) ≡ t → (from_block s || (attribute_of S.declared s n is λ c. not (same_type c.type (type_of a)))) ≡ t
       sorted S s n a b from of t e =
           ap₂ (λ (x y : Bool). x || y) (of_block s from ∙ of-holders)
           (ap (λ (o : math.Option Attribute). o is λ c. not (same_type c.type (type_of a))) of ∙ ap not (same-type-code b.type (type_of a)) ∙ e)
 
-      of_type : (a : Atom) → atom_value a ≡ value → type_code (type_of a) ≡ type_number value.ty
-      of_type a atom-is = sym (type-numbered (type_of a)) ∙ ap (λ (v : Value). type_number v.ty) atom-is
-
-      pub pair-of-type : (get_or (section_words section.attributes book) (8 * k + 1) 0 ≡ type_number value.ty → ⊥) → PairStep book source packed value book refusal.wrong_sort
+      pub pair-of-type : (get_or (section_words section.attributes book) (8 * k + 1) 0 ≡ value.ty → ⊥) → PairStep book source packed value book refusal.wrong_sort
       pair-of-type other code s n a name written from words atom-is S standing held =
           let d = declared code S standing held s n name from words in (
             test-sort S (atom s n a) refl refl (ap is_none d.number_is)
-                (sorted S s n a d.attribute from d.of-name true (ap not (ne_eqb _ _ (λ z. other (d.ty-is ∙ z ∙ of_type a atom-is))))),
+                (sorted S s n a d.attribute from d.of-name true (ap not (ne_eqb _ _ (λ z. other (d.ty-is ∙ z ∙ ap (λ (v : Value). v.ty) atom-is))))),
             λ z. absurd (omega arith),
           )
 
-      module _ (typed : get_or (section_words section.attributes book) (8 * k + 1) 0 ≡ type_number value.ty) (r : Option ℕ)
+      module _ (typed : get_or (section_words section.attributes book) (8 * k + 1) 0 ≡ value.ty) (r : Option ℕ)
           (found-pair : PairFound (section_words section.pairs book) k value.words r) where
         right-type : (a : Atom) (b : Attribute) → atom_value a ≡ value → get_or (section_words section.attributes book) (8 * k + 1) 0 ≡ type_code b.type
             → type_code b.type ≡ type_code (type_of a)
-        right-type a b atom-is ty = sym ty ∙ typed ∙ sym (of_type a atom-is)
+        right-type a b atom-is ty = sym ty ∙ typed ∙ sym (ap (λ (v : Value). v.ty) atom-is)
 
-        sorted-right : (S : State) (s : Source) (n : Bytes) (a : Atom) (code : Bytes) (d : Declared code S s n) → source ≡ source_for s → atom_value a ≡ value
+        sorted-right : (S : State) (s : Source) (n : Bytes) (a : Atom) (code : Bytes) (d : Declared code S s n) → source ≡ source_code s → atom_value a ≡ value
             → (from_block s || (attribute_of S.declared s n is λ c. not (same_type c.type (type_of a)))) ≡ false
         sorted-right S s n a code d from atom-is =
             sorted S s n a d.attribute from d.of-name false (ap not (eq-eqb _ _ (right-type a d.attribute atom-is d.ty-is)))

@@ -9,11 +9,7 @@ use Rattle.model.specs.Declarations.{Sort, is_sort}
 use Rattle.model.specs.Lines.{attr, op, atom, holder}
 use Rattle.model.specs.State.{empty}
 use Rattle.bits.specs.Bits.{bit, Bits}
-use Rattle.codes.specs.declared.Source as codes
-use Rattle.codes.specs.declared.AtomType as type
-use Rattle.codes.specs.declared.Key.{Key}
 use Rattle.codes.specs.Codes.{source_code, type_code}
-use Rattle.codes.specs.Enums.{source_for, type_for, key_number}
 use Rattle.text.specs.declared.Packed.{Packed}
 use Rattle.text.specs.declared.Words.{Words}
 use Rattle.text.specs.declared.Value.{Value}
@@ -79,24 +75,24 @@ pub record Keeps (r : ℕ) (book book' : List ℕ) : Type 0 where
   pub long : length book' ≡ length book
   pub refused : (r ≡ 0 → ⊥) → book' ≡ book
 
--- the steps of lines that declare: for whatever source, name, type, atom and sort these stand for
-abbrev pub AttributeStep : List ℕ → codes.Source → type.AtomType → Packed → List ℕ → ℕ → Type 0
+-- the steps of lines that declare: for whatever source, name, type, atom and sort these are the numbers of
+abbrev pub AttributeStep : List ℕ → ℕ → ℕ → Packed → List ℕ → ℕ → Type 0
 AttributeStep book source ty name book' r =
-    (code : Bytes) (s : Source) (n : Bytes) (t : AtomType) → is_name n ≡ true → source ≡ source_for s → ty ≡ type_for t
+    (code : Bytes) (s : Source) (n : Bytes) (t : AtomType) → is_name n ≡ true → source ≡ source_code s → ty ≡ type_code t
     → packed_of n ≡ name → Steps book code (attr s n t) book' code r
 
 abbrev pub OperationStep : List ℕ → Packed → List ℕ → ℕ → Type 0
 OperationStep book name book' r =
     (code : Bytes) (n : Bytes) → is_name n ≡ true → packed_of n ≡ name → Steps book code (op n) book' code r
 
-abbrev pub PairStep : List ℕ → codes.Source → Packed → Value → List ℕ → ℕ → Type 0
+abbrev pub PairStep : List ℕ → ℕ → Packed → Value → List ℕ → ℕ → Type 0
 PairStep book source name value book' r =
-    (code : Bytes) (s : Source) (n : Bytes) (a : Atom) → is_name n ≡ true → is_atom a ≡ true → source ≡ source_for s
+    (code : Bytes) (s : Source) (n : Bytes) (a : Atom) → is_name n ≡ true → is_atom a ≡ true → source ≡ source_code s
     → packed_of n ≡ name → atom_value a ≡ value → Steps book code (atom s n a) book' code r
 
-abbrev pub HolderStep : List ℕ → Key → Packed → List ℕ → ℕ → Type 0
+abbrev pub HolderStep : List ℕ → ℕ → Packed → List ℕ → ℕ → Type 0
 HolderStep book key name book' r =
-    (code : Bytes) (s : Sort) (n : Bytes) → is_sort s Sort.admin ≡ false → is_name n ≡ true → key_number key ≡ sort_code s
+    (code : Bytes) (s : Sort) (n : Bytes) → is_sort s Sort.admin ≡ false → is_name n ≡ true → key ≡ sort_code s
     → packed_of n ≡ name → Steps book code (holder s n) book' code r
 
 -- the book of the empty state, whatever the rules' bytes are

@@ -5,7 +5,7 @@ ghost use Rattle.model.specs.Declarations.{Sort};
 ghost use Rattle.model.specs.Limits.{attribute_limit, operation_limit, pair_limit, group_limit};
 ghost use Rattle.codes.specs.declared.Refusal.TheVariants as refusal;
 ghost use Rattle.codes.specs.Codes.{source_code};
-ghost use Rattle.codes.specs.Enums.{source_number, type_number, key_number, number_in};
+ghost use Rattle.codes.specs.Enums.{number_in};
 ghost use Rattle.book.specs.Sections.{book_words, book_holders};
 ghost use Rattle.book.specs.Held.{sort_code};
 ghost use Rattle.book.specs.Declaring.{block_text, attribute_put, operation_put, PairPut, HolderPut, group_put, AttributeStep, OperationStep, PairStep, HolderStep, Keeps, Emptied};
@@ -37,24 +37,24 @@ fn next_number(count: u64, limit: usize) -> Result<usize, Refusal>
 }
 
 // Whether a source is env or connect.
-fn is_of_block(source: Source) -> bool
-    ensures { result ≡ leb (source_code env) (source_number source) }
+fn is_of_block(source: u8) -> bool
+    ensures { result ≡ leb (source_code env) source }
 {
-    matches!(source, Source::Env | Source::Connect)
+    source >= Source::Env as u8
 }
 
 // Whether an attribute would be a str of env or connect.
-fn is_block_text(source: Source, ty: AtomType) -> bool
-    ensures { result ≡ block_text (source_number source) (type_number ty) }
+fn is_block_text(source: u8, ty: u8) -> bool
+    ensures { result ≡ block_text source ty }
 {
-    is_of_block(source) && ty == AtomType::Str
+    is_of_block(source) && ty == AtomType::Str as u8
 }
 
 // Writes attribute n, of which there are no pairs yet, and counts it.
 #[tactic(auto, unfolding(crate::specs::Declaring::attribute_put))]
-fn put_attribute(book: &mut [u64], n: usize, source: Source, ty: AtomType, name: Packed)
+fn put_attribute(book: &mut [u64], n: usize, source: u8, ty: u8, name: Packed)
     requires { (length book.old ≡ book_words) × (n < attribute_limit) }
-    ensures { book.new ≡ attribute_put book.old n (source_number source) (type_number ty) name }
+    ensures { book.new ≡ attribute_put book.old n source ty name }
 {
     let row = (u64::from(source), u64::from(ty), name.low, name.high);
     index::put_row(book, ATTRIBUTES_AT + 8 * n, row);
@@ -62,12 +62,7 @@ fn put_attribute(book: &mut [u64], n: usize, source: Source, ty: AtomType, name:
 }
 
 // The step of a line `attr`: refused where its sort is wrong, where it is repeated, and where the table is full.
-pub fn attribute(
-    book: &mut [u64],
-    source: Source,
-    ty: AtomType,
-    name: Packed,
-) -> Result<(), Refusal>
+pub fn attribute(book: &mut [u64], source: u8, ty: u8, name: Packed) -> Result<(), Refusal>
     requires { length book.old ≡ book_words }
     ensures { Keeps (number_in result) book.old book.new × AttributeStep book.old source ty name book.new (number_in result) }
 {
@@ -123,7 +118,7 @@ fn put_pair(book: &mut [u64], n: usize, k: usize, words: Words)
 }
 
 // The step of a line `atom`: refused where its attribute is undeclared, where its sort is wrong, where it is repeated, and where the table is full.
-pub fn pair(book: &mut [u64], source: Source, name: Packed, atom: Value) -> Result<(), Refusal>
+pub fn pair(book: &mut [u64], source: u8, name: Packed, atom: Value) -> Result<(), Refusal>
     requires { length book.old ≡ book_words }
     ensures { Keeps (number_in result) book.old book.new × PairStep book.old source name atom book.new (number_in result) }
 {
@@ -167,14 +162,14 @@ fn put_group(book: &mut [u64], n: usize, g: usize)
 }
 
 // Whether a key that declares a holder declares a group: those of groups come first.
-fn is_group(key: Key) -> bool
-    ensures { result ≡ ltb (key_number key) (sort_code Sort.user) }
+fn is_group(key: u8) -> bool
+    ensures { result ≡ ltb key (sort_code Sort.user) }
 {
-    key < Key::User
+    key < Key::User as u8
 }
 
 // The step of a line that declares a holder, by its key: refused where it is repeated, and where a table is full. A group gets the next slot.
-pub fn holder(book: &mut [u64], key: Key, name: Packed) -> Result<(), Refusal>
+pub fn holder(book: &mut [u64], key: u8, name: Packed) -> Result<(), Refusal>
     requires { length book.old ≡ book_words }
     ensures { Keeps (number_in result) book.old book.new × HolderStep book.old key name book.new (number_in result) }
 {

@@ -149,6 +149,14 @@ impl From<Source> for u64 {
     }
 }
 
+impl From<Source> for u8 {
+    ghost from_gives = { λ s n. n ≡ source_number s };
+
+    fn from(source: Source) -> u8 {
+        source as u8
+    }
+}
+
 impl From<AtomType> for u64 {
     ghost from_gives = { λ t n. n ≡ type_number t };
 
@@ -157,11 +165,27 @@ impl From<AtomType> for u64 {
     }
 }
 
+impl From<AtomType> for u8 {
+    ghost from_gives = { λ t n. n ≡ type_number t };
+
+    fn from(ty: AtomType) -> u8 {
+        ty as u8
+    }
+}
+
 impl From<Key> for u64 {
     ghost from_gives = { λ k n. n ≡ key_number k };
 
     fn from(key: Key) -> u64 {
         key as u64
+    }
+}
+
+impl From<Key> for u8 {
+    ghost from_gives = { λ k n. n ≡ key_number k };
+
+    fn from(key: Key) -> u8 {
+        key as u8
     }
 }
 

@@ -3,11 +3,9 @@
 
 ghost use Rattle.std.specs.Prelude.{◌≡◌, ◌*◌, ◌≤◌, ◌<◌, length, get_or};
 ghost use Rattle.std.proofs.lemmas.List.Edits.{sets};
-ghost use Rattle.policy.specs.Readers.{operand_of};
 ghost use Rattle.compile.specs.Compiled.{TermRead, RowRead, low, high, row_of, TokenDone, Compiled};
 
 use codes::{AND, END, NAME};
-use policy::Meant;
 use values::Operand;
 
 // A term: its operator, the word of a truth value or the kind of a name that stands alone; its operands; and where the code goes on behind it.
@@ -17,17 +15,6 @@ pub struct Term {
     left: Operand,
     right: Operand,
     next: usize,
-}
-
-// The operand of what a var stands for.
-fn operand(meant: Meant, attributes: &[u64]) -> Operand
-    requires { length attributes.now ≡ 256 }
-    ensures { result ≡ operand_of attributes.now meant }
-{
-    match meant {
-        Meant::Constants(ty, start, end) => values::constant(ty, start, end),
-        Meant::Attribute(number) => values::attribute(attributes, number),
-    }
 }
 
 // The term that begins at a place. No truth value is a var; a var that no operator and var follow stands alone.
@@ -46,13 +33,13 @@ fn term_at(code: &[u8], attributes: &[u64], kind: u8, at: usize) -> Term
     match policy::second_var(code, false, left.next) {
         Some(right) => Term {
             kind: policy::kind_at(code, left.next),
-            left: operand(left.meant, attributes),
-            right: operand(right.meant, attributes),
+            left: left.meant.operand(attributes),
+            right: right.meant.operand(attributes),
             next: right.next,
         },
         None => Term {
             kind: NAME,
-            left: operand(left.meant, attributes),
+            left: left.meant.operand(attributes),
             right: values::no_values(),
             next: left.next,
         },

@@ -1,6 +1,6 @@
 -- The tie of an edit's line, by its frame and its key: 4, 13, or that of its fields. Assumes nothing.
 use Prim.Native.Nat.{ℕ}
-use mathlib.Core.Path.{◌≡◌, refl, ap, sym}
+use mathlib.Core.Path.{◌≡◌, refl, ap, sym, ◌∙◌}
 use mathlib.Core.Logic.{◌⊎◌, ⊎_elim}
 use mathlib.Core.Bool.{Bool, true, false, not}
 use mathlib.Core.List.{List, ◌∷◌}
@@ -15,7 +15,8 @@ use Rattle.codes.specs.declared.Key.{Key}
 use Rattle.codes.specs.declared.Key.TheVariants as variant
 use Rattle.codes.specs.declared.Refusal.{Refusal}
 use Rattle.codes.specs.declared.Refusal.TheVariants.{Unframed, OtherKey}
-use Rattle.codes.specs.Enums.{key_for}
+use Rattle.codes.specs.Enums.{key_number, key_for}
+use Rattle.codes.proofs.Enums.{key-numbered}
 use Rattle.fields.specs.declared.Framed.{Framed}
 use Rattle.fields.specs.Frames.{bytes_between, FrameTold}
 use Rattle.fields.proofs.ToldParts.{not-framed, is_framed}
@@ -65,10 +66,10 @@ module _ {book : List ℕ} (line : Bytes) (r : Framed) (told : FrameTold line (S
         fits = λ t e. absurd (cc);
       }
 
-  pub key-of-ties : ((k : keys.Key) → r.key ≡ key_for k → is_tie_key k ≡ true) → {t : Result Tie Refusal} → KeyTie book r.key (bytes_between line r.start r.end) t → LineTie book line t
+  pub key-of-ties : ((k : keys.Key) → r.key ≡ key_for k → is_tie_key k ≡ true) → {t : Result Tie Refusal} → KeyTie book (key_number r.key) (bytes_between line r.start r.end) t → LineTie book line t
   unfolding unframed other_key malformed read_line
   key-of-ties is-tie keyed S code standing held =
       let (k, e, here) = is_framed line r told in
       let i = is-tie k e in
-      let a = keyed k i e S code standing held in
+      let a = keyed k i (ap key_number e ∙ key-numbered k) S code standing held in
       record { refusal = rw (here, i) a.refusal; tie = rw here a.tie; fits = a.fits }

@@ -34,7 +34,7 @@ fn tie_of_line(line: &[u8], book: &[u64]) -> Result<Tie, Refusal>
     let frame = fields::frame(line).ok_or(Refusal::Unframed)?;
     match frame.key {
         Key::Parent | Key::Member | Key::Value => {
-            tielines::of_fields(book, frame.key, &line[frame.start..frame.end])
+            tielines::of_fields(book, u8::from(frame.key), &line[frame.start..frame.end])
         }
         _ => Err(Refusal::OtherKey),
     }

@@ -15,7 +15,7 @@ use Rattle.fields.proofs.CutParts.{cut_within, cut_behind, behind-front}
 use Rattle.fields.proofs.Forms.{◌then◌, parts_at}
 
 module _ (line : Bytes) where
-  unframed : framed line ≡ none → FrameTold line None
+  pub unframed : framed line ≡ none → FrameTold line None
   unframed n = record { frame = record { parts = none; read = n; told = refl }; ordered = tt; within = tt }
 
   pub no_end : cut 10 line ≡ none → FrameTold line None

@@ -21,6 +21,7 @@ use Rattle.codes.specs.declared.Key.{Key}
 use Rattle.codes.specs.declared.Key.TheVariants as key
 use Rattle.codes.specs.declared.Refusal.{Refusal}
 use Rattle.codes.specs.declared.Refusal.TheVariants.{Unframed, OutOfOrder}
+use Rattle.codes.specs.Codes.{coded, key_code}
 use Rattle.codes.specs.Enums.{key_number, key_for, refusal_number, number_in}
 use Rattle.codes.proofs.Codes.{key-injective}
 use Rattle.codes.proofs.Enums.{key-numbered}
@@ -28,7 +29,7 @@ use Rattle.fields.specs.declared.Framed.{Framed}
 use Rattle.fields.specs.Frames.{bytes_between, FrameTold}
 use Rattle.fields.proofs.ToldParts.{not-framed, is_framed}
 use Rattle.book.specs.Held.{Holds}
-use Rattle.file.specs.LineSteps.{fields_refusal, FieldsRead, HolderRead, TieRead, FieldsOf, latest, LineRead}
+use Rattle.file.specs.LineSteps.{fields_refusal, FieldsRead, HolderRead, TieRead, FieldsOf, LineRead}
 
 -- ---- the frame
 
@@ -67,49 +68,49 @@ behind-order S b (some l) e = rw e
 
 -- a key before its predecessor's, by their numbers
 module _ (k : keys.Key) (p : math.Option keys.Key) where
-  is-before : key_number (key_for k) < key_number (latest p) → (p is λ q. ltb (rank k) (rank q)) ≡ true
+  is-before : key_number (key_for k) < coded key_code p → (p is λ q. ltb (rank k) (rank q)) ≡ true
   is-before l = go p l
     where
-      go : (o : math.Option keys.Key) → key_number (key_for k) < key_number (latest o) → (o is λ q. ltb (rank k) (rank q)) ≡ true
+      go : (o : math.Option keys.Key) → key_number (key_for k) < coded key_code o → (o is λ q. ltb (rank k) (rank q)) ≡ true
       go none l = absurd (omega (arith, key-numbered k))
       go (some q) l = lt-ltb (rank k) (rank q) (omega (arith, key-numbered k, key-numbered q))
 
-  not-before : key_number (latest p) ≤ key_number (key_for k) → (p is λ q. ltb (rank k) (rank q)) ≡ false
+  not-before : coded key_code p ≤ key_number (key_for k) → (p is λ q. ltb (rank k) (rank q)) ≡ false
   not-before l = go p l
     where
-      go : (o : math.Option keys.Key) → key_number (latest o) ≤ key_number (key_for k) → (o is λ q. ltb (rank k) (rank q)) ≡ false
+      go : (o : math.Option keys.Key) → coded key_code o ≤ key_number (key_for k) → (o is λ q. ltb (rank k) (rank q)) ≡ false
       go none l = refl
       go (some q) l = le-ltb (rank k) (rank q) (omega (arith, key-numbered k, key-numbered q))
 
 pub line-fields : (line : Bytes) (f : Framed) → FrameTold line (Some f) → length (bytes_between line f.start f.end) ≤ line_bytes
 line-fields line f told = let (k, n, e) = is_framed line f told in fields-short line k (bytes_between line f.start f.end) e
 
-module _ {book : List ℕ} {code : Bytes} (line : Bytes) (previous : Key) where
+module _ {book : List ℕ} {code : Bytes} (line : Bytes) (previous : ℕ) where
   pub line-unframed : {book' : List ℕ} {code' : Bytes} {r : Result Key Refusal} → FrameTold line None → r ≡ Err Unframed → LineRead book code line previous book' code' r
   line-unframed told z S standing held p at = (ap number_in z ∙ sym (by-frame S p line none (not-framed line told)), λ k w. absurd (cc))
 
   module _ (f : Framed) (told : FrameTold line (Some f)) where
-    pub line-early : {book' : List ℕ} {code' : Bytes} → key_number f.key < key_number previous → LineRead book code line previous book' code' (Err OutOfOrder)
+    pub line-early : {book' : List ℕ} {code' : Bytes} → key_number f.key < previous → LineRead book code line previous book' code' (Err OutOfOrder)
     line-early l S standing held p at =
         let (k, n, e) = is_framed line f told in
-        let before : key_number (key_for k) < key_number (latest p) = omega (arith, ap key_number n, ap key_number at) in
+        let before : key_number (key_for k) < coded key_code p = omega (arith, ap key_number n, at) in
         (sym (by-frame S p line (some (k, bytes_between line f.start f.end)) e ∙ rw (is-before k p before)), λ k w. absurd (cc))
 
-    module _ (l : key_number previous ≤ key_number f.key) {book' : List ℕ} {code' : Bytes} {n : ℕ} (step : FieldsOf book code f.key (bytes_between line f.start f.end) book' code' n) where
-      stepped_number : (S : State) → Standing S → Holds book code S → (p : math.Option keys.Key) → previous ≡ latest p
-          → (n ≡ line_refusal S p line) × (n ≡ 0 → Holds book' code' (stepped S (read_line line)) × (f.key ≡ latest (key_of line)))
+    module _ (l : previous ≤ key_number f.key) {book' : List ℕ} {code' : Bytes} {n : ℕ} (step : FieldsOf book code f.key (bytes_between line f.start f.end) book' code' n) where
+      stepped_number : (S : State) → Standing S → Holds book code S → (p : math.Option keys.Key) → previous ≡ coded key_code p
+          → (n ≡ line_refusal S p line) × (n ≡ 0 → Holds book' code' (stepped S (read_line line)) × (key_number f.key ≡ coded key_code (key_of line)))
       unfolding read_line
       stepped_number S standing held p at =
           let (k, m, e) = is_framed line f told in
           let fields = bytes_between line f.start f.end in
           let (is_number, holds) = step k m S standing held in
-          let behind : key_number (latest p) ≤ key_number (key_for k) = omega (arith, ap key_number m, ap key_number at) in
+          let behind : coded key_code p ≤ key_number (key_for k) = omega (arith, ap key_number m, at) in
           let tests = by-frame S p line (some (k, fields)) e ∙ behind-order S (p is λ q. ltb (rank k) (rank q)) (read_fields k fields) (not-before k p behind) in
           let read : read_line line ≡ read_fields k fields = ap (λ (c : math.Option (keys.Key × Bytes)). c >>= λ (key, fields). read_fields key fields) e in (
             is_number ∙ sym tests,
             λ z. (
               subst (λ (o : math.Option Line). Holds book' code' (stepped S o)) (sym read) (holds z),
-              m ∙ ap (λ (c : math.Option (keys.Key × Bytes)). latest (c >>= λ (key, fields). some key)) (sym e),
+              ap key_number m ∙ key-numbered k ∙ ap (λ (c : math.Option (keys.Key × Bytes)). coded key_code (c >>= λ (key, fields). some key)) (sym e),
             ),
           )
 
@@ -119,7 +120,7 @@ module _ {book : List ℕ} {code : Bytes} (line : Bytes) (previous : Key) where
       pub line-stepped : n ≡ 0 → LineRead book code line previous book' code' (Ok f.key)
       line-stepped z S standing held p at =
           let s = stepped_number S standing held p at in
-          (sym z ∙ s.0, λ k v. let same : f.key ≡ k = cc in let h = s.1 z in (h.0, sym same ∙ h.1))
+          (sym z ∙ s.0, λ k v. let same : f.key ≡ k = cc in let h = s.1 z in (h.0, ap key_number (sym same) ∙ h.1))
 
 -- ---- keys by their variants
 

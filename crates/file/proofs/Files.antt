@@ -23,16 +23,16 @@ use Rattle.model.proofs.Cuts.{lacks, behind-parts, cut-joined, cut_parts}
 use Rattle.model.proofs.Ledger.{accepted-line}
 use Rattle.model.proofs.Standing.{empty-standing, after-standing}
 use Rattle.codes.specs.declared.Key.{Key}
-use Rattle.codes.specs.declared.Key.TheVariants.{Attr}
 use Rattle.codes.specs.declared.Refusal.{Refusal}
 use Rattle.codes.specs.declared.Refusal.TheVariants.{TooLong, WrongFirstLine}
-use Rattle.codes.specs.Enums.{refusal_number, number_in}
+use Rattle.codes.specs.Codes.{coded, key_code}
+use Rattle.codes.specs.Enums.{key_number, refusal_number, number_in}
 use Rattle.text.specs.Parts.{FirstAt}
 use Rattle.text.proofs.LoopPlaces.{tail-part, done}
 use Rattle.book.specs.Held.{Holds}
 use Rattle.tielines.proofs.TieRefusals.{refused_for}
 use Rattle.file.specs.declared.Refused.{Refused}
-use Rattle.file.specs.LineSteps.{latest, LineRead, FirstLine, LoadedAs, OthersRead}
+use Rattle.file.specs.LineSteps.{LineRead, FirstLine, LoadedAs, OthersRead}
 
 -- ---- the first line
 
@@ -142,15 +142,15 @@ module _ (s : Bytes) where
 -- ---- a turn of reading on
 
 -- what the book holds behind the lines that were read, and that the answer from there on is the answer
-pub record Onward (answer : Loaded) (book : List ℕ) (code : Bytes) (previous : Key) (n : ℕ) (rest : Bytes) : Type 0 where
+pub record Onward (answer : Loaded) (book : List ℕ) (code : Bytes) (previous n : ℕ) (rest : Bytes) : Type 0 where
   pub state : State
   pub key : math.Option keys.Key
   pub standing : Standing state
   pub held : Holds book code state
-  pub key-is : previous ≡ latest key
+  pub key-is : previous ≡ coded key_code key
   pub goes_on : answer ≡ read_on Edition.first state key n (lines_of rest)
 
-pub onward-starts : (book : List ℕ) (code rest : Bytes) → Holds book code (empty Edition.first) → Onward (read_on Edition.first (empty Edition.first) none 1 (lines_of rest)) book code Attr 1 rest
+pub onward-starts : (book : List ℕ) (code rest : Bytes) → Holds book code (empty Edition.first) → Onward (read_on Edition.first (empty Edition.first) none 1 (lines_of rest)) book code 0 1 rest
 onward-starts book code rest held = record { state = empty Edition.first; key = none; standing = empty-standing Edition.first; held = held; key-is = refl; goes_on = refl }
 
 -- the state behind an accepted line stands
@@ -158,7 +158,7 @@ stands_on : (S : State) (p : math.Option keys.Key) (line : Bytes) → Standing S
 stands_on S p line standing e none f = standing
 stands_on S p line standing e (some l) f = let (a, c) = accepted-line S p line l e f in after-standing l standing a c
 
-module _ {answer : Loaded} {book : List ℕ} {code : Bytes} {previous : Key} {n : ℕ} {rest : Bytes} (on : Onward answer book code previous n rest) where
+module _ {answer : Loaded} {book : List ℕ} {code : Bytes} {previous n : ℕ} {rest : Bytes} (on : Onward answer book code previous n rest) where
   pub onward-ends : rest ≡ [] → LoadedAs answer book code (Ok n)
   unfolding read_on
   onward-ends e =
@@ -172,7 +172,7 @@ module _ {answer : Loaded} {book : List ℕ} {code : Bytes} {previous : Key} {n 
   module _ {line behind : Bytes} {end : Option ℕ} (first : FirstLine rest line end behind) (some_left : 0 < length rest) {book' : List ℕ} {code' : Bytes} {r : Result Key Refusal}
       (read : LineRead book code line previous book' code' r) where
     told : (number_in r ≡ line_refusal on.state on.key line)
-        × ((key : Key) → r ≡ Ok key → Holds book' code' (stepped on.state (read_line line)) × (key ≡ latest (key_of line)))
+        × ((key : Key) → r ≡ Ok key → Holds book' code' (stepped on.state (read_line line)) × (key_number key ≡ coded key_code (key_of line)))
     told = read on.state on.standing on.held on.key on.key-is
 
     begins-with : answer ≡ read_on Edition.first on.state on.key n (line ∷ lines_of behind)
@@ -189,7 +189,7 @@ module _ {answer : Loaded} {book : List ℕ} {code : Bytes} {previous : Key} {n 
           holds = λ w. absurd (refused_for e w);
         }
 
-    pub onward-next : {key : Key} → r ≡ Ok key → Onward answer book' code' key (n + 1) behind
+    pub onward-next : {key : Key} → r ≡ Ok key → Onward answer book' code' (key_number key) (n + 1) behind
     unfolding read_on
     onward-next {key} e =
         let zero_is : line_refusal on.state on.key line ≡ 0 = sym told.0 ∙ ap number_in e in

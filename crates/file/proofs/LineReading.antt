@@ -20,7 +20,8 @@ use Rattle.model.proofs.Lines.{fields-said}
 use Rattle.codes.specs.declared.Key.{Key}
 use Rattle.codes.specs.declared.Refusal.{Refusal}
 use Rattle.codes.specs.declared.Refusal.TheVariants.{Malformed}
-use Rattle.codes.specs.Enums.{refusal_number, number_in, told_by}
+use Rattle.codes.specs.Enums.{source_number, type_number, key_number, refusal_number, number_in, told_by}
+use Rattle.codes.proofs.Enums.{source-numbered, type-numbered}
 use Rattle.text.specs.declared.Packed.{Packed}
 use Rattle.text.specs.Packing.{packed_of}
 use Rattle.fields.specs.declared.AttrFields.{AttrFields}
@@ -114,18 +115,18 @@ module _ {book : List ℕ} (k : keys.Key) (f : Bytes) (tie : is_tie_key k ≡ tr
 
 module _ {book book' : List ℕ} {n : ℕ} (f : Bytes) where
   -- "SRC,NAME,TYPE"
-  pub attr-read : (r : AttrFields) → AttrTold f (Some r) → AttributeStep book r.source r.ty r.name book' n → KeyRead book (read_attr f) book' n
+  pub attr-read : (r : AttrFields) → AttrTold f (Some r) → AttributeStep book (source_number r.source) (type_number r.ty) r.name book' n → KeyRead book (read_attr f) book' n
   attr-read r told step code =
       let ((s, m, t), e, g) = read_as told in
-      fields-line e (step code s m t (fields-said keys.Key.attr f (attr s m t) e).0 (ap (λ (x : AttrFields). x.source) g) (ap (λ (x : AttrFields). x.ty) g)
+      fields-line e (step code s m t (fields-said keys.Key.attr f (attr s m t) e).0 (ap (λ (x : AttrFields). source_number x.source) g ∙ source-numbered s) (ap (λ (x : AttrFields). type_number x.ty) g ∙ type-numbered t)
       (ap (λ (x : AttrFields). x.name) (sym g)))
 
   -- "SRC.NAME,ATOM"
-  pub pair_read : (r : PairFields) → PairTold f (Some r) → PairStep book r.source r.name r.atom book' n → KeyRead book (read_pair f) book' n
+  pub pair_read : (r : PairFields) → PairTold f (Some r) → PairStep book (source_number r.source) r.name r.atom book' n → KeyRead book (read_pair f) book' n
   pair_read r told step code =
       let ((s, m, a), e, g) = read_as told in
       let (named, atomic) = parts (is_name m) (is_atom a) (fields-said keys.Key.atom f (atom s m a) e).0 in
-      fields-line e (step code s m a named atomic (ap (λ (x : PairFields). x.source) g) (ap (λ (x : PairFields). x.name) (sym g))
+      fields-line e (step code s m a named atomic (ap (λ (x : PairFields). source_number x.source) g ∙ source-numbered s) (ap (λ (x : PairFields). x.name) (sym g))
       (ap (λ (x : PairFields). x.atom) (sym g)))
 
 -- a name
@@ -155,6 +156,6 @@ module _ (f : Bytes) where
   unfolding read_holder
   holder-unread k told z s other e code = fields-unread (read_holder s f) (unnamed (holder s) (read_name f) told) z
 
-  pub holder-read : (k : Key) {book book' : List ℕ} {n : ℕ} {p : Packed} → Some p ≡ told_by packed_of (read_name f) → HolderStep book k p book' n → HolderRead book k f book' n
+  pub holder-read : (k : Key) {book book' : List ℕ} {n : ℕ} {p : Packed} → Some p ≡ told_by packed_of (read_name f) → HolderStep book (key_number k) p book' n → HolderRead book k f book' n
   unfolding read_holder
   holder-read k told step s other e code = let (m, is_m, read, words) = named (holder s) (read_name f) told in fields-line read (step code s m other (name-formed f m is_m) e words)

@@ -15,8 +15,8 @@ use Rattle.model.specs.Refusals.{Test, ◌if◌, first, line_refusal}
 use Rattle.model.specs.Load.{Loaded, stepped, key_of, read_on}
 use Rattle.model.specs.Standing.{WellDeclared, Standing}
 use Rattle.codes.specs.declared.Key.{Key}
-use Rattle.codes.specs.declared.Key.TheVariants.{Attr}
 use Rattle.codes.specs.declared.Refusal.{Refusal}
+use Rattle.codes.specs.Codes.{coded, key_code}
 use Rattle.codes.specs.Enums.{key_number, key_for, number_in}
 use Rattle.text.specs.Parts.{FirstAt}
 use Rattle.rows.specs.Rows.{AttributeRows}
@@ -86,17 +86,12 @@ HolderRead book key f book' r = (s : Sort) → is_sort s Sort.admin ≡ false �
 abbrev pub FieldsOf : List ℕ → Bytes → Key → Bytes → List ℕ → Bytes → ℕ → Type 0
 FieldsOf book code key f book' code' r = (k : keys.Key) → key ≡ key_for k → FieldsRead book code (read_fields k f) book' code' r
 
--- the key that none behind may stand before: the first of all, where there is no line yet
-abbrev pub latest : Option keys.Key → Key
-latest none = Attr
-latest (some k) = key_for k
-
--- what a line is refused for, or the key that the next may not stand before and the state with the line
-abbrev pub LineRead : List ℕ → Bytes → Bytes → Key → List ℕ → Bytes → Result Key Refusal → Type 0
+-- what a line is refused for behind one whose key has the number `previous`, 0 for none; or its key and the state with the line
+abbrev pub LineRead : List ℕ → Bytes → Bytes → ℕ → List ℕ → Bytes → Result Key Refusal → Type 0
 LineRead book code line previous book' code' r =
-    (S : State) → Standing S → Holds book code S → (p : Option keys.Key) → previous ≡ latest p
+    (S : State) → Standing S → Holds book code S → (p : Option keys.Key) → previous ≡ coded key_code p
     → (number_in r ≡ line_refusal S p line)
-    × ((key : Key) → r ≡ std.Ok key → Holds book' code' (stepped S (read_line line)) × (key ≡ latest (key_of line)))
+    × ((key : Key) → r ≡ std.Ok key → Holds book' code' (stepped S (read_line line)) × (key_number key ≡ coded key_code (key_of line)))
 
 -- ---- files
 

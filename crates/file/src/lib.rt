@@ -8,7 +8,7 @@ ghost use Rattle.model.specs.Load.{load};
 ghost use Rattle.book.specs.Sections.{book_words, rule_bytes};
 ghost use Rattle.file.specs.LineSteps.{FirstLine, OthersRead, LoadedAs};
 
-use codes::{Key, Refusal};
+use codes::Refusal;
 
 pub mod line;
 pub mod rule;
@@ -50,14 +50,13 @@ fn others(book: &mut [u64], code: &mut [u8], rest: &[u8]) -> Result<u32, Refused
 {
     let mut left = rest;
     let mut lines: u32 = 1;
-    // No key stands before the first of all.
-    let mut previous = Key::Attr;
+    let mut previous: u8 = 0;
     // An iterator over lines would not say where byte 10 stands, and the frame would look for it again.
     while !left.is_empty() {
         let (line, end, behind) = first_line(left);
         lines += 1;
         match crate::line::read(book, code, line, end, previous) {
-            Ok(key) => previous = key,
+            Ok(key) => previous = u8::from(key),
             Err(refusal) => {
                 return Err(Refused {
                     refusal,

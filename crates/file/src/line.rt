@@ -15,7 +15,7 @@ fn tie(book: &mut [u64], key: Key, f: &[u8]) -> Result<(), Refusal>
     requires { length book.old ≡ book_words }
     ensures { TieRead book.old key f.now book.new (number_in result) }
 {
-    let t = tielines::of_fields(book, key, f)?;
+    let t = tielines::of_fields(book, u8::from(key), f)?;
     tielines::judge(book, t, true)?;
     tielines::change(book, t, true);
     Ok(())
@@ -27,7 +27,7 @@ fn attribute(book: &mut [u64], f: &[u8]) -> Result<(), Refusal>
     ensures { KeyRead book.old (read_attr f.now) book.new (number_in result) }
 {
     let a = fields::attr_fields(f).ok_or(Refusal::Malformed)?;
-    book::declare::attribute(book, a.source, a.ty, a.name)
+    book::declare::attribute(book, u8::from(a.source), u8::from(a.ty), a.name)
 }
 
 // The name of an operation
@@ -45,7 +45,7 @@ fn pair(book: &mut [u64], f: &[u8]) -> Result<(), Refusal>
     ensures { KeyRead book.old (read_pair f.now) book.new (number_in result) }
 {
     let p = fields::pair_fields(f).ok_or(Refusal::Malformed)?;
-    book::declare::pair(book, p.source, p.name, p.atom)
+    book::declare::pair(book, u8::from(p.source), p.name, p.atom)
 }
 
 // The name of a holder
@@ -54,7 +54,7 @@ fn holder(book: &mut [u64], key: Key, f: &[u8]) -> Result<(), Refusal>
     ensures { HolderRead book.old key f.now book.new (number_in result) }
 {
     let name = fields::name_field(f).ok_or(Refusal::Malformed)?;
-    book::declare::holder(book, key, name)
+    book::declare::holder(book, u8::from(key), name)
 }
 
 // The fields of a key.
@@ -72,19 +72,20 @@ fn step(book: &mut [u64], code: &mut [u8], key: Key, f: &[u8]) -> Result<(), Ref
     }
 }
 
-// A line of a file, given with its byte 10, which stands first at `end`, or nowhere: its key, which may not stand before the `previous` one.
+// A line of a file, given with its byte 10, which stands first at `end`, or nowhere: its key, which may not stand before that of the number `previous`, 0
+// where there is none before.
 pub fn read(
     book: &mut [u64],
     code: &mut [u8],
     line: &[u8],
     end: Option<usize>,
-    previous: Key,
+    previous: u8,
 ) -> Result<Key, Refusal>
     requires { (length book.old ≡ book_words) × (length code.old ≡ rule_bytes) × FirstAt newline line.now end }
     ensures { LineRead book.old code.old line.now previous book.new code.new result }
 {
     let framed = fields::frame_at(line, end).ok_or(Refusal::Unframed)?;
-    if framed.key < previous {
+    if u8::from(framed.key) < previous {
         return Err(Refusal::OutOfOrder);
     }
     step(book, code, framed.key, &line[framed.start..framed.end])?;

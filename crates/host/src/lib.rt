@@ -21,7 +21,7 @@ fn number_of(d: Decision) -> u32
         Decision::Permit(_) => u32::from(PERMIT),
         Decision::Deny => u32::from(DENY),
         Decision::Undefined(_) => u32::from(UNDEFINED),
-        Decision::Refused(refusal) => u32::from(refusal),
+        Decision::Refused(n) => u32::from(n),
     }
 }
 

@@ -61,9 +61,9 @@ bad-answered line l e p = record {
 }
 
 pub edit-answered : (line : Bytes) (before after : Memory) (out : Bytes) (at : ℕ) (out' : Bytes) (r : ℕ) → call_of line ≡ some (Call.edit line)
-    → EditAnswered line before after out at out' r → CommandAnswered line before after out at out' r
-edit-answered line before after out at out' r e p =
-    call-answered line (Call.edit line) before after p.answer e (line-edited before after p.call p.same) p.table-long p.prints p.same
+    → EditAnswered line before.book before.words after.book after.words out at out' r → after.code ≡ before.code → CommandAnswered line before after out at out' r
+edit-answered line before after out at out' r e p s =
+    call-answered line (Call.edit line) before after p.answer e (line-edited before after p.call s) p.table-long p.prints s
 
 pub request-answered : (line block : Bytes) (l : Memory) (out : Bytes) (at : ℕ) (out' : Bytes) (r : ℕ) → call_of line ≡ some (Call.request block)
     → RequestAnswered block l out at out' r → CommandAnswered line l l out at out' r

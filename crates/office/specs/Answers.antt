@@ -21,7 +21,12 @@ memory book code words = record { book = book; code = code; words = words }
 
 -- what the office lends to its calls
 abbrev pub lent : office.Memory → Memory
-lent m = memory m.book m.rules m.table
+lent m = memory m.book.now m.rules.now m.table.now
+
+-- what is lent is the same memory as before, so that what stands in it is the lender's; the rules are not written
+abbrev pub SameReferences : office.Memory → office.Memory → Type 0
+SameReferences before after =
+    (after.book.ghost_name ≡ before.book.ghost_name) × (after.table.ghost_name ≡ before.table.ghost_name) × (after.rules ≡ before.rules)
 
 -- how many words the table has that is lent: those of the first edition
 abbrev pub lent_words : ℕ
@@ -38,11 +43,10 @@ pub record Prints (S : State) (commands : List (Option Call)) (text : Bytes) (re
   pub prints : output lent_words S commands ≡ text ++ output lent_words state rest
 
 -- an edit made, and its answer
-pub record EditAnswered (line : Bytes) (before after : Memory) (out : Bytes) (at : ℕ) (out' : Bytes) (r : ℕ) : Type 0 where
+pub record EditAnswered (line : Bytes) (book words book' words' : List ℕ) (out : Bytes) (at : ℕ) (out' : Bytes) (r : ℕ) : Type 0 where
   pub answer : Answer
-  pub table-long : length before.words ≡ lent_words
-  pub call : EditCall line before.book before.words answer after.words after.book
-  pub same : after.code ≡ before.code
+  pub table-long : length words ≡ lent_words
+  pub call : EditCall line book words answer words' book'
   pub prints : PrintedAt out at (printed answer) out' r
 
 -- a request decided, and its answer

@@ -9,7 +9,7 @@ ghost use Rattle.printing.specs.Printing.{answer_bytes};
 use answer::Memory;
 use book::{BOOK_WORDS, RULE_BYTES, TABLE_WORDS};
 use codes::Refusal;
-use file::Refused;
+use printing::Loaded;
 
 pub mod answer;
 pub mod command;
@@ -23,24 +23,22 @@ pub fn run(input: &[u8], out: &mut [u8]) -> usize
     ensures { Laid out.old 0 (gate input.now) out.new result × (result ≤ answer_bytes + answer_bytes * length input.now) }
 {
     if INPUT_BYTES < input.len() {
-        let too_long = Refused {
-            refusal: Refusal::TooLong,
+        let too_long = Loaded {
+            number: Refusal::TooLong as u8,
             line: 0,
         };
-        return printing::put_load(out, 0, Err(too_long));
+        return printing::put_load(out, 0, too_long);
     }
     let parts = input::split(input);
+    let mut book = [0; BOOK_WORDS];
+    let mut rules = [0; RULE_BYTES];
+    let mut table = [0; TABLE_WORDS];
+    let loaded = engine::load(parts.file, &mut book, &mut rules, &mut table);
+    let at = printing::put_load(out, 0, loaded.into());
     let mut memory = Memory {
-        book: [0; BOOK_WORDS],
-        rules: [0; RULE_BYTES],
-        table: [0; TABLE_WORDS],
+        book: &mut book,
+        rules: &rules,
+        table: &mut table,
     };
-    let loaded = engine::load(
-        parts.file,
-        &mut memory.book,
-        &mut memory.rules,
-        &mut memory.table,
-    );
-    let at = printing::put_load(out, 0, loaded);
     memory.answer_all(parts.commands, out, at)
 }

@@ -62,6 +62,9 @@ pub fn put_word(out: &mut [u8], at: usize, word: u64) -> usize
     requires { at + 8 ≤ far }
     ensures { Laid out.old at (word_text 8 word) out.new result × (result ≤ at + 8) }
 {
+    if out.len() <= at {
+        return at + width(word);
+    }
     if at + WORD <= out.len() {
         return put_eight(out, at, word);
     }

@@ -7,13 +7,14 @@ ghost use Rattle.std.specs.Prelude.{◌≡◌, ◌&&◌, ◌+◌, ◌*◌, ◌<�
 ghost use Rattle.codes.specs.Enums.{number_in};
 ghost use Rattle.policy.specs.Starts.{term_start};
 ghost use Rattle.policy.specs.Readers.{Policies, Conjunctions, Terms, Heads, Closes};
-ghost use Rattle.policy.specs.Readers.{Vars, SetVars, ItemsFrom, ConstantEnds, Alone, SecondVars, VarHeads, NoVarHeads};
+ghost use Rattle.policy.specs.Readers.{operand_of, Vars, SetVars, ItemsFrom, ConstantEnds, Alone, SecondVars, VarHeads, NoVarHeads};
 ghost use Rattle.policy.specs.Judgements.{Judges};
 
 use codes::{
     AND, AT_LEAST, COMMA, END, EQUAL, FALSE, INT, LBRACE, LPAREN, NAME, NOT, OR, RBRACE, RPAREN,
     Refusal, STR, TRUE,
 };
+use values::Operand;
 
 // How a term begins, after NOT or not: one without parentheses, where it ends and the atoms of its largest set (9 for more than 8); or a
 // parenthesis, and where its policy begins.
@@ -28,6 +29,19 @@ enum Head {
 pub enum Meant {
     Constants(u8, usize, usize),
     Attribute(usize),
+}
+
+impl Meant {
+    // The operand of the values that it stands for, by the rows of the attributes.
+    pub fn operand(self, attributes: &[u64]) -> Operand
+        requires { length attributes.now ≡ 256 }
+        ensures { result ≡ operand_of attributes.now self }
+    {
+        match self {
+            Meant::Constants(ty, start, end) => values::constant(ty, start, end),
+            Meant::Attribute(number) => values::attribute(attributes, number),
+        }
+    }
 }
 
 // A constant, a set or an attribute: what it stands for, its atoms as written (9 for more than 8, 0 of an attribute), and where it ends.

@@ -1,7 +1,8 @@
 // Answers as bytes, each laid over the output behind the one before.
 #![tactic(auto)]
 
-ghost use Rattle.std.specs.Prelude.{◌+◌, ◌≤◌, length};
+ghost use Rattle.std.specs.Prelude.{◌≡◌, ◌+◌, ◌≤◌, length};
+ghost use Rattle.model.specs.Ledger as ledger;
 ghost use Rattle.model.specs.Ledger.{decided};
 ghost use Rattle.model.specs.Gate.{printed};
 ghost use Rattle.output.specs.Laid.{Laid, far};
@@ -11,9 +12,59 @@ ghost use Rattle.edit.specs.EditSteps.{edited_of};
 ghost use Rattle.printing.specs.Printing.{answer_bytes, PrintedAt, numbers_behind, number_line};
 
 use codes::Refusal;
-use edit::Edited;
 use file::Refused;
 use request::{Cause, Decision};
+
+// What a load answers: its number, and the line that is refused, or how many lines there are. Any numbers are printed.
+#[derive(Clone, Copy)]
+pub struct Loaded {
+    pub number: u8,
+    pub line: u32,
+}
+
+// What an edit answers: its number, "the number of holders whose stored set changed", and "the number of set joins made". Any numbers are printed.
+#[derive(Clone, Copy)]
+pub struct Edited {
+    pub number: u8,
+    pub count: u32,
+    pub joins: u32,
+}
+
+impl From<Result<u32, Refused>> for Loaded {
+    ghost from_gives = { λ r l. loaded_of r ≡ ledger.loaded l.number l.line };
+
+    fn from(loaded: Result<u32, Refused>) -> Loaded {
+        match loaded {
+            Ok(lines) => Loaded {
+                number: 0,
+                line: lines,
+            },
+            Err(refused) => Loaded {
+                number: refused.refusal as u8,
+                line: refused.line,
+            },
+        }
+    }
+}
+
+impl From<Result<edit::Edited, Refusal>> for Edited {
+    ghost from_gives = { λ r e. edited_of r ≡ ledger.edited e.number e.count e.joins };
+
+    fn from(edited: Result<edit::Edited, Refusal>) -> Edited {
+        match edited {
+            Ok(edited) => Edited {
+                number: 0,
+                count: edited.count,
+                joins: edited.joins,
+            },
+            Err(refusal) => Edited {
+                number: refusal as u8,
+                count: 0,
+                joins: 0,
+            },
+        }
+    }
+}
 
 // A key and two numbers, without a line's end.
 fn put_pair(out: &mut [u8], at: usize, key: &[u8], number: u32, other: u32) -> usize
@@ -27,30 +78,22 @@ fn put_pair(out: &mut [u8], at: usize, key: &[u8], number: u32, other: u32) -> u
 }
 
 // The answer of a load.
-pub fn put_load(out: &mut [u8], at: usize, loaded: Result<u32, Refused>) -> usize
+pub fn put_load(out: &mut [u8], at: usize, loaded: Loaded) -> usize
     requires { at + answer_bytes ≤ far }
-    ensures { PrintedAt out.old at (printed (loaded_of loaded)) out.new result }
+    ensures { PrintedAt out.old at (printed (ledger.loaded loaded.number loaded.line)) out.new result }
 {
-    let (number, line) = match loaded {
-        Ok(lines) => (0, lines),
-        Err(refused) => (u32::from(refused.refusal), refused.line),
-    };
-    let a = put_pair(out, at, b"load=", number, line);
+    let a = put_pair(out, at, b"load=", u32::from(loaded.number), loaded.line);
     output::put_byte(out, a, b'\n')
 }
 
 // The answer of an edit.
-pub fn put_edit(out: &mut [u8], at: usize, edited: Result<Edited, Refusal>) -> usize
+pub fn put_edit(out: &mut [u8], at: usize, edited: Edited) -> usize
     requires { at + answer_bytes ≤ far }
-    ensures { PrintedAt out.old at (printed (edited_of edited)) out.new result }
+    ensures { PrintedAt out.old at (printed (ledger.edited edited.number edited.count edited.joins)) out.new result }
 {
-    let (number, count, joins) = match edited {
-        Ok(edited) => (0, edited.count, edited.joins),
-        Err(refusal) => (u32::from(refusal), 0, 0),
-    };
-    let a = put_pair(out, at, b"edit=", number, count);
+    let a = put_pair(out, at, b"edit=", u32::from(edited.number), edited.count);
     let b = output::put_byte(out, a, b',');
-    let c = output::put_decimal(out, b, joins);
+    let c = output::put_decimal(out, b, edited.joins);
     output::put_byte(out, c, b'\n')
 }
 
@@ -74,6 +117,6 @@ pub fn put_decision(out: &mut [u8], at: usize, decision: Decision) -> usize
         Decision::Deny => output::put(out, at, b"try=deny\n"),
         Decision::Undefined(Cause::Absent) => output::put(out, at, b"try=undefined,absent\n"),
         Decision::Undefined(Cause::Unlike) => output::put(out, at, b"try=undefined,unlike\n"),
-        Decision::Refused(refusal) => { put_number(out, at, b"try=refused,", u32::from(refusal)) }
+        Decision::Refused(number) => put_number(out, at, b"try=refused,", u32::from(number)),
     }
 }

@@ -11,7 +11,6 @@ use Rattle.model.specs.Refusals.{not_held}
 use Rattle.model.specs.Standing.{Standing}
 use Rattle.model.specs.Causes as causes
 use Rattle.model.specs.Decision as model
-use Rattle.codes.specs.Enums.{refusal_number}
 use Rattle.book.specs.Held.{Holds}
 use Rattle.request.specs.declared.Decision.{Decision}
 use Rattle.request.specs.declared.Decision.TheVariants.{Permit, Deny, Undefined, Refused}
@@ -28,7 +27,7 @@ abbrev pub decision_of : Decision → model.Decision
 decision_of (Permit rule) = model.permit rule
 decision_of Deny = model.deny
 decision_of (Undefined c) = model.undefined (cause_of c)
-decision_of (Refused r) = model.refused (refusal_number r)
+decision_of (Refused n) = model.refused n
 
 -- this paper's number for each case, and the values that it carries
 abbrev pub number_and_values_of : Decision → ℕ × List ℕ

@@ -29,7 +29,7 @@ pub enum Decision {
     Permit(u8),
     Deny,
     Undefined(Cause),
-    Refused(Refusal),
+    Refused(u8),
 }
 
 // "15: byte 0, 8, 9 or length wrong."
@@ -169,7 +169,7 @@ impl Request<'_> {
             mask: values::four(self.block, 4) as u32,
         };
         if activation.unheld() {
-            return Decision::Refused(Refusal::NotHeld);
+            return Decision::Refused(Refusal::NotHeld as u8);
         }
         let mut session = [0; 128];
         activation.open(in_room(self.counts[ATTRIBUTE_COUNT]), &mut session);
@@ -187,10 +187,10 @@ pub fn decide(
     ensures { Decides block.now book.now rules.now table.now result }
 {
     if table.len() != TABLE_WORDS {
-        return Decision::Refused(Refusal::WrongTable);
+        return Decision::Refused(Refusal::WrongTable as u8);
     }
     if !is_block(block) {
-        return Decision::Refused(Refusal::BadBlock);
+        return Decision::Refused(Refusal::BadBlock as u8);
     }
     let request = Request {
         counts: section(book, 0),
@@ -204,7 +204,7 @@ pub fn decide(
         entries: &block[10..],
     };
     if request.wrong_number() {
-        return Decision::Refused(Refusal::WrongNumber);
+        return Decision::Refused(Refusal::WrongNumber as u8);
     }
     request.answered()
 }

@@ -20,9 +20,7 @@ use Rattle.model.proofs.Lists.{same_truth, nth-lt, place-nth}
 use Rattle.model.proofs.Declared.{named-eq}
 use Rattle.codes.specs.Codes.{source_code}
 use Rattle.codes.proofs.Codes.{source-injective, source-some}
-use Rattle.codes.specs.declared.Source as code
-use Rattle.codes.specs.Enums.{source_number, told}
-use Rattle.codes.proofs.Enums.{source-numbered}
+use Rattle.codes.specs.Enums.{told}
 use Rattle.text.specs.declared.Packed.{Packed}
 use Rattle.text.specs.Packing.{packed_of, packed_at}
 use Rattle.text.proofs.Packing.{named-at}
@@ -65,12 +63,12 @@ module _ (rows : List ℕ) (D : Declarations) (well : WellDeclared D) (ar : Attr
   attribute-told = first-told (λ a. same_source_and_name a.source a.name s n) D.attributes at_row attribute_limit ar.within row_named_lem row_other
 
 -- the first row with that source and name has the attribute's number
-pub first-numbered : (rows : List ℕ) (source : code.Source) (name : Packed) (r : Option ℕ)
-    → First (row_named rows (source_number source) name.low name.high) attribute_limit r → Numbered rows source name r
+pub first-numbered : (rows : List ℕ) (source : ℕ) (name : Packed) (r : Option ℕ)
+    → First (row_named rows source name.low name.high) attribute_limit r → Numbered rows source name r
 first-numbered rows source name r first = record {
-  within = first-low (row_named rows (source_number source) name.low name.high) attribute_limit r first;
+  within = first-low (row_named rows source name.low name.high) attribute_limit r first;
   number = λ D well ar s n named from words.
-      attribute-told rows D well ar s n named (source_number source) name (ap source_number from ∙ source-numbered s) words r first;
+      attribute-told rows D well ar s n named source name from words r first;
 }
 
 -- numbers of attributes are below the limit

@@ -6,12 +6,11 @@ use Rattle.model.specs.Notation.{nth, ◌is◌}
 use Rattle.model.specs.Limits.{attribute_limit, pair_limit, word_bits}
 use Rattle.model.specs.Bytes.{Bytes}
 use Rattle.model.specs.Names.{is_name}
-use Rattle.model.specs.Attributes as attributes
+use Rattle.model.specs.Attributes.{Source}
 use Rattle.model.specs.Declarations.{Declarations, Attribute, Pair, attribute_number}
 use Rattle.bits.specs.Bits.{bit}
-use Rattle.codes.specs.declared.Source.{Source}
 use Rattle.codes.specs.Codes.{source_code, type_code}
-use Rattle.codes.specs.Enums.{source_for, told}
+use Rattle.codes.specs.Enums.{told}
 use Rattle.text.specs.declared.Packed.{Packed}
 use Rattle.text.specs.Packing.{packed_of, packed_at}
 use Rattle.text.specs.Values.{atom_words}
@@ -65,7 +64,7 @@ number_or k none = k
 number_or k (some n) = n
 
 -- r is the number of the attribute of that source and name, whatever declarations the rows are those of
-pub record Numbered (rows : List ℕ) (source : Source) (name : Packed) (r : Option ℕ) : Type 0 where
+pub record Numbered (rows : List ℕ) (source : ℕ) (name : Packed) (r : Option ℕ) : Type 0 where
   pub within : IfSome r (λ k. k < attribute_limit)
-  pub number : (D : Declarations) → WellDeclared D → AttributeRows rows D → (s : attributes.Source) (n : Bytes) → is_name n ≡ true
-      → source ≡ source_for s → packed_of n ≡ name → r ≡ told (attribute_number D s n)
+  pub number : (D : Declarations) → WellDeclared D → AttributeRows rows D → (s : Source) (n : Bytes) → is_name n ≡ true
+      → source ≡ source_code s → packed_of n ≡ name → r ≡ told (attribute_number D s n)

@@ -1,5 +1,5 @@
 -- Which sets changed from one table to another, and how marks of them add up. Assumes nothing.
-use Prim.Native.Nat.{ℕ, suc, ◌+◌, ◌-◌, ◌*◌, ◌/◌, ◌≤◌, ◌<◌}
+use Prim.Native.Nat.{ℕ, suc, ◌+◌, ◌-◌, ◌*◌, ◌/◌, ◌%◌, ◌≤◌, ◌<◌}
 use mathlib.Core.Path.{◌≡◌, refl, sym, ap, ap₂, ◌∙◌}
 use mathlib.Core.Logic.{◌⊎◌, ⊎_elim}
 use mathlib.Core.Bool.{Bool, true, false, not, ◌||◌, beq, or-false, true≢false}
@@ -11,8 +11,9 @@ use lib.Dec.{eqb}
 use lib.ListN.{length, get_or, take, drop}
 use borrow.Author.Tests.{eq-eqb, ne_eqb}
 use borrow.Rule.Slice.PartMut.{put_mid}
-use Rattle.std.specs.Int.{from_bool}
-use Rattle.bits.specs.Bits.{member, holds, differ, count_below}
+use Rattle.model.specs.Notation.{if◌then◌otherwise◌}
+use Rattle.bits.specs.Bits.{bit, member, holds, differ, count_below}
+use Rattle.bits.proofs.Bits.{bit-none}
 use Rattle.bits.proofs.Sets.{member-part, same-beq}
 use Rattle.bits.proofs.Counts.{num, any-ext, any_at, count-suc, count-rest}
 use Rattle.sets.specs.Settled.{unlike, MarksChanged, Stored}
@@ -116,10 +117,8 @@ module _ {own slots t t' : List ℕ} {k mask : ℕ} (stored : Stored own slots k
       let off = unlike-past t t' k (omega arith) long in
       count-rest 0 256 (unlike t t') (omega arith) (λ j a b. unlike-same t t' j (others_same stored j (λ e. omega arith))) ∙ ap num (sym off)
 
-  -- one where the set changed, which the code has of its answer
-  pub counted-alone : (b : Bool) → b ≡ unlike t t' k → from_bool b ≡ count_below 256 (unlike t t')
-  counted-alone b is = by b ∙ ap num is ∙ sym (changed-count (dec_lt k 256))
-    where
-      by : (b : Bool) → from_bool b ≡ num b
-      by true = refl
-      by false = refl
+  -- the ones of a word that marks the holder
+  pub counted-alone : (w : ℕ) (b : Bool) → b ≡ unlike t t' k → ((j : ℕ) → bit w j ≡ (if eqb j (k % 64) then b otherwise bit 0 j)) → count_below 64 (bit w) ≡ count_below 256 (unlike t t')
+  counted-alone w b is put =
+      count-one 64 (k % 64) (bit w) (omega arith) (λ j n. put j ∙ ap (λ (x : Bool). if x then b otherwise bit 0 j) (ne_eqb j (k % 64) n) ∙ bit-none j)
+      ∙ ap num (put (k % 64) ∙ ap (λ (x : Bool). if x then b otherwise bit 0 (k % 64)) (eq-eqb (k % 64) (k % 64) refl) ∙ is) ∙ sym (changed-count (dec_lt k 256))

@@ -216,15 +216,16 @@ pub fn fill(table: &mut [u64], own: &[u64], ups: &[u64], slots: &[u64])
     store_tied(table, &arrays);
 }
 
-// After an edit of a user or an object, below whom nobody is: its own set is all.
+// After an edit of a user or an object, below whom nobody is: its own set is all. The sets that changed are the ones of a word in which it is marked.
 fn refresh_alone(table: &mut [u64], arrays: &Arrays<'_>, edited: usize) -> Tally
     requires { Shaped arrays.now.ups.now arrays.now.own.now arrays.now.slots.now table.old × (length arrays.now.ups.now ≤ 64 * mark_words) }
     ensures { Stored arrays.now.own.now arrays.now.slots.now edited (get_or arrays.now.ups.now edited 0) table.old table.new × (result.changed ≡ count_below (64 * mark_words) (unlike table.old table.new)) × (result.joins ≡ joins_by (get_or arrays.now.ups.now edited 0)) }
 {
     let up = ties::ties_up(arrays.ups, edited);
     let is_changed = store(table, arrays, edited, up);
+    let mark = bits::put(0, edited % 64, is_changed);
     Tally {
-        changed: usize::from(is_changed),
+        changed: bits::ones(mark),
         joins: ties::joins(up),
     }
 }

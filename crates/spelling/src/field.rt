@@ -2,13 +2,14 @@
 // is asked of either.
 ghost use Rattle.std.specs.Prelude.{◌≡◌, ◌+◌, ◌≤◌, get_or};
 ghost use Rattle.model.specs.Atoms.{quoted};
-ghost use Rattle.codes.specs.Enums.{key_number};
 ghost use Rattle.output.specs.Laid.{far, Laid, word_text};
 ghost use Rattle.spelling.specs.LineTexts.{listed_text, key_words, source_words, type_words, token_words, name_text, string_text, atom_text, attribute_text};
 
-use codes::{AtomType, Key};
+use codes::AtomType;
+use text::{SOURCES, TYPES};
 
-// Words of the format in tables, packed as names are. The number that a book or the code of a rule has for one is its place.
+// Words of the format in tables, packed as names are. The number that a book or the code of a rule has for one is its place. Those of sources and types
+// stand where these words are read.
 
 // The keys, with their `=`.
 const KEYS: [u64; 12] = [
@@ -24,22 +25,6 @@ const KEYS: [u64; 12] = [
     17295753347949933, // `member=`
     67505971028342, // `value=`
     263694611826, // `rule=`
-];
-
-const SOURCES: [u64; 6] = [
-    0, // none
-    1919251317, // `user`
-    127970252055151, // `object`
-    474215179361, // `admin`
-    7761509, // `env`
-    32760384594014051, // `connect`
-];
-
-const TYPES: [u64; 4] = [
-    0, // none
-    7630441, // `int`
-    7500915, // `str`
-    1819242338, // `bool`
 ];
 
 // FALSE and TRUE.
@@ -91,9 +76,9 @@ fn put_listed(out: &mut [u8], at: usize, table: &[u64], number: u64) -> usize
     output::put_word(out, at, word(table, number as usize))
 }
 
-pub fn put_key(out: &mut [u8], at: usize, key: Key) -> usize
+pub fn put_key(out: &mut [u8], at: usize, key: u8) -> usize
     requires { at + 8 ≤ far }
-    ensures { Laid out.old at (listed_text key_words (key_number key)) out.new result × (result ≤ at + 8) }
+    ensures { Laid out.old at (listed_text key_words key) out.new result × (result ≤ at + 8) }
 {
     put_listed(out, at, &KEYS, u64::from(key))
 }
@@ -132,8 +117,8 @@ fn put_rest(out: &mut [u8], at: usize, word: u64) -> usize
     }
 }
 
-// The name in the two words from a place on.
-#[inline]
+// The name in the two words from a place on. Inlined, as is the atom: a length takes longer where they are called.
+#[inline(always)]
 pub fn put_name(out: &mut [u8], at: usize, book: &[u64], place: usize) -> usize
     requires { (at + 16 ≤ far) × (place + 1 ≤ far) }
     ensures { Laid out.old at (name_text book.now place) out.new result × (result ≤ at + 16) }
@@ -154,7 +139,7 @@ fn put_string(out: &mut [u8], at: usize, book: &[u64], place: usize) -> usize
 }
 
 // The atom in the three words from a place on.
-#[inline]
+#[inline(always)]
 pub fn put_atom(out: &mut [u8], at: usize, book: &[u64], ty: u64, place: usize) -> usize
     requires { (at + 26 ≤ far) × (place + 2 ≤ far) }
     ensures { Laid out.old at (atom_text book.now ty place) out.new result × (result ≤ at + 26) }

@@ -3,7 +3,6 @@ ghost use Rattle.std.specs.Prelude.{ℕ, ◌≡◌, ◌+◌, ◌*◌, ◌<◌, �
 ghost use Rattle.model.specs.Notation.{each, below};
 ghost use Rattle.model.specs.Bytes.{Bytes};
 ghost use Rattle.model.specs.Limits.{attribute_limit, operation_limit, pair_limit};
-ghost use Rattle.codes.specs.Enums.{key_number};
 ghost use Rattle.output.specs.Laid.{far, Laid};
 ghost use Rattle.spelling.specs.Lines.{PutsWithin, PutsTexts};
 ghost use Rattle.spelling.specs.LineTexts.{counted, attribute_line_text, row_of_pair, pair_atom_text, operation_line_text, pair_line_text, holder_line_text, sort_text, name_of_holder};
@@ -50,7 +49,7 @@ fn put_attribute_line(out: &mut [u8], at: usize, book: &[u64], k: usize) -> usiz
     ensures { Laid out.old at (attribute_line_text book.now k) out.new result × (result ≤ at + 64) }
 {
     let row = ATTRIBUTES_AT + 8 * k;
-    let a = crate::field::put_key(out, at, Key::Attr);
+    let a = crate::field::put_key(out, at, Key::Attr as u8);
     let b = crate::field::put_source(out, a, crate::field::word(book, row));
     let c = output::put_byte(out, b, b',');
     let d = crate::field::put_name(out, c, book, row + 2);
@@ -76,7 +75,7 @@ fn put_operation_line(out: &mut [u8], at: usize, book: &[u64], k: usize) -> usiz
     requires { (at + 32 ≤ far) × (k < 256) }
     ensures { Laid out.old at (operation_line_text book.now k) out.new result × (result ≤ at + 32) }
 {
-    let a = crate::field::put_key(out, at, Key::Op);
+    let a = crate::field::put_key(out, at, Key::Op as u8);
     let b = crate::field::put_name(out, a, book, OPERATIONS_AT + 2 * k);
     output::put_byte(out, b, b'\n')
 }
@@ -118,7 +117,7 @@ fn put_pair_line(out: &mut [u8], at: usize, book: &[u64], p: usize) -> usize
     requires { (at + 64 ≤ far) × (p < 256) }
     ensures { Laid out.old at (pair_line_text book.now p) out.new result × (result ≤ at + 64) }
 {
-    let a = crate::field::put_key(out, at, Key::Atom);
+    let a = crate::field::put_key(out, at, Key::Atom as u8);
     let b = crate::field::put_attribute(out, a, book, row_of_pair(book, p));
     let c = output::put_byte(out, b, b',');
     let d = put_pair_atom(out, c, book, p);
@@ -141,10 +140,11 @@ pub fn put_holder(out: &mut [u8], at: usize, book: &[u64], k: usize) -> usize
     crate::field::put_name(out, at, book, HOLDER_NAMES_AT + 4 * k)
 }
 
-// The line of holder k, if it is of that sort: its number is that of the key.
-fn put_holder_line(out: &mut [u8], at: usize, book: &[u64], sort: Key, k: usize) -> usize
+// The line of holder k, if it is of that sort: its number is that of the key. Inlined, since a length takes longer where it is called.
+#[inline(always)]
+fn put_holder_line(out: &mut [u8], at: usize, book: &[u64], sort: u8, k: usize) -> usize
     requires { (at + 32 ≤ far) × (k < 256) }
-    ensures { Laid out.old at (holder_line_text book.now (key_number sort) k) out.new result × (result ≤ at + 32) }
+    ensures { Laid out.old at (holder_line_text book.now sort k) out.new result × (result ≤ at + 32) }
 {
     if crate::field::word(book, SORTS_AT + k) != u64::from(sort) {
         return at;
@@ -154,9 +154,9 @@ fn put_holder_line(out: &mut [u8], at: usize, book: &[u64], sort: Key, k: usize)
     output::put_byte(out, b, b'\n')
 }
 
-pub fn put_holders(out: &mut [u8], at: usize, book: &[u64], sort: Key) -> usize
+pub fn put_holders(out: &mut [u8], at: usize, book: &[u64], sort: u8) -> usize
     requires { at + 8192 ≤ far }
-    ensures { Laid out.old at (sort_text book.now (key_number sort)) out.new result × (result ≤ at + 8192) }
+    ensures { Laid out.old at (sort_text book.now sort) out.new result × (result ≤ at + 8192) }
 {
     let count = count(book, HOLDER_COUNT, HOLDERS);
     put_lines::<32, _>(

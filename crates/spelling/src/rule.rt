@@ -120,7 +120,7 @@ fn put_rule_line(out: &mut [u8], at: usize, book: &[u64], rules: &[u8], k: usize
 {
     let operation = crate::field::word(book, RULES_AT + k) % 8;
     let start = CODE_BYTES * k;
-    let a = crate::field::put_key(out, at, Key::Rule);
+    let a = crate::field::put_key(out, at, Key::Rule as u8);
     let b = crate::field::put_name(out, a, book, OPERATIONS_AT + 2 * operation as usize);
     let c = output::put_byte(out, b, b',');
     let d = put_policy(out, c, book, &rules[start..start + CODE_BYTES]);

@@ -15,7 +15,7 @@ use Rattle.std.specs.List.{AllWithin, HoldsAt}
 use Rattle.model.specs.Notation.{if◌then◌otherwise◌, all_of, map}
 use Rattle.model.specs.Bytes.{Bytes, same, one_of}
 use Rattle.model.specs.Block.{number}
-use Rattle.model.proofs.WordTables.{false-is-true, same-eq, same_refl}
+use Rattle.model.proofs.WordTables.{false-is-true, none-is-some, one-of-word, same-eq, same_refl}
 use Rattle.model.proofs.Options.{parts}
 use Rattle.model.proofs.Lists.{all-parts, same_truth}
 use Rattle.codes.specs.Enums.{told_by}
@@ -170,3 +170,13 @@ module _ {A : Type 0} (word : A → Bytes) (code : A → ℕ) where
 
     pub keyword-code : option_map (λ i. get_or (0 ∷ map code list) i 0) r ≡ told_by code (one_of word list s)
     keyword-code = ap (option_map (λ i. get_or (0 ∷ map code list) i 0)) (found.place (map word list) all packed) ∙ place-code s list (0 ∷ []) 1 refl
+
+-- words found in a list are found in any other list of the same words
+pub in-any-order : {A : Type 0} (word : A → Bytes) (l m : List A) → ((a : A) → one_of word l (word a) ≡ math.some a) → ((a : A) → one_of word m (word a) ≡ math.some a)
+    → (s : Bytes) → one_of word l s ≡ one_of word m s
+in-any-order {A = A} word l m in-l in-m s = go (one_of word l s) refl (one_of word m s) refl
+  where
+    go : (x : math.Option A) → one_of word l s ≡ x → (y : math.Option A) → one_of word m s ≡ y → x ≡ y
+    go (math.some a) e y f = sym (in-m a) ∙ ap (one_of word m) (one-of-word word l s a e) ∙ f
+    go math.none e (math.some b) f = none-is-some (sym e ∙ ap (one_of word l) (sym (one-of-word word m s b f)) ∙ in-l b)
+    go math.none e math.none f = refl

@@ -1,6 +1,6 @@
 -- The numbers of an atom tell the atom.
 use Prim.Native.Nat.{ℕ, ◌≤◌}
-use mathlib.Core.Path.{◌≡◌, refl, sym, ap, ◌∙◌}
+use mathlib.Core.Path.{◌≡◌, refl, ap}
 use mathlib.Core.Bool.{Bool, true, false}
 use native.Mathlib.Omega.{arith}
 use borrow.Author.Tests.{eqb-true, eq-eqb}
@@ -13,8 +13,6 @@ use Rattle.model.proofs.Lists.{same_truth}
 use Rattle.model.proofs.Atoms.{str-exact}
 use Rattle.text.specs.declared.Value.{Value}
 use Rattle.codes.specs.Codes.{type_code}
-use Rattle.codes.specs.Enums.{type_number}
-use Rattle.codes.proofs.Enums.{type-numbered}
 use Rattle.codes.proofs.Codes.{type-injective}
 use Rattle.text.specs.declared.Words.{Words}
 use Rattle.text.specs.Values.{truth_bit, atom_words, atom_value, same_words}
@@ -49,7 +47,7 @@ words-injective a b p q k e = go a b p q (ap type_code k) e
 
 pub value-injective : (a b : Atom) → is_atom a ≡ true → is_atom b ≡ true → atom_value a ≡ atom_value b → a ≡ b
 value-injective a b p q e =
-    words-injective a b p q (type-injective (type_of a) (type_of b) (sym (type-numbered (type_of a)) ∙ ap (λ (v : Value). type_number v.ty) e ∙ type-numbered (type_of b))) (ap (λ (v : Value). v.words) e)
+    words-injective a b p q (type-injective (type_of a) (type_of b) (ap (λ (v : Value). v.ty) e)) (ap (λ (v : Value). v.words) e)
 
 -- a test of the words, and the test of the atoms
 pub same-words-eq : (u v : Words) → same_words u v ≡ true → u ≡ v

@@ -1,8 +1,7 @@
--- An atom as the code has it: its type, and three words for its value.
+-- An atom as numbers: its type's, and three words for its value.
 use Rattle.std.specs.Prelude.{ℕ, Bool, true, false, ◌&&◌, eqb}
 use Rattle.model.specs.Atoms.{Atom, int, str, bool, type_of}
-use Rattle.codes.specs.declared.AtomType.{AtomType}
-use Rattle.codes.specs.Enums.{type_for}
+use Rattle.codes.specs.Codes.{type_code}
 use Rattle.text.specs.declared.Words.{Words}
 use Rattle.text.specs.declared.Value.{Value}
 use Rattle.text.specs.Packing.{three_words}
@@ -10,7 +9,7 @@ use Rattle.text.specs.Packing.{three_words}
 abbrev pub words : ℕ → ℕ → ℕ → Words
 words first second third = record { first = first; second = second; third = third }
 
-abbrev pub value : AtomType → Words → Value
+abbrev pub value : ℕ → Words → Value
 value ty ws = record { ty = ty; words = ws }
 
 abbrev pub truth_bit : Bool → ℕ
@@ -23,7 +22,7 @@ atom_words (str s) = three_words s
 atom_words (bool b) = words (truth_bit b) 0 0
 
 abbrev pub atom_value : Atom → Value
-atom_value a = value (type_for (type_of a)) (atom_words a)
+atom_value a = value (type_code (type_of a)) (atom_words a)
 
 abbrev pub same_words : Words → Words → Bool
 same_words a b = eqb a.first b.first && eqb a.second b.second && eqb a.third b.third

@@ -24,6 +24,23 @@ const TEXT_BYTES: usize = 12;
 
 const WORD_BYTES: usize = 8;
 
+// The words of sources and of types, packed as names are. The number of a source or a type is its place.
+pub const SOURCES: [u64; 6] = [
+    0, // none
+    1919251317, // `user`
+    127970252055151, // `object`
+    474215179361, // `admin`
+    7761509, // `env`
+    32760384594014051, // `connect`
+];
+
+pub const TYPES: [u64; 4] = [
+    0, // none
+    7630441, // `int`
+    7500915, // `str`
+    1819242338, // `bool`
+];
+
 // A name in words of eight bytes, low byte first.
 #[derive(Clone, Copy, PartialEq, Eq)]
 pub struct Packed {
@@ -39,10 +56,10 @@ pub struct Words {
     pub third: u64,
 }
 
-// A type, and the atom's words.
+// The number of a type, and the atom's words.
 #[derive(Clone, Copy)]
 pub struct Value {
-    pub ty: AtomType,
+    pub ty: u8,
     pub words: Words,
 }
 
@@ -239,7 +256,7 @@ pub fn words_of(s: &[u8]) -> Words
 }
 
 // An atom that one word keeps.
-fn single(ty: AtomType, word: u64) -> Value
+fn single(ty: u8, word: u64) -> Value
     ensures { result ≡ value ty (words word 0 0) }
 {
     Value {
@@ -256,15 +273,15 @@ pub fn atom_of(s: &[u8]) -> Option<Value>
     ensures { result ≡ told_by atom_value (read_atom s.now) }
 {
     if let Some(n) = int_of(s) {
-        return Some(single(AtomType::Int, u64::from(n)));
+        return Some(single(AtomType::Int as u8, u64::from(n)));
     }
     if is_str(s) {
         return Some(Value {
-            ty: AtomType::Str,
+            ty: AtomType::Str as u8,
             words: words_of(&s[1..s.len() - 1]),
         });
     }
-    Some(single(AtomType::Bool, u64::from(bool_of(s)?)))
+    Some(single(AtomType::Bool as u8, u64::from(bool_of(s)?)))
 }
 
 // The value of a digit of lower-case hex.

@@ -1,5 +1,5 @@
 -- The tie of the fields of a line: none where they read as no line, else that of the names that they read as. Assumes nothing.
-use Rattle.std.proofs.Common.{◌≡◌, sym, ap, ◌∙◌, ℕ, true, ◌&&◌, List, Some, None, Result, Err}
+use Rattle.std.proofs.Common.{◌≡◌, sym, ap, ◌∙◌, ℕ, true, ◌&&◌, List, Some, None, Result, Err, arith}
 use Rattle.std.proofs.Math.Option as math
 use Rattle.std.proofs.Math.Option.{none, some}
 use Rattle.model.specs.Notation.{◌>>=◌}
@@ -14,11 +14,10 @@ use Rattle.model.specs.Refusals.{first}
 use Rattle.model.proofs.WordTables.{false-is-true}
 use Rattle.model.proofs.Options.{parts}
 use Rattle.model.proofs.Lines.{fields-said}
-use Rattle.codes.specs.declared.Key.{Key}
-use Rattle.codes.specs.declared.Key.TheVariants as key
 use Rattle.codes.specs.declared.Refusal.{Refusal}
 use Rattle.codes.specs.declared.Refusal.TheVariants.{Malformed}
-use Rattle.codes.specs.Enums.{key_for, number_in}
+use Rattle.codes.specs.Codes.{key_code}
+use Rattle.codes.specs.Enums.{number_in}
 use Rattle.text.specs.Packing.{packed_of}
 use Rattle.fields.specs.declared.TwoFields.{TwoFields}
 use Rattle.fields.specs.declared.ValueFields.{ValueFields}
@@ -62,11 +61,11 @@ module _ {book : List ℕ} {r : Result Tie Refusal} where
     fits = λ t z. line-tie-fits standing held read r t named z;
   }
 
-  module _ {k : Key} (f : Bytes) where
+  module _ {k : ℕ} (f : Bytes) where
     -- HOLDER,NAME,ATOM
-    module _ (here : k ≡ key.Value) where
+    module _ (here : k ≡ key_code keys.Key.value) where
       value-key : FieldsTie book (read_fields keys.Key.value f) r → KeyTie book k f r
-      value-key told = of-tie-keys (λ x. k ≡ key_for x → FieldsTie book (read_fields x f) r) (λ e. absurd (cc)) (λ e. absurd (cc)) (λ e. told)
+      value-key told = of-tie-keys (λ x. k ≡ key_code x → FieldsTie book (read_fields x f) r) (λ e. absurd (omega arith)) (λ e. absurd (omega arith)) (λ e. told)
 
       pub value-unread : ValueTold f None → r ≡ Err Malformed → KeyTie book k f r
       value-unread told z = value-key (no_line (unread told) z)
@@ -80,9 +79,9 @@ module _ {book : List ℕ} {r : Result Tie Refusal} where
           (ap (λ (v : ValueFields). v.atom) (sym g))))
 
     -- CHILD,PARENT and PARTY,GROUP
-    module _ (other : k ≡ key.Value → ⊥) where
-      two-keys : (k ≡ key.Parent → FieldsTie book (read_two Line.parent f) r) → (k ≡ key.Member → FieldsTie book (read_two Line.member f) r) → KeyTie book k f r
-      two-keys parent member = of-tie-keys (λ x. k ≡ key_for x → FieldsTie book (read_fields x f) r) parent member (λ e. absurd (other e))
+    module _ (other : k ≡ key_code keys.Key.value → ⊥) where
+      two-keys : (k ≡ key_code keys.Key.parent → FieldsTie book (read_two Line.parent f) r) → (k ≡ key_code keys.Key.member → FieldsTie book (read_two Line.member f) r) → KeyTie book k f r
+      two-keys parent member = of-tie-keys (λ x. k ≡ key_code x → FieldsTie book (read_fields x f) r) parent member (λ e. absurd (other e))
 
       pub two-unread : TwoTold f None → r ≡ Err Malformed → KeyTie book k f r
       two-unread told z = two-keys (λ e. no_line (unread (told Line.parent)) z) (λ e. no_line (unread (told Line.member)) z)

@@ -11,6 +11,7 @@ use Rattle.model.specs.Bytes.{Bytes}
 use Rattle.model.specs.Names.{is_name}
 use Rattle.model.specs.Attributes.{Source}
 use Rattle.model.specs.Atoms.{Atom, type_of, same_atom}
+use Rattle.model.specs.Keys.{Key}
 use Rattle.model.specs.Lines.{Line}
 use Rattle.model.specs.Declarations.{Declarations, Attribute, Sort, is_sort, same_source_and_name, parent_sort, group_sort, sort_of, source_for, attribute_number, pair_number, holder_number}
 use Rattle.model.specs.Ties as ties
@@ -24,11 +25,9 @@ use Rattle.model.proofs.Lists.{nth-lt, place-nth}
 use Rattle.model.proofs.Declared.{named-eq, same-atom-eq, pair-declared}
 use Rattle.model.proofs.Standing.{named-holder}
 use Rattle.codes.specs.declared.Source as code
-use Rattle.codes.specs.declared.Key.{Key}
-use Rattle.codes.specs.declared.Key.TheVariants as key
 use Rattle.codes.specs.declared.Refusal.{Refusal}
 use Rattle.codes.specs.declared.Refusal.TheVariants.{Undeclared, WrongSort}
-use Rattle.codes.specs.Codes.{coded, type_code}
+use Rattle.codes.specs.Codes.{coded, type_code, key_code}
 use Rattle.codes.specs.Enums.{number_in, told, told_by}
 use Rattle.codes.proofs.Codes.{type-injective}
 use Rattle.text.specs.declared.Packed.{Packed}
@@ -107,20 +106,20 @@ sort-word {S} {book} standing held k s e =
 -- ---- parent and member lines
 
 -- which sort stands above which in a tie of that key, and its tie
-pub data Kind : Key → (Sort → math.Option Sort) → (ℕ → ℕ → ties.Tie) → Type 0 where
-  parent : Kind key.Parent parent_sort ties.Tie.parent
-  member : Kind key.Member group_sort ties.Tie.member
+pub data Kind : ℕ → (Sort → math.Option Sort) → (ℕ → ℕ → ties.Tie) → Type 0 where
+  parent : Kind (key_code Key.parent) parent_sort ties.Tie.parent
+  member : Kind (key_code Key.member) group_sort ties.Tie.member
 
-pub wanted : {k : Key} {above : Sort → math.Option Sort} {tie : ℕ → ℕ → ties.Tie} → Kind k above tie → {r : Option ℕ} (s : Sort)
-    → (k ≡ key.Parent → r ≡ told_by sort_code (parent_sort s)) × (k ≡ key.Member → r ≡ told_by sort_code (group_sort s)) → r ≡ told_by sort_code (above s)
+pub wanted : {k : ℕ} {above : Sort → math.Option Sort} {tie : ℕ → ℕ → ties.Tie} → Kind k above tie → {r : Option ℕ} (s : Sort)
+    → (k ≡ key_code Key.parent → r ≡ told_by sort_code (parent_sort s)) × (k ≡ key_code Key.member → r ≡ told_by sort_code (group_sort s)) → r ≡ told_by sort_code (above s)
 wanted parent s e = e.0 refl
 wanted member s e = e.1 refl
 
-pub is-parent : {k : Key} {above : Sort → math.Option Sort} {tie : ℕ → ℕ → ties.Tie} → Kind k above tie → k ≡ key.Parent → (h u : ℕ) → tie h u ≡ ties.Tie.parent h u
+pub is-parent : {k : ℕ} {above : Sort → math.Option Sort} {tie : ℕ → ℕ → ties.Tie} → Kind k above tie → k ≡ key_code Key.parent → (h u : ℕ) → tie h u ≡ ties.Tie.parent h u
 is-parent parent e h u = refl
-is-parent member e h u = absurd (cc)
+is-parent member e h u = absurd (omega arith)
 
-pub is-member : {k : Key} {above : Sort → math.Option Sort} {tie : ℕ → ℕ → ties.Tie} → Kind k above tie → (k ≡ key.Parent → ⊥) → (h u : ℕ) → tie h u ≡ ties.Tie.member h u
+pub is-member : {k : ℕ} {above : Sort → math.Option Sort} {tie : ℕ → ℕ → ties.Tie} → Kind k above tie → (k ≡ key_code Key.parent → ⊥) → (h u : ℕ) → tie h u ≡ ties.Tie.member h u
 is-member parent e h u = absurd (e refl)
 is-member member e h u = refl
 
@@ -159,18 +158,18 @@ module _ (D : Declarations) (above : Sort → math.Option Sort) (tie : ℕ → �
         sorts-right t e same = accepted two_found (not (fits above D c g)) t (both_found ∙ ap some same) (ap not (fits_by ∙ sort-fits (above a) b e))
 
 -- both kinds of lines, by the key
-pub two-named : (book : List ℕ) (k : Key) (lower upper : Packed) (r : Result Tie Refusal)
+pub two-named : (book : List ℕ) (k : ℕ) (lower upper : Packed) (r : Result Tie Refusal)
     → ((c g : Bytes) → is_name c ≡ true → is_name g ≡ true → packed_of c ≡ lower → packed_of g ≡ upper → (S : State) (code : Bytes) → Standing S → Holds book code S
     → (above : Sort → math.Option Sort) (tie : ℕ → ℕ → ties.Tie) → Kind k above tie → TwoAnswers S.declared above tie c g r)
     → TwoNamed book k lower upper r
 two-named book k lower upper r answers c g nc ng pc pg = (
   λ e S code standing held.
-      answers c g nc ng pc pg S code standing held parent_sort ties.Tie.parent (subst (λ (x : Key). Kind x parent_sort ties.Tie.parent) (sym e) parent),
+      answers c g nc ng pc pg S code standing held parent_sort ties.Tie.parent (subst (λ (x : ℕ). Kind x parent_sort ties.Tie.parent) (sym e) parent),
   λ e S code standing held.
-      answers c g nc ng pc pg S code standing held group_sort ties.Tie.member (subst (λ (x : Key). Kind x group_sort ties.Tie.member) (sym e) member),
+      answers c g nc ng pc pg S code standing held group_sort ties.Tie.member (subst (λ (x : ℕ). Kind x group_sort ties.Tie.member) (sym e) member),
 )
 
-module _ (book : List ℕ) (k : Key) (lower upper : Packed) where
+module _ (book : List ℕ) (k : ℕ) (lower upper : Packed) where
   pub two-lower : {r : Result Tie Refusal} {e : Refusal} → HolderNamed book lower (Err e) → r ≡ Err e → TwoNamed book k lower upper r
   two-lower gone z = two-named book k lower upper _ (λ c g nc ng pc pg S code standing held above tie kind.
       let (n, e) = declared-none (holder_number S.declared c) (gone S code standing held c nc pc) in

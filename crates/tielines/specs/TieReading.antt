@@ -8,8 +8,7 @@ use Rattle.model.specs.Bytes.{Bytes}
 use Rattle.model.specs.Names.{is_name}
 use Rattle.model.specs.Attributes as attributes
 use Rattle.model.specs.Atoms.{Atom, is_atom}
-use Rattle.model.specs.Keys as keys
-use Rattle.model.specs.Keys.{is_tie_key}
+use Rattle.model.specs.Keys.{Key, is_tie_key}
 use Rattle.model.specs.Lines.{Line, read_fields}
 use Rattle.model.specs.Declarations as declarations
 use Rattle.model.specs.Declarations.{Sort, parent_sort, group_sort, pair_number, holder_number}
@@ -19,10 +18,10 @@ use Rattle.model.specs.State.{State}
 use Rattle.model.specs.Refusals.{Test, ◌if◌, first, undeclared, wrong_sort}
 use Rattle.model.specs.Standing.{Standing, TieFits}
 use Rattle.codes.specs.declared.Source.{Source}
-use Rattle.codes.specs.declared.Key.{Key}
 use Rattle.codes.specs.declared.Refusal.{Refusal}
 use Rattle.codes.specs.declared.Refusal.TheVariants.{Undeclared}
-use Rattle.codes.specs.Enums.{key_for, source_for, number_in, told, told_by}
+use Rattle.codes.specs.Codes.{key_code}
+use Rattle.codes.specs.Enums.{source_for, number_in, told, told_by}
 use Rattle.text.specs.declared.Packed.{Packed}
 use Rattle.text.specs.declared.Value.{Value}
 use Rattle.text.specs.Packing.{packed_of}
@@ -59,16 +58,16 @@ HolderNamed book name r =
     → r ≡ declared_as (holder_number S.declared n)
 
 -- r is the sort that stands above one in a parent tie, or in a member tie, by the key
-abbrev pub SortAbove : Key → ℕ → Option ℕ → Type 0
+abbrev pub SortAbove : ℕ → ℕ → Option ℕ → Type 0
 SortAbove key sort r =
     (s : Sort) → sort ≡ sort_code s
-    → (key ≡ key_for keys.Key.parent → r ≡ told_by sort_code (parent_sort s)) × (key ≡ key_for keys.Key.member → r ≡ told_by sort_code (group_sort s))
+    → (key ≡ key_code Key.parent → r ≡ told_by sort_code (parent_sort s)) × (key ≡ key_code Key.member → r ≡ told_by sort_code (group_sort s))
 
 -- what a line with these names is refused for, or its tie: a parent line or a member line, by its key
-abbrev pub TwoNamed : List ℕ → Key → Packed → Packed → Result Tie Refusal → Type 0
+abbrev pub TwoNamed : List ℕ → ℕ → Packed → Packed → Result Tie Refusal → Type 0
 TwoNamed book key lower upper r =
     (c g : Bytes) → is_name c ≡ true → is_name g ≡ true → packed_of c ≡ lower → packed_of g ≡ upper
-    → (key ≡ key_for keys.Key.parent → TieOfLine book (Line.parent c g) r) × (key ≡ key_for keys.Key.member → TieOfLine book (Line.member c g) r)
+    → (key ≡ key_code Key.parent → TieOfLine book (Line.parent c g) r) × (key ≡ key_code Key.member → TieOfLine book (Line.member c g) r)
 
 -- the source of the attributes that a sort fixes
 abbrev pub SourceOfSort : ℕ → Source → Type 0
@@ -104,5 +103,5 @@ field_tests l S = refusal.malformed if is_none l ∷ refusal.undeclared if (l is
 abbrev pub FieldsTie : List ℕ → math.Option Line → Result Tie Refusal → Type 0
 FieldsTie book l r = BookTie book (field_tests l) l r
 
-abbrev pub KeyTie : List ℕ → Key → Bytes → Result Tie Refusal → Type 0
-KeyTie book key f r = (k : keys.Key) → is_tie_key k ≡ true → key ≡ key_for k → FieldsTie book (read_fields k f) r
+abbrev pub KeyTie : List ℕ → ℕ → Bytes → Result Tie Refusal → Type 0
+KeyTie book key f r = (k : Key) → is_tie_key k ≡ true → key ≡ key_code k → FieldsTie book (read_fields k f) r

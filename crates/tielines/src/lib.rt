@@ -21,6 +21,11 @@ use text::{Packed, Value};
 // How many slots there are.
 const SLOTS: u64 = 64;
 
+// The keys that are told apart.
+const PARENT: u8 = Key::Parent as u8;
+
+const VALUE: u8 = Key::Value as u8;
+
 // The sorts in words of the book: a holder's sort has the number of the key that declares it, and admin, which none declares, its own.
 const ADMIN_SORT: u64 = book::declare::ADMIN_SORT as u64;
 
@@ -54,10 +59,10 @@ impl Tie {
 }
 
 // The sort that stands above one in a tie of that key.
-fn above(key: Key, sort: u64) -> Option<u64>
+fn above(key: u8, sort: u64) -> Option<u64>
     ensures { SortAbove key sort result }
 {
-    if key == Key::Parent {
+    if key == PARENT {
         return if sort == UGROUP_SORT || sort == OGROUP_SORT {
             Some(sort)
         } else {
@@ -81,7 +86,7 @@ fn holder(book: &[u64], name: Packed) -> Result<usize, Refusal>
 }
 
 // The tie of a parent or member line with these names.
-fn two(book: &[u64], key: Key, names: TwoFields) -> Result<Tie, Refusal>
+fn two(book: &[u64], key: u8, names: TwoFields) -> Result<Tie, Refusal>
     requires { length book.now ≡ book_words }
     ensures { TwoNamed book.now key names.lower names.upper result }
 {
@@ -90,15 +95,16 @@ fn two(book: &[u64], key: Key, names: TwoFields) -> Result<Tie, Refusal>
     if above(key, book[SORTS_AT + lower]) != Some(book[SORTS_AT + group]) {
         return Err(Refusal::WrongSort);
     }
-    Ok(match key {
-        Key::Parent => Tie::Parent {
+    Ok(if key == PARENT {
+        Tie::Parent {
             child: lower,
             group,
-        },
-        _ => Tie::Member {
+        }
+    } else {
+        Tie::Member {
             party: lower,
             group,
-        },
+        }
     })
 }
 
@@ -118,7 +124,7 @@ fn pair_of(book: &[u64], source: Source, name: Packed, atom: Value) -> Option<us
     requires { length book.now ≡ book_words }
     ensures { PairNamed book.now source name atom result }
 {
-    let k = rows::attribute_number(&book[ATTRIBUTES_AT..OPERATIONS_AT], source, name)?;
+    let k = rows::attribute_number(&book[ATTRIBUTES_AT..OPERATIONS_AT], u8::from(source), name)?;
     if book[ATTRIBUTES_AT + 8 * k + 1] != u64::from(atom.ty) {
         return None;
     }
@@ -137,13 +143,14 @@ fn value(book: &[u64], named: ValueFields) -> Result<Tie, Refusal>
 }
 
 // The tie of a parent, member or value line, from its key and its fields.
-pub fn of_fields(book: &[u64], key: Key, f: &[u8]) -> Result<Tie, Refusal>
+pub fn of_fields(book: &[u64], key: u8, f: &[u8]) -> Result<Tie, Refusal>
     requires { length book.now ≡ book_words }
     ensures { KeyTie book.now key f.now result }
 {
-    match key {
-        Key::Value => value(book, fields::value_fields(f).ok_or(Refusal::Malformed)?),
-        _ => two(book, key, fields::two_fields(f).ok_or(Refusal::Malformed)?),
+    if key == VALUE {
+        value(book, fields::value_fields(f).ok_or(Refusal::Malformed)?)
+    } else {
+        two(book, key, fields::two_fields(f).ok_or(Refusal::Malformed)?)
     }
 }
 

@@ -229,7 +229,7 @@ fn write_name(
     requires { (length attributes.now ≡ 256) × (at + 2 ≤ length code.old) }
     ensures { NamePut attributes.now source name code.old at code.new result }
 {
-    let number = rows::attribute_number(attributes, source, name);
+    let number = rows::attribute_number(attributes, u8::from(source), name);
     let byte = match number {
         Some(k) => k as u8,
         None => UNKNOWN,

@@ -48,9 +48,9 @@ pub struct Operand {
 
 // A constant, and the position behind it.
 #[derive(Clone, Copy)]
-struct Found {
-    words: Words,
-    next: usize,
+pub struct Found {
+    pub words: Words,
+    pub next: usize,
 }
 
 fn one_word(first: u64) -> Words
@@ -463,13 +463,13 @@ pub fn compare(
         entries: &*entries,
     };
     match operator {
-        EQUAL | IN => some_found(&lent, left, right, true),
-        UNEQUAL => none_found(&lent, left, right, true),
-        SUBSET => none_found(&lent, left, right, false),
-        LESS => below(&lent, left, right, false),
-        AT_MOST => below(&lent, left, right, true),
-        GREATER => below(&lent, right, left, false),
-        AT_LEAST => below(&lent, right, left, true),
+        EQUAL..=IN => some_found(&lent, left, right, true),
+        UNEQUAL..=UNEQUAL => none_found(&lent, left, right, true),
+        SUBSET..=SUBSET => none_found(&lent, left, right, false),
+        LESS..=LESS => below(&lent, left, right, false),
+        AT_MOST..=AT_MOST => below(&lent, left, right, true),
+        GREATER..=GREATER => below(&lent, right, left, false),
+        AT_LEAST..=AT_LEAST => below(&lent, right, left, true),
         _ => Truth::Undef,
     }
 }

@@ -1,24 +1,18 @@
 -- The texts of ties: which of them are there, and where none is, so that a walk may pass over them. Assumes nothing.
 use Prim.Native.Nat.{ℕ, zero, suc, ◌+◌, ◌-◌, ◌*◌, ◌/◌, ◌%◌, ◌≤◌, ◌<◌, min}
 use mathlib.Core.Path.{◌≡◌, refl, sym, ap, subst, ◌∙◌}
-use mathlib.Core.Bool.{Bool, true, false, ◌&&◌, ◌||◌, not, or-false, or_assoc, true≢false}
+use mathlib.Core.Bool.{Bool, true, false, ◌&&◌, ◌||◌, not, or-false, or_assoc}
 use mathlib.Core.List.{List, [], ◌∷◌}
 use native.Mathlib.Decide.{dec_lt}
 use native.Mathlib.Nat.{mul-le-mul_left}
 use native.Mathlib.Omega.{arith}
-use borrow.Author.Tests.{eq-eqb, eqb-true, ne_eqb}
-use denote.Enum.Bare.{sameb}
-use denote.Enum.Declared.{tag_of}
+use borrow.Author.Tests.{ne_eqb}
 use lib.Dec.{eqb}
 use lib.ListN.{length, get_or, take, drop, length-drop}
 use lib.Seq.{length-take-le}
 use Rattle.model.specs.Notation.{if◌then◌otherwise◌, each, below}
 use Rattle.model.specs.Bytes.{Bytes}
 use Rattle.bits.specs.Bits.{bit, member}
-use Rattle.codes.specs.Enums.{key_number}
-use Rattle.codes.specs.contracts.Key.{the_type}
-use Rattle.codes.specs.declared.Key.{Key}
-use Rattle.codes.specs.declared.Key.TheVariants as key
 use Rattle.bits.specs.Lowest.{FirstFrom}
 use Rattle.bits.proofs.Bits.{bit-none}
 use Rattle.bits.proofs.Walks.{any_left, none_left}
@@ -31,28 +25,6 @@ use Rattle.writer.specs.GroupSets.{AddsGroup, AddsGroups}
 use Rattle.writer.specs.Texts.{member_text, in_mask, up_line_text, up_text, ups_text, key_of_ups, holder_ups_text, own_of}
 use Rattle.spelling.proofs.LaidTexts.{chosen, passed, EachLaid, each_start, each_next, each-end}
 use Rattle.spelling.proofs.Listing.{each_none, each_same}
-
--- ---- whether two keys are one, which the code tells by their places among the variants
-
-place : (k : Key) → tag_of the_type k + 1 ≡ key_number k
-place key.Attr = refl
-place key.Op = refl
-place key.Atom = refl
-place key.Ugroup = refl
-place key.Ogroup = refl
-place key.User = refl
-place key.Object = refl
-place key.Parent = refl
-place key.Member = refl
-place key.Value = refl
-place key.Rule = refl
-
-module _ (j k : Key) where
-  pub same-key : sameb the_type j k ≡ true → key_number j ≡ key_number k
-  same-key e = omega (arith, eqb-true (tag_of the_type j) (tag_of the_type k) e, place j, place k)
-
-  pub other-key : sameb the_type j k ≡ false → key_number j ≡ key_number k → ⊥
-  other-key f e = absurd (true≢false (sym (eq-eqb (tag_of the_type j) (tag_of the_type k) (omega (arith, e, place j, place k))) ∙ f))
 
 -- ---- ties up
 

@@ -32,10 +32,10 @@ fn put_holders(out: &mut [u8], at: usize, book: &[u64]) -> usize
     requires { at ≤ 18700 }
     ensures { Laid out.old at (holders_text book.now) out.new result × (result ≤ 51500) }
 {
-    let a = spelling::line::put_holders(out, at, book, Key::Ugroup);
-    let b = spelling::line::put_holders(out, a, book, Key::Ogroup);
-    let c = spelling::line::put_holders(out, b, book, Key::User);
-    spelling::line::put_holders(out, c, book, Key::Object)
+    let a = spelling::line::put_holders(out, at, book, Key::Ugroup as u8);
+    let b = spelling::line::put_holders(out, a, book, Key::Ogroup as u8);
+    let c = spelling::line::put_holders(out, b, book, Key::User as u8);
+    spelling::line::put_holders(out, c, book, Key::Object as u8)
 }
 
 // The lines of ties, key by key.
@@ -43,8 +43,8 @@ fn put_ties(out: &mut [u8], at: usize, book: &[u64; BOOK_WORDS]) -> usize
     requires { at ≤ 51500 }
     ensures { Laid out.old at (ties_text book.now) out.new result × (result ≤ 14731564) }
 {
-    let a = tie::put_key_ups(out, at, book, Key::Parent);
-    let b = tie::put_key_ups(out, a, book, Key::Member);
+    let a = tie::put_key_ups(out, at, book, Key::Parent as u8);
+    let b = tie::put_key_ups(out, a, book, Key::Member as u8);
     tie::put_values(out, b, book)
 }
 

@@ -41,9 +41,9 @@ fn add_groups(groups: &mut [u64], slots: &[u64], mask: u64)
     }
 }
 
-fn put_up_line(out: &mut [u8], at: usize, book: &[u64], key: Key, h: usize, g: usize) -> usize
+fn put_up_line(out: &mut [u8], at: usize, book: &[u64], key: u8, h: usize, g: usize) -> usize
     requires { (at + 64 ≤ far) × (h < 256) × (g < 256) }
-    ensures { Laid out.old at (up_line_text book.now (key_number key) h g) out.new result × (result ≤ at + 64) }
+    ensures { Laid out.old at (up_line_text book.now key h g) out.new result × (result ≤ at + 64) }
 {
     let a = spelling::field::put_key(out, at, key);
     let b = spelling::line::put_holder(out, a, book, h);
@@ -76,9 +76,9 @@ fn put_members<const SIZE: usize, F: Fn(&mut [u8], usize, usize) -> usize>(
 }
 
 // The ties of a holder up to holders with numbers below n.
-fn put_ups(out: &mut [u8], at: usize, book: &[u64], key: Key, h: usize, n: usize) -> usize
+fn put_ups(out: &mut [u8], at: usize, book: &[u64], key: u8, h: usize, n: usize) -> usize
     requires { (at + 16384 ≤ far) × (h < 256) × (n ≤ 256) × (length book.now ≡ book_words) }
-    ensures { Laid out.old at (ups_text book.now n (key_number key) h) out.new result × (result ≤ at + 16384) }
+    ensures { Laid out.old at (ups_text book.now n key h) out.new result × (result ≤ at + 16384) }
 {
     let mut groups: [u64; 4] = [0; 4];
     let mask = spelling::field::word(book, UPS_AT + h);
@@ -105,11 +105,11 @@ fn key_of_ups(book: &[u64], h: usize) -> Key
 }
 
 // The ties of a holder up, if they are of that key.
-fn put_holder_ups(out: &mut [u8], at: usize, book: &[u64], key: Key, h: usize, n: usize) -> usize
+fn put_holder_ups(out: &mut [u8], at: usize, book: &[u64], key: u8, h: usize, n: usize) -> usize
     requires { (at + 16384 ≤ far) × (h < 256) × (n ≤ 256) × (length book.now ≡ book_words) }
-    ensures { Laid out.old at (holder_ups_text book.now n (key_number key) h) out.new result × (result ≤ at + 16384) }
+    ensures { Laid out.old at (holder_ups_text book.now n key h) out.new result × (result ≤ at + 16384) }
 {
-    if key_of_ups(book, h) == key {
+    if u8::from(key_of_ups(book, h)) == key {
         put_ups(out, at, book, key, h, n)
     } else {
         at
@@ -117,9 +117,9 @@ fn put_holder_ups(out: &mut [u8], at: usize, book: &[u64], key: Key, h: usize, n
 }
 
 // The ties of all holders up that are of a key.
-pub fn put_key_ups(out: &mut [u8], at: usize, book: &[u64], key: Key) -> usize
+pub fn put_key_ups(out: &mut [u8], at: usize, book: &[u64], key: u8) -> usize
     requires { (at + 4194304 ≤ far) × (length book.now ≡ book_words) }
-    ensures { Laid out.old at (key_ups_text book.now (key_number key)) out.new result × (result ≤ at + 4194304) }
+    ensures { Laid out.old at (key_ups_text book.now key) out.new result × (result ≤ at + 4194304) }
 {
     let count = spelling::line::count(book, HOLDER_COUNT, HOLDERS);
     spelling::line::put_lines::<16384, _>(
@@ -135,7 +135,7 @@ fn put_value_line(out: &mut [u8], at: usize, book: &[u64], h: usize, p: usize) -
     ensures { Laid out.old at (value_line_text book.now h p) out.new result × (result ≤ at + 96) }
 {
     let row = spelling::line::row_of_pair(book, p);
-    let a = spelling::field::put_key(out, at, Key::Value);
+    let a = spelling::field::put_key(out, at, Key::Value as u8);
     let b = spelling::line::put_holder(out, a, book, h);
     let c = output::put_byte(out, b, b',');
     let d = spelling::field::put_name(out, c, book, row + 2);

@@ -13,7 +13,7 @@ returns-in_err-frame c =
 pub returns-in-Parent : goal.returns-in-Parent
 returns-in-Parent c =
     key-of-ties c.args.line.now c.in_ok-frame.frame (subst (FrameTold c.args.line.now) c.in_ok-frame.ensures.ok_part c.frame.ensures)
-    (λ k e. tie-key k e c.in-Parent.is) c.of_fields.ensures
+    (λ k e. tie-key k e c.in-Parent.is) (rw c.from.ensures at c.of_fields.ensures)
 
 pub returns-in_default : goal.returns-in_default
 returns-in_default c =

@@ -19,7 +19,7 @@ loop-left-preserved c =
       omega (arith, c.read.auto, c.loop-left.invariant.0),
       omega (arith, c.read.auto, c.loop-left.invariant.1),
       omega (arith, c.loop-left.invariant.2, c.first_line-end.ensures.shorter more),
-      λ held. onward-next (c.loop-left.invariant.3 held) c.first_line-end.ensures more c.in-Ok.ensures refl,
+      λ held. rw c.from-previous.ensures (onward-next (c.loop-left.invariant.3 held) c.first_line-end.ensures more c.in-Ok.ensures refl),
     )
 
 pub returns : goal.returns

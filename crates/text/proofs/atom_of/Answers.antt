@@ -9,7 +9,6 @@ use Rattle.std.proofs.Common.{Some, None}
 use Rattle.model.specs.Bytes.{Bytes}
 use Rattle.model.specs.Atoms.{str, read_int, read_str, read_bool, read_atom}
 use Rattle.codes.specs.Enums.{told_by}
-use Rattle.codes.specs.declared.AtomType.TheVariants.{Int, Bool as BoolType}
 use Rattle.text.specs.Values.{words, value, truth_bit, atom_value}
 use Rattle.text.specs.Parts.{inside}
 use Rattle.text.proofs.Told.{told-none, told-some}
@@ -17,7 +16,7 @@ use Rattle.text.proofs.Values.{inside-length}
 use Rattle.text.proofs.atom_of.Goals as goal
 
 module _ (s : Bytes) where
-  number-read : (n : ℕ) → read_int s ≡ math.some n → told_by atom_value (read_atom s) ≡ Some (value Int (words n 0 0))
+  number-read : (n : ℕ) → read_int s ≡ math.some n → told_by atom_value (read_atom s) ≡ Some (value 1 (words n 0 0))
   unfolding read_atom
   number-read n e = rw e
 
@@ -25,7 +24,7 @@ module _ (s : Bytes) where
   unfolding read_atom
   text-read t e f = rw (e, f)
 
-  truth-read : (b : Bool) → read_int s ≡ math.none → read_str s ≡ math.none → read_bool s ≡ math.some b → told_by atom_value (read_atom s) ≡ Some (value BoolType (words (truth_bit b) 0 0))
+  truth-read : (b : Bool) → read_int s ≡ math.none → read_str s ≡ math.none → read_bool s ≡ math.some b → told_by atom_value (read_atom s) ≡ Some (value 3 (words (truth_bit b) 0 0))
   unfolding read_atom
   truth-read b e f g = rw (e, f, g)
 
@@ -40,7 +39,7 @@ bit false = refl
 
 pub returns-in-Some : goal.returns-in-Some
 returns-in-Some c =
-    ap Some (c.single.ensures ∙ ap (λ (n : ℕ). value Int (words n 0 0)) c.from.ensures)
+    ap Some (c.single.ensures ∙ ap (λ (n : ℕ). value 1 (words n 0 0)) c.from.ensures)
     ∙ sym (number-read c.args.s.now c.in-Some.n (told-some (read_int c.args.s.now) c.in-Some.n c.in-Some.ensures))
 
 pub words_of-requires : goal.words_of-requires
@@ -58,5 +57,5 @@ returns-in_err-bool_of c =
 
 pub returns : goal.returns
 returns c =
-    ap Some (c.single-2.ensures ∙ ap (λ (n : ℕ). value BoolType (words n 0 0)) (c.from-2.ensures ∙ bit c.in_ok-bool_of.field-0))
+    ap Some (c.single-2.ensures ∙ ap (λ (n : ℕ). value 3 (words n 0 0)) (c.from-2.ensures ∙ bit c.in_ok-bool_of.field-0))
     ∙ sym (truth-read c.args.s.now c.in_ok-bool_of.field-0 (told-none (read_int c.args.s.now) c.in_default.ensures) (c.is_str.ensures.other c.if-is_str.false) (told-some (read_bool c.args.s.now) c.in_ok-bool_of.field-0 c.in_ok-bool_of.ensures))

@@ -18,10 +18,10 @@ returns-in_err-group c =
 pub returns-then-ne : goal.returns-then-ne
 returns-then-ne c = two-wrong _ _ _ _ c.in_ok-lower.ensures.number c.in_ok-group.ensures.number c.above.ensures (other-option _ _ c.if-ne.ensures)
 
-pub returns-in-Parent : goal.returns-in-Parent
-returns-in-Parent c =
-    two-right _ _ _ _ c.in_ok-lower.ensures.number c.in_ok-group.ensures.number c.above.ensures _ (λ above tie kind. is-parent kind c.in-Parent.is _ _) (same-option _ _ c.if-ne.ensures)
+pub returns-then-key-eq-PARENT : goal.returns-then-key-eq-PARENT
+returns-then-key-eq-PARENT c =
+    two-right _ _ _ _ c.in_ok-lower.ensures.number c.in_ok-group.ensures.number c.above.ensures _ (λ above tie kind. is-parent kind c.if-key-eq-PARENT.true _ _) (same-option _ _ c.if-ne.ensures)
 
-pub returns-in_default : goal.returns-in_default
-returns-in_default c =
-    two-right _ _ _ _ c.in_ok-lower.ensures.number c.in_ok-group.ensures.number c.above.ensures _ (λ above tie kind. is-member kind c.in_default.not-Parent _ _) (same-option _ _ c.if-ne.ensures)
+pub returns-else-key-eq-PARENT : goal.returns-else-key-eq-PARENT
+returns-else-key-eq-PARENT c =
+    two-right _ _ _ _ c.in_ok-lower.ensures.number c.in_ok-group.ensures.number c.above.ensures _ (λ above tie kind. is-member kind c.if-key-eq-PARENT.false _ _) (same-option _ _ c.if-ne.ensures)

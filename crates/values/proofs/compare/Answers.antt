@@ -32,6 +32,6 @@ pub returns-in-23 : goal.returns-in-23
 returns-in-23 c =
     by-at-least (lent c.args.code.now c.args.pairs.now c.args.session.now c.args.entries.now) c.args.operator c.args.left c.args.right c.if-left-right.false c.below-in-23.result c.in-23.is c.below-in-23.ensures
 
-pub returns-in-16 : goal.returns-in-16
-returns-in-16 c =
+pub returns-in-16-to-17 : goal.returns-in-16-to-17
+returns-in-16-to-17 c =
     by-equality (lent c.args.code.now c.args.pairs.now c.args.session.now c.args.entries.now) c.args.operator c.args.left c.args.right c.if-left-right.false c.some_found.result (omega arith) (omega arith) c.some_found.ensures

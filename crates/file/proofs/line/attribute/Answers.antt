@@ -16,4 +16,4 @@ returns-in_err-a c code =
 pub returns : goal.returns
 returns c =
     let read : c.attr_fields.result ≡ Some c.in_ok-a.a = grind arith in
-    attr-read c.args.f.now c.in_ok-a.a (rw read at c.attr_fields.ensures) c.attribute.ensures.1
+    attr-read c.args.f.now c.in_ok-a.a (rw read at c.attr_fields.ensures) (rw (c.from.ensures, c.from-2.ensures) at c.attribute.ensures.1)

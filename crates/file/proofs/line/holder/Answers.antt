@@ -15,4 +15,4 @@ returns-in_err-name c =
 pub returns : goal.returns
 returns c =
     let read : c.name_field.result ≡ Some c.in_ok-name.name = grind arith in
-    holder-read c.args.f.now c.args.key (rw read at c.name_field.ensures) c.holder.ensures.1
+    holder-read c.args.f.now c.args.key (rw read at c.name_field.ensures) (rw c.from.ensures at c.holder.ensures.1)

@@ -16,4 +16,4 @@ returns-in_err-p c code =
 pub returns : goal.returns
 returns c =
     let read : c.pair_fields.result ≡ Some c.in_ok-p.p = grind arith in
-    pair_read c.args.f.now c.in_ok-p.p (rw read at c.pair_fields.ensures) c.pair.ensures.1
+    pair_read c.args.f.now c.in_ok-p.p (rw read at c.pair_fields.ensures) (rw c.from.ensures at c.pair.ensures.1)
