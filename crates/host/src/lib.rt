@@ -3,7 +3,7 @@
 
 ghost use Rattle.std.specs.Prelude.{◌≡◌, ◌/◌, ◌%◌, ◌≤◌, length};
 ghost use Rattle.model.specs.Host.{host_call, host_table};
-ghost use Rattle.request.specs.Decisions.{decision_of, number_and_values_of};
+ghost use Rattle.request.specs.Decisions.{decision_of, number_and_values_of, Listed};
 ghost use Rattle.book.specs.Calls.{Loads};
 ghost use Rattle.edit.specs.EditSteps.{EditCall};
 ghost use Rattle.writer.specs.WriteCalls.{WriteCall, LengthCall};
@@ -102,7 +102,7 @@ pub extern "C" fn zhul_decide(
     rules: &[u8; RULE_BYTES],
     table: &[u64],
 ) -> u64
-    ensures { RequestNumber block.now book.now rules.now table.now result }
+    ensures { (n : RequestNumber block.now book.now rules.now table.now result) × Listed n.decision }
 {
     let d = request::decide(block, book, rules, table);
     pack(number_of(d), rule_of(d) + 256 * cause_of(d))

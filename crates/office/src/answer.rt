@@ -2,6 +2,7 @@
 ghost use Rattle.std.specs.Prelude.{◌+◌, ◌*◌, ◌≤◌, [], length};
 ghost use Rattle.model.specs.Limits.{input_bytes};
 ghost use Rattle.output.specs.Laid.{far};
+ghost use Rattle.request.specs.Decisions.{Listed};
 ghost use Rattle.printing.specs.Printing.{answer_bytes};
 ghost use Rattle.office.specs.Answers.{lent, memory, SameReferences, EditAnswered, RequestAnswered, CommandAnswered, Answered};
 
@@ -37,7 +38,7 @@ pub fn answer_request(
     at: usize,
 ) -> usize
     requires { at + answer_bytes ≤ far }
-    ensures { RequestAnswered block.now (memory book.now rules.now table.now) out.old at out.new result }
+    ensures { (a : RequestAnswered block.now (memory book.now rules.now table.now) out.old at out.new result) × Listed a.decision }
 {
     let decision = request::decide(block, book, rules, table);
     printing::put_decision(out, at, decision)
@@ -64,7 +65,7 @@ impl Memory<'_> {
 
     pub fn answer_request(&self, block: &[u8], out: &mut [u8], at: usize) -> usize
         requires { at + answer_bytes ≤ far }
-        ensures { RequestAnswered block.now (lent self.now) out.old at out.new result }
+        ensures { (a : RequestAnswered block.now (lent self.now) out.old at out.new result) × Listed a.decision }
     {
         answer_request(block, self.book, self.rules, self.table, out, at)
     }

@@ -11,6 +11,8 @@ use Rattle.model.specs.Refusals.{not_held}
 use Rattle.model.specs.Standing.{Standing}
 use Rattle.model.specs.Causes as causes
 use Rattle.model.specs.Decision as model
+use Rattle.codes.specs.declared.Refusal.{Refusal}
+use Rattle.codes.specs.Enums.{refusal_number}
 use Rattle.book.specs.Held.{Holds}
 use Rattle.request.specs.declared.Decision.{Decision}
 use Rattle.request.specs.declared.Decision.TheVariants.{Permit, Deny, Undefined, Refused}
@@ -32,6 +34,13 @@ decision_of (Refused n) = model.refused n
 -- this paper's number for each case, and the values that it carries
 abbrev pub number_and_values_of : Decision → ℕ × List ℕ
 number_and_values_of r = model.number_and_values (decision_of r)
+
+-- "Numbers a caller may meet": a refusal has one of them, also on a book that stands for no state
+abbrev pub Listed : Decision → Type 0
+Listed (Permit rule) = Unit
+Listed Deny = Unit
+Listed (Undefined c) = Unit
+Listed (Refused n) = (r : Refusal) × (n ≡ refusal_number r)
 
 -- r is what the rules come to, whatever state and block they are those of
 abbrev pub Decided : List ℕ → Bytes → List ℕ → List ℕ → Bytes → ℕ → ℕ → Decision → Type 0

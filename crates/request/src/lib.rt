@@ -5,7 +5,7 @@ ghost use Rattle.std.specs.Prelude.{◌≡◌, ℕ, ◌+◌, ◌*◌, ◌≤◌,
 ghost use Rattle.model.specs.Block.{is_block};
 ghost use Rattle.book.specs.Sections.{book_words};
 ghost use Rattle.request.specs.Requests.{EntryFits, EntriesFit, WrongNumber, RuleTold};
-ghost use Rattle.request.specs.Decisions.{Decided, Answered, Decides};
+ghost use Rattle.request.specs.Decisions.{Listed, Decided, Answered, Decides};
 
 use book::{
     ATTRIBUTE_COUNT, ATTRIBUTES_AT, BOOK_WORDS, CODE_BYTES, OPERATION_COUNT, PAIR_ROWS_AT, ROWS_AT,
@@ -136,7 +136,7 @@ impl Request<'_> {
     // "Permit, with the lowest TRUE rule number; else undefined if some is UNDEF; else deny." Undefined is absent "if one of its UNDEF rules is".
     fn decided(&self, session: &[u64; 128], count: usize) -> Decision
         requires { count ≤ 32 }
-        ensures { Decided self.now.targets.now self.now.code.now self.now.pairs.now session.now self.now.entries.now (get_or self.now.block.now 3 0) count result }
+        ensures { Listed result × Decided self.now.targets.now self.now.code.now self.now.pairs.now session.now self.now.entries.now (get_or self.now.block.now 3 0) count result }
     {
         let mut undefined = false;
         let mut absent = false;
@@ -159,7 +159,7 @@ impl Request<'_> {
 
     // A request with no wrong number: 17, or what its rules come to on the session that is opened for it, of the declared attributes.
     fn answered(&self) -> Decision
-        ensures { Answered self.now.counts.now self.now.targets.now self.now.code.now self.now.attributes.now self.now.pairs.now self.now.table.now self.now.block.now self.now.entries.now result }
+        ensures { Listed result × Answered self.now.counts.now self.now.targets.now self.now.code.now self.now.attributes.now self.now.pairs.now self.now.table.now self.now.block.now self.now.entries.now result }
     {
         let activation = Activation {
             attributes: self.attributes,
@@ -184,7 +184,8 @@ pub fn decide(
     rules: &[u8; RULE_BYTES],
     table: &[u64],
 ) -> Decision
-    ensures { Decides block.now book.now rules.now table.now result }
+    ensures decides { Decides block.now book.now rules.now table.now result }
+    ensures listed { Listed result }
 {
     if table.len() != TABLE_WORDS {
         return Decision::Refused(Refusal::WrongTable as u8);

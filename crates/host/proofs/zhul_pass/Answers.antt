@@ -7,7 +7,7 @@ use Rattle.host.proofs.zhul_pass.Goals as goal
 
 pub returns-in-Ok : goal.returns-in-Ok
 returns-in-Ok c = (
-  c.number_of.ensures ∙ pass-decided c.args.file.now c.args.block.now c.args.table.now _ _ _ 0 c.in-Ok.field-0 c.in-Ok.ensures refl c.decide.result c.decide.ensures,
+  c.number_of.ensures ∙ pass-decided c.args.file.now c.args.block.now c.args.table.now _ _ _ 0 c.in-Ok.field-0 c.in-Ok.ensures refl c.decide.result c.decide.ensures.decides,
   pass-table c.args.file.now c.args.block.now c.args.table.now _ _ _ 0 c.in-Ok.field-0 c.in-Ok.ensures,
 )
 

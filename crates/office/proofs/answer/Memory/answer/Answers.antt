@@ -16,7 +16,7 @@ returns-in-Some-Edit c = record {
 
 pub returns-in-Some-Request : goal.returns-in-Some-Request
 returns-in-Some-Request c = record {
-  answered = request-answered _ _ (lent c.args.self.now) _ _ _ _ (rw c.in-Some-Request.field-0-is at c.in-Some-Request.ensures) c.answer_request.ensures;
+  answered = request-answered _ _ (lent c.args.self.now) _ _ _ _ (rw c.in-Some-Request.field-0-is at c.in-Some-Request.ensures) c.answer_request.ensures.0;
   same_references = (refl, refl, refl);
 }
 
